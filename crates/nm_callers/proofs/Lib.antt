@@ -31,6 +31,7 @@ pub mod Mapped
 pub mod KeptAfterPut
 pub mod OneMap
 pub mod Returned
+pub mod NotBack
 pub mod ArenaResets
 pub mod ArenaReads
 pub mod MappedMembers

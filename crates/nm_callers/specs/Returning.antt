@@ -1,8 +1,13 @@
--- Values that have come back.
-use Rattle.std.specs.Prelude.{ℕ}
+-- Values that have come back, and a value that has not.
+use Rattle.std.specs.Prelude.{◌≢◌, ℕ, List, Contains, Some}
 use Rattle.nm_edge.specs.declared.node.NodeId.{NodeId}
+use Rattle.nm_model.specs.Headline.{freed_by}
+use Rattle.nm_steps.specs.declared.view.Stored.{Stored}
 use Rattle.nm_steps.specs.declared.view.View.{View}
+use Rattle.nm_calls.specs.GotValues.{got_leaf}
 use Rattle.nm_calls.specs.HandedBack.{WasCutWith}
+use Rattle.nm_calls.specs.Maps.{WasMappedUnderPin}
+use Rattle.nm_calls.specs.OnceBack.{ComesBack, IsStoreOf}
 use Rattle.nm_tree.specs.Running.{IsFreedInGrace}
 
 -- a leaf with this value was cut off, and is freed. Each worker that was pinned at the cut has unpinned
@@ -11,3 +16,14 @@ pub record HasComeBack (v : View) (value : ℕ) : Type 0 where
   pub node : NodeId
   pub cut : WasCutWith v.layout v.past v.stores node value
   pub freed : IsFreedInGrace v node
+
+-- a reader got the value under the key at a moment of the pin that it still has. In all that it has
+-- seen, the leaf that had the value is not freed, and no value that was stored for this leaf has come
+-- back. Another worker, whom the reader has heard, got these values back, each of another leaf
+pub record HasNotComeBack (reader : View) (k v : ℕ) (other : View) (back : List ℕ) : Type 0 where
+  pub stores : List Stored
+  pub got : WasMappedUnderPin reader.layout reader.past stores reader.number k (Some v)
+  pub kept : Contains (freed_by reader.past) (got_leaf got) → ⊥
+  pub out : (x : Stored) → IsStoreOf reader.layout reader.past x (got_leaf got)
+      → ComesBack reader.layout reader.past x → ⊥
+  pub others : (u : ℕ) → Contains back u → (c : HasComeBack other u) × (c.node ≢ got_leaf got)

@@ -1,11 +1,13 @@
 //! A worker of a tree with values that takes back the values of removed keys, proved from the clauses of
 //! `nm_tree` and the page alone.
-ghost use Rattle.std.specs.Prelude.{ℕ, ◌≤◌, length, take, Contains};
+ghost use Rattle.std.specs.Prelude.{ℕ, ◌≡◌, ◌≤◌, length, take, Contains, IfSome, IsSome, Ok, Some};
 ghost use Rattle.nm_steps.specs.Steps.{IsOf};
 ghost use Rattle.nm_steps.specs.Values.{HasValues};
-ghost use Rattle.nm_callers.specs.Returning.{HasComeBack};
+ghost use Rattle.nm_callers.specs.Returning.{HasComeBack, HasNotComeBack};
 
-use nm_tree::{Tree, Worker};
+use crate::trees::tell_worker;
+use nm_edge::Key;
+use nm_tree::{CallFault, Tree, Worker};
 
 /// Frees nodes, and writes the values that come back to `out`; returns how many there are. Proved, about
 /// each of them: a leaf was cut off that had this value, and the leaf is freed. Each worker that was
@@ -14,8 +16,61 @@ use nm_tree::{Tree, Worker};
 pub fn take_back(tree: &Tree, worker: &mut Worker, out: &mut [u64]) -> usize
     requires own { IsOf tree.now worker.old.pass }
     requires values { HasValues tree.now }
+    ensures own { IsOf tree.now worker.new.pass }
     ensures back { (v : ℕ) → Contains (take result out.new) v → HasComeBack worker.new.pass.view v }
     ensures few { result ≤ length out.new }
 {
     tree.collect_values(worker, out).values
+}
+
+/// A value that a worker got under its pin, and how many values came back to another worker.
+#[derive(Clone, Copy, Debug)]
+pub struct GotBeside {
+    /// The value; `None` if the map did not have the key, or the call returned an error.
+    pub found: Option<u64>,
+    /// The number of values that came back.
+    pub back: usize,
+}
+
+/// Returns the value that was found, if there is one.
+fn found_value(found: Result<Option<u64>, CallFault>) -> Option<u64>
+    ensures { IfSome result (λ v. found ≡ Ok (Some v)) }
+{
+    match found {
+        Ok(Some(value)) => Some(value),
+        Ok(None) => None,
+        Err(_) => None,
+    }
+}
+
+/// Gets the value of a key by a worker that its caller has pinned. Meanwhile another worker takes back
+/// the values of removed keys, and the reader hears of it under the same pin. Proved, if the reader got
+/// a value: the leaf that had it is not freed, and the value that was stored for this leaf has not come
+/// back. Each value that came back is of another leaf, and its object may be reset while the reader
+/// reads the object of its own value.
+pub fn get_while_collected(
+    tree: &Tree,
+    reader: &mut Worker,
+    other: &mut Worker,
+    key: Key,
+    out: &mut [u64],
+) -> GotBeside
+    requires reader { IsOf tree.now reader.old.pass }
+    requires other { IsOf tree.now other.old.pass }
+    requires values { HasValues tree.now }
+    requires pinned { IsSome reader.old.held }
+    ensures pinned { IsSome reader.new.held }
+    ensures kept { IfSome result.found (λ v. HasNotComeBack reader.new.pass.view key v
+        other.new.pass.view (take result.back out.new)) }
+    ensures few { result.back ≤ length out.new }
+{
+    let found = tree.get_pinned(reader, key);
+    reader.know_run();
+    let back = take_back(tree, other, out);
+    tell_worker(tree, other, reader);
+    reader.know_run();
+    GotBeside {
+        found: found_value(found),
+        back,
+    }
 }

@@ -1,19 +1,24 @@
 -- A set that is closed, or left open, by what its tree has told.
-use Rattle.std.proofs.Common.{◌≡◌, ◌∙◌, ◌+◌, ◌≤◌, ℕ, false, true, inr, List, [], ◌∷◌, ◌++◌, append-nil, length, length-append, refl, sym, ap, subst, arith}
+use Rattle.std.proofs.Common.{◌≡◌, ◌∙◌, ◌+◌, ◌≤◌, ℕ, false, true, inr, List, [], ◌∷◌, ◌++◌, append-nil, length, length-append, map, refl, sym, ap, subst, arith}
 use Rattle.std.specs.Prelude.{Result, Ok, Err, IfOk, IfErr}
 use Rattle.nm_edge.specs.declared.placement.Fit.{Fit}
 use Rattle.nm_steps.specs.Steps.{TreeView}
+use Rattle.nm_steps.specs.Values.{HasValues}
 use Rattle.nm_tree.specs.declared.closing.CloseReason.{CloseReason}
 use Rattle.nm_tree.specs.declared.closing.CloseReason.TheVariants as because
+use Rattle.nm_tree.specs.declared.closing.Ended.{Ended}
 use Rattle.nm_tree.specs.declared.closing.Report.{Report}
+use Rattle.nm_tree.specs.declared.map_closing.MapReport.{MapReport}
 use Rattle.nm_tree.specs.Closing.{AreAllOf, IsClosed, IsCloseReason}
+use Rattle.nm_tree.specs.MapReports.{EndsMap, value_in}
 use Rattle.nm_tree.specs.Workers.{WorkerView}
+use Rattle.nm_tree.proofs.ClosedMaps.{map_said}
 use Rattle.nm_set.specs.declared.home.Site.{Site}
 use Rattle.nm_set.specs.declared.set.CloseError.{CloseError}
 use Rattle.nm_set.specs.declared.set.State.{State}
 use Rattle.nm_set.specs.declared.set.State.TheVariants.{Open, Closing}
 use Rattle.nm_set.specs.Seats.{AreOwn, BeginsWith, IsOwn, MemberView, SetView}
-use Rattle.nm_set.specs.Ends.{EndsSet, HasGathered, IsLeftOpen, SaysEnded, set_of}
+use Rattle.nm_set.specs.Ends.{EndsMapSet, EndsSet, HasGathered, IsLeftOpen, SaysEnded, SaysMapEnded, set_of}
 use Rattle.nm_set.specs.States.{MayGather, closing_set, open_set, room_for_one, site_of, standing_of}
 
 -- ---- workers of a tree
@@ -55,6 +60,18 @@ ended s site all g r closed =
     let C : List WorkerView → Type 0 = λ ws. IsClosed site.tree ws r.queues.items r.keys.items r.free r.reached in
     let D : TreeView → Type 0 = λ b. IsClosed b (s.kept ++ g.home) r.queues.items r.keys.items r.free r.reached in
     record { home = g.home; own = subst B (sym g.tree) (subst O g.are g.own); none = g.none; closed = subst D (sym g.tree) (subst C g.are closed) }
+
+-- the same of a map
+pub map_ended : (s : SetView) (site : Site) (all : List WorkerView) → Gathers s site all → (e : Ended)
+    → EndsMap site.tree all e.report.queues.items e.report.keys.items e.leaves.items e.words.values e.nodes e.report.free e.report.reached → EndsMapSet s e
+map_ended s site all g e ends =
+    let C : List WorkerView → Type 0 = λ ws. EndsMap site.tree ws e.report.queues.items e.report.keys.items e.leaves.items e.words.values e.nodes e.report.free e.report.reached in
+    let D : TreeView → Type 0 = λ b. EndsMap b (s.kept ++ g.home) e.report.queues.items e.report.keys.items e.leaves.items e.words.values e.nodes e.report.free e.report.reached in
+    record { home = g.home; none = g.none; ends = subst D (sym g.tree) (subst C g.are ends) }
+
+-- the report of a map
+pub map_said_ended : (s : SetView) (e : Ended) (r : MapReport) → r.report ≡ e.report → r.values.keyed ≡ map (value_in e.words.values) e.leaves.items → r.values.slots ≡ e.words.values → EndsMapSet s e → SaysMapEnded s r
+map_said_ended s e r report keyed slots ends = record { home = ends.home; none = ends.none; says = map_said s.tree (s.kept ++ ends.home) e r report keyed slots ends.ends }
 
 pub says_ended : (s : SetView) (r : Report) → EndsSet s r → SaysEnded s r
 says_ended s r e = record { home = e.home; none = e.none; says = e.closed.says }
@@ -133,9 +150,15 @@ if_err P Q R (Ok x) p q f = tt
 if_err P Q R (Err e) p q f = f e p q
 
 -- a close that has such workers
-module _ (s : SetView) (site : Site) (all : List WorkerView) (g : Gathers s site all) (told : Result Report CloseError) where
-  pub closes : IfOk told (λ r. IsClosed site.tree all r.queues.items r.keys.items r.free r.reached) → IfOk told (EndsSet s)
-  closes closed = if_ok (λ (r : Report). IsClosed site.tree all r.queues.items r.keys.items r.free r.reached) (EndsSet s) told closed (ended s site all g)
+module _ (s : SetView) (site : Site) (all : List WorkerView) (g : Gathers s site all) (told : Result Ended CloseError) where
+  pub closes : IfOk told (λ r. IsClosed site.tree all r.report.queues.items r.report.keys.items r.report.free r.report.reached) → IfOk told (λ r. EndsSet s r.report)
+  closes closed =
+      if_ok (λ (r : Ended). IsClosed site.tree all r.report.queues.items r.report.keys.items r.report.free r.report.reached) (λ (r : Ended). EndsSet s r.report) told closed (λ r is. ended s site all g r.report is)
+
+  -- with the values of a map
+  pub hands_out : (HasValues site.tree → IfOk told (λ r. EndsMap site.tree all r.report.queues.items r.report.keys.items r.leaves.items r.words.values r.nodes r.report.free r.report.reached)) → HasValues s.tree → IfOk told (EndsMapSet s)
+  hands_out values has =
+      if_ok (λ (r : Ended). EndsMap site.tree all r.report.queues.items r.report.keys.items r.leaves.items r.words.values r.nodes r.report.free r.report.reached) (EndsMapSet s) told (values (subst HasValues g.tree has)) (map_ended s site all g)
 
   pub refuses : IfErr told (λ e. e.set ≡ closing_set site all) → IfErr told (λ e. IsCloseReason site.tree all e.reason) → IfErr told (λ e. IsLeftOpen s e.reason e.set)
   refuses refused reason =

@@ -2,8 +2,11 @@
 use Rattle.std.specs.Prelude.{◌≡◌, List, [], ◌∷◌, ◌++◌, true, false, Some}
 use Rattle.nm_tree.specs.declared.closing.CloseReason.{CloseReason}
 use Rattle.nm_tree.specs.declared.closing.CloseReason.TheVariants as because
+use Rattle.nm_tree.specs.declared.closing.Ended.{Ended}
 use Rattle.nm_tree.specs.declared.closing.Report.{Report}
+use Rattle.nm_tree.specs.declared.map_closing.MapReport.{MapReport}
 use Rattle.nm_tree.specs.Closing.{IsClosed, IsCloseReason, SaysClosed}
+use Rattle.nm_tree.specs.MapReports.{EndsMap, SaysMapClosed}
 use Rattle.nm_tree.specs.Workers.{WorkerView}
 use Rattle.nm_set.specs.declared.ending.EndError.{EndError}
 use Rattle.nm_set.specs.declared.ending.EndError.TheVariants.{Attached, Gathered}
@@ -20,7 +23,22 @@ pub record SaysEnded (s : SetView) (r : Report) : Type 0 where
   pub none : s.closing ≡ true → home ≡ []
   pub says : SaysClosed s.tree (s.kept ++ home) r.queues.items r.keys.items r.free r.reached
 
--- the same, with the run that ends with the tree's words, for those who change this project
+-- what a caller learns from a closed map: the same, and its values
+pub record SaysMapEnded (s : SetView) (r : MapReport) : Type 0 where
+  pub home : List WorkerView
+  pub none : s.closing ≡ true → home ≡ []
+  pub says : SaysMapClosed s.tree (s.kept ++ home) r.report.queues.items r.report.keys.items
+      r.values.keyed r.values.slots r.report.free r.report.reached
+
+-- what the end of a map leaves, before its report is made
+pub record EndsMapSet (s : SetView) (e : Ended) : Type 0 where
+  pub home : List WorkerView
+  pub none : s.closing ≡ true → home ≡ []
+  pub ends : EndsMap s.tree (s.kept ++ home) e.report.queues.items e.report.keys.items
+      e.leaves.items e.words.values e.nodes e.report.free e.report.reached
+
+-- what a closed set accounts for, with the run that ends with the tree's words, for those who change
+-- this project
 pub record EndsSet (s : SetView) (r : Report) : Type 0 where
   pub home : List WorkerView
   pub own : AreOwn s.tree (s.kept ++ home)

@@ -1,10 +1,11 @@
 //! The end of a set by its last member.
 ghost use Rattle.std.specs.Prelude.{IfOk, IfErr};
-ghost use Rattle.nm_set.specs.Ends.{EndsMember, IsNotEnded, SaysEnded, set_of};
+ghost use Rattle.nm_steps.specs.Values.{HasValues};
+ghost use Rattle.nm_set.specs.Ends.{EndsMapSet, EndsMember, IsNotEnded, SaysEnded, set_of};
 
 use crate::member::Member;
 use crate::set::CloseError;
-use nm_tree::Report;
+use nm_tree::{Ended, Report};
 
 /// A member did not end its set. No worker is lost.
 #[derive(Drop)]
@@ -33,6 +34,29 @@ impl Member {
         ensures ended { IfOk result (EndsMember self) }
         ensures refused { IfErr result (IsNotEnded self) }
     {
+        match self.end_tree() {
+            Ok(ended) => {
+                let Ended {
+                    report,
+                    leaves: _,
+                    words: _,
+                    nodes: _,
+                } = ended;
+                Ok(report)
+            }
+            Err(error) => Err(error),
+        }
+    }
+
+    /// Ends the set, like `end`, and returns its words too, with the values of a map among them.
+    ///
+    /// Errors: those of `end`.
+    pub(crate) fn end_tree(self) -> Result<Ended, EndError>
+        ensures says { IfOk result (λ r. SaysEnded (set_of self) r.report) }
+        ensures ended { IfOk result (λ r. EndsMember self r.report) }
+        ensures values { HasValues self.tree → IfOk result (EndsMapSet (set_of self)) }
+        ensures refused { IfErr result (IsNotEnded self) }
+    {
         let (home, sealed, way_back) = self.apart();
         let gathered = match home.gather(sealed) {
             Ok(gathered) => gathered,
@@ -42,7 +66,7 @@ impl Member {
         };
         drop(way_back);
         match gathered.close() {
-            Ok(report) => Ok(report),
+            Ok(ended) => Ok(ended),
             Err(error) => Err(EndError::Gathered(error)),
         }
     }

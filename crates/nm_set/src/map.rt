@@ -2,7 +2,7 @@
 ghost use Rattle.std.specs.Prelude.{◌≡◌, ℕ, ◌≤◌, ◌↔◌, ◌++◌, ◌∷◌, [], length, true, false, IfOk, IfErr, IfSome, IsErrOf, OnOk, OnErr};
 ghost use Rattle.nm_edge.specs.Layouts.{IsLayoutFault, in_radix, spaced};
 ghost use Rattle.nm_steps.specs.Values.{HasValues};
-ghost use Rattle.nm_set.specs.Ends.{EndsMember, EndsSet, IsLeftOpen, KeepsReturned, SaysEnded, set_of};
+ghost use Rattle.nm_set.specs.Ends.{EndsMember, EndsSet, IsLeftOpen, KeepsReturned, SaysMapEnded, set_of};
 ghost use Rattle.nm_set.specs.Maps.{IsMapNotEnded, IsNotKeptByMap};
 ghost use Rattle.nm_set.specs.Seats.{AreNewMembers, IsAnyResident, IsNewMember, IsResident, TellsAttached};
 ghost use Rattle.nm_set.specs.States.{IsNewSet};
@@ -15,7 +15,7 @@ use crate::member::Member;
 use crate::opening::give_out;
 use crate::set::{CloseError, KeepError, KeepReturnedError, Set, settle};
 use nm_edge::{Layout, LayoutError, MOST_SPACED_NODES};
-use nm_tree::{CloseReason, Fit, NewError, Report, Tree};
+use nm_tree::{CloseReason, Fit, MapReport, NewError, Tree};
 use std::alloc::Global;
 use std::marker::Model;
 
@@ -219,19 +219,19 @@ impl Map {
     }
 
     /// Ends the map when all its members are closed or kept, and returns the report, like
-    /// `Set::close`. The values that have not come back are lost: those of the keys in the report,
-    /// and those of the leaves that wait in its queues.
+    /// `Set::close`, with the values that have not come back: the one under each key of the report,
+    /// and those of the leaves that wait in its queues. So each inserted value has come back once.
     ///
     /// Errors: `Attached`: a member is neither closed nor kept; the map is unchanged. `NotAll`,
     /// `NoMemory`: see `CloseReason`; the map keeps all workers that it has gathered, and `close`
     /// can be called again.
-    pub fn close(self) -> Result<Report, MapCloseError>
-        ensures says { IfOk result (SaysEnded self) }
-        ensures closed { IfOk result (EndsSet self) }
+    pub fn close(self) -> Result<MapReport, MapCloseError>
+        ensures says { IfOk result (SaysMapEnded self) }
+        ensures closed { IfOk result (λ r. EndsSet self r.report) }
         ensures refused { IfErr result (λ e. IsLeftOpen self e.reason e.map) }
     {
-        match self.into_set().close() {
-            Ok(report) => Ok(report),
+        match self.into_set().end() {
+            Ok(ended) => Ok(ended.into_map_report()),
             Err(error) => Err(left_open(error)),
         }
     }
@@ -248,18 +248,18 @@ impl Map {
 
 impl MapMember {
     /// Ends the map by its last member, like `Member::end`, after the `Map` was dropped and all
-    /// other members were closed. Values that have not come back are lost, as by `Map::close`.
+    /// other members were closed. It returns the values that have not come back, like `Map::close`.
     ///
     /// Errors: `Attached`: the member is unchanged; if two members call this at the same moment,
     /// both may get it. `Gathered`: see `MapEndError`; also if the `Map` kept workers (`Map::keep`)
     /// when it was dropped, because the tree then lacks some of its workers.
-    pub fn end(self) -> Result<Report, MapEndError>
-        ensures says { IfOk result (SaysEnded (set_of self)) }
-        ensures ended { IfOk result (EndsMember self) }
+    pub fn end(self) -> Result<MapReport, MapEndError>
+        ensures says { IfOk result (SaysMapEnded (set_of self)) }
+        ensures ended { IfOk result (λ r. EndsMember self r.report) }
         ensures refused { IfErr result (IsMapNotEnded self) }
     {
-        match self.into_member().end() {
-            Ok(report) => Ok(report),
+        match self.into_member().end_tree() {
+            Ok(ended) => Ok(ended.into_map_report()),
             Err(EndError::Attached(member)) => Err(MapEndError::Attached(MapMember::of(member))),
             Err(EndError::Gathered(error)) => Err(MapEndError::Gathered(left_open(error))),
         }

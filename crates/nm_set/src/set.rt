@@ -3,10 +3,12 @@
 ghost use Rattle.std.specs.Prelude.{◌≡◌, ℕ, length, ◌≤◌, ◌↔◌, ◌++◌, ◌∷◌, [], true, false, IfOk, IfErr, IsErrOf, OnOk, OnErr, vec_capacity};
 ghost use Rattle.std.specs.Arc.{arc_value};
 ghost use Rattle.nm_edge.specs.Layouts.{IsLayoutFault, in_radix, spaced};
+ghost use Rattle.nm_steps.specs.Values.{HasValues};
 ghost use Rattle.nm_tree.specs.Closing.{IsClosed, IsCloseReason};
+ghost use Rattle.nm_tree.specs.MapReports.{EndsMap};
 ghost use Rattle.nm_tree.specs.Workers.{AreNew, HaveFit};
 ghost use Rattle.nm_set.specs.Seats.{AreOwn, HasRoom, IsNewMember, IsResident, IsAnyResident, TellsAttached, site_in};
-ghost use Rattle.nm_set.specs.Ends.{EndsSet, IsLeftOpen, IsNotKept, KeepsReturned, SaysEnded};
+ghost use Rattle.nm_set.specs.Ends.{EndsMapSet, EndsSet, IsLeftOpen, IsNotKept, KeepsReturned, SaysEnded};
 ghost use Rattle.nm_set.specs.States.{IsNewSet, open_set, closing_set, room_for_one};
 
 use crate::attach::take_any;
@@ -15,7 +17,7 @@ use crate::home::{Absence, Home, Site};
 use crate::member::Member;
 use crate::returning::ReturnedWorker;
 use nm_edge::{Layout, LayoutError, MOST_SPACED_NODES};
-use nm_tree::{CloseReason, Fit, NewError, Report, Tree, Worker};
+use nm_tree::{CloseReason, Ended, Fit, NewError, Report, Tree, Worker};
 use std::alloc::Global;
 use std::marker::Model;
 use std::sync::Arc;
@@ -163,8 +165,9 @@ impl Set {
     }
 
     /// Gives out any worker that is not attached, with all that it held when it was returned. The
-    /// caller has not pinned it. If it was never returned, it has done nothing yet. It looks at each seat once, in the order of their numbers, and
-    /// takes the first worker that it finds (tested: which one that is).
+    /// caller has not pinned it. If it was never returned, it has done nothing yet. It looks at each
+    /// seat once, in the order of their numbers, and takes the first worker that it finds (tested:
+    /// which one that is).
     ///
     /// Errors: `NoWorker`: each seat was empty when it was looked at, one after the other. That no
     /// worker was free at one moment is not said: one may have been returned to a seat after the
@@ -267,6 +270,29 @@ impl Set {
         ensures closed { IfOk result (EndsSet self) }
         ensures refused { IfErr result (λ e. IsLeftOpen self e.reason e.set) }
     {
+        match self.end() {
+            Ok(ended) => {
+                let Ended {
+                    report,
+                    leaves: _,
+                    words: _,
+                    nodes: _,
+                } = ended;
+                Ok(report)
+            }
+            Err(error) => Err(error),
+        }
+    }
+
+    /// Ends the set, like `close`, and returns its words too, with the values of a map among them.
+    ///
+    /// Errors: those of `close`.
+    pub(crate) fn end(self) -> Result<Ended, CloseError>
+        ensures says { IfOk result (λ r. SaysEnded self r.report) }
+        ensures closed { IfOk result (λ r. EndsSet self r.report) }
+        ensures values { HasValues self.tree → IfOk result (EndsMapSet self) }
+        ensures refused { IfErr result (λ e. IsLeftOpen self e.reason e.set) }
+    {
         let Set { state, kept } = self;
         match state {
             State::Closing(site) => end(site, kept),
@@ -330,16 +356,19 @@ fn left_open(home: Arc<Home, Global>, kept: Vec<Worker>) -> CloseError
 }
 
 /// Closes a tree whose workers were gathered.
-pub(crate) fn end(site: Site, workers: Vec<Worker>) -> Result<Report, CloseError>
+pub(crate) fn end(site: Site, workers: Vec<Worker>) -> Result<Ended, CloseError>
     requires own { AreOwn site.tree workers.items }
-    ensures closed { IfOk result
-        (λ r. IsClosed site.tree workers.items r.queues.items r.keys.items r.free r.reached) }
+    ensures closed { IfOk result (λ r. IsClosed site.tree workers.items r.report.queues.items
+        r.report.keys.items r.report.free r.report.reached) }
+    ensures values { HasValues site.tree → IfOk result (λ r. EndsMap site.tree workers.items
+        r.report.queues.items r.report.keys.items r.leaves.items r.words.values r.nodes r.report.free
+        r.report.reached) }
     ensures refused { IfErr result (λ e. e.set ≡ closing_set site workers.items) }
     ensures reason { IfErr result (λ e. IsCloseReason site.tree workers.items e.reason) }
 {
     let Site { tree, fit } = site;
-    match tree.close(workers) {
-        Ok(report) => Ok(report),
+    match tree.end(workers) {
+        Ok(ended) => Ok(ended),
         Err(error) => Err(CloseError {
             reason: error.reason,
             set: Set {

@@ -11,7 +11,7 @@ use crate::handle::Handle;
 use crate::opening::{by_two_handles, open};
 use crate::outcome::Outcome;
 use crate::owner::Owner;
-use nm_set::Map;
+use nm_set::{Map, MapReport};
 use std::alloc::Global;
 use std::mem::replace;
 
@@ -146,7 +146,10 @@ fn end(owner: Owner) -> (Owner, Outcome)
         other => return (other, Outcome::Kind),
     };
     match map.close() {
-        Ok(report) => (Owner::Ended(report), Outcome::Done),
+        Ok(left) => {
+            let MapReport { report, values: _ } = left;
+            (Owner::Ended(report), Outcome::Done)
+        }
         Err(error) => (Owner::Map(error.map), Outcome::of_reason(error.reason)),
     }
 }

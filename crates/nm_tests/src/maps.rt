@@ -23,7 +23,7 @@ fn key(rt: &impl Abort, number: u64) -> Key {
 /// Closes a map; returns how many keys it had.
 fn keys_of(rt: &impl Abort, map: Map) -> usize {
     match map.close() {
-        Ok(report) => report.keys.len(),
+        Ok(left) => left.report.keys.len(),
         Err(_) => panic!(rt; "the map was not closed"),
     }
 }
@@ -395,6 +395,51 @@ fn a_map_closes_with_the_workers_that_it_keeps(rt: HostRuntime) -> Result<(), Fa
     Ok(())
 }
 
+/// The close of a map hands out the value under each key that is left, and the value of each leaf that
+/// waits.
+#[test]
+fn a_close_hands_out_the_values(rt: HostRuntime) -> Result<(), Fail> {
+    let map = Map::new(rt.alloc(), 64, 1)?;
+    let mut member = map.member(0)?;
+    for number in 5..8 {
+        let inserted = member.try_insert(key(&rt, number), 10 * number, TRIES);
+        assert_eq!(rt; inserted, Ok(true));
+    }
+    assert_eq!(rt; member.try_remove(key(&rt, 6), TRIES), Ok(true));
+    member.close();
+    let Ok(mut left) = map.close() else {
+        panic!(rt; "the map was not closed")
+    };
+    assert_eq!(rt; left.report.keys.len(), 2);
+    assert_eq!(rt;
+        (
+            left.values.of_key(0),
+            left.values.of_key(1),
+            left.values.of_key(2)
+        ),
+        (Some(50), Some(70), None)
+    );
+    let Some(held) = left.report.queues.get_mut(0) else {
+        panic!(rt; "the worker has no queue")
+    };
+    let (Some(inner), Some(leaf)) = (held.queue.pop(), held.queue.pop()) else {
+        panic!(rt; "no two nodes wait")
+    };
+    assert!(rt; held.queue.is_empty());
+    assert_eq!(rt;
+        (
+            left.values.of_slot(leaf.node.slot),
+            left.values.of_slot(inner.node.slot)
+        ),
+        (Some(60), Some(0))
+    );
+    assert_eq!(rt;
+        (left.values.of_slot(0), left.values.of_slot(65)),
+        (None, None)
+    );
+    Ok(())
+}
+
 /// The last member closes its map, after the `Map` was dropped.
 #[test]
 fn the_last_member_ends_its_map(rt: HostRuntime) -> Result<(), Fail> {
@@ -405,10 +450,14 @@ fn the_last_member_ends_its_map(rt: HostRuntime) -> Result<(), Fail> {
         panic!(rt; "the map was ended")
     };
     drop(map);
-    let Ok(report) = last.end() else {
+    let Ok(left) = last.end() else {
         panic!(rt; "the map was not ended")
     };
-    assert_eq!(rt; report.keys.len(), 1);
+    assert_eq!(rt; left.report.keys.len(), 1);
+    assert_eq!(rt;
+        (left.values.of_key(0), left.values.of_key(1)),
+        (Some(50), None)
+    );
     Ok(())
 }
 

@@ -29,6 +29,7 @@ pub mod Closed
 pub mod ClosedMaps
 pub mod EndCounts
 pub mod OfClosed
+pub mod EndsOfLeaves
 pub mod Taking
 pub mod AnswersInRuns
 pub mod FoundThenGone

@@ -54,7 +54,7 @@ stands_of [] i x e is slot = absurd (none-some e is)
 stands_of (y ∷ es) zero x e is slot = ap Some (ap (λ (z : Entry). z.node.slot) (same_Some y e is) ∙ slot)
 stands_of (y ∷ es) (suc i) x e is slot = stands_of es i x e is slot
 
-queue_at : (hs : List HeldQueue) (w : ℕ) → w < length hs → (h : HeldQueue) × (slice_get hs w ≡ Some h)
+pub queue_at : (hs : List HeldQueue) (w : ℕ) → w < length hs → (h : HeldQueue) × (slice_get hs w ≡ Some h)
 queue_at [] w below = absurd (omega (arith, below))
 queue_at (h ∷ hs) zero below = (h, refl)
 queue_at (h ∷ hs) (suc w) below = queue_at hs w (omega (arith, below))
@@ -89,7 +89,7 @@ cuts_nothing L w past (t ∷ ts) staffed = ap (λ (ns : List NodeId). (if t.work
     own true same (Ok r) is = absurd (let less = staffed t r (zero, omega arith, refl) is in let at = eqb-true t.worker w same in omega (arith, past, less, at))
 
 module _ (b : TreeView) (ws : List WorkerView) (queues : List HeldQueue) (kept : List ℕ) (free reached : ℕ) (is : SaysClosed b ws queues kept free reached) where
-  no_waits : (w : ℕ) → length queues ≤ w → waits_of w is.turns ≡ []
+  pub no_waits : (w : ℕ) → length queues ≤ w → waits_of w is.turns ≡ []
   no_waits w past = ap (λ (ns : List NodeId). filter (λ n. not (is_among (freed_by is.turns) n)) ns) (cuts_nothing b.layout w (let all = is.all in omega (arith, all, past)) is.turns is.headline.workers)
 
   ends : (x : ℕ) (p : Place) → StandsAt b.layout is.turns x p → EndsAt (words_after b.layout is.turns) queues x (forth p)

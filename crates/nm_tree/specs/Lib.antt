@@ -8,6 +8,7 @@ pub mod Popping
 pub mod Resigning
 pub mod Settled
 pub mod Closing
+pub mod Once
 pub mod Running
 pub mod Worked
 pub mod Trees

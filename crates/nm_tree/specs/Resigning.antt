@@ -24,9 +24,9 @@ merged hs [] = hs
 merged hs (g ∷ gs) = inserted g (merged hs gs)
 
 -- the leaver was not pinned and had nothing pending. By one step the heir's pass covers both, and
--- has seen all that both had seen, of turns and of stores. The heir holds the queues of both, by ascending origin, each
--- unchanged. What it had pending, and its caller's pin, are unchanged (Fraser, section 5.2.3, lists
--- of nodes that are passed on; by origin ours)
+-- has seen all that both had seen, of turns and of stores. The heir holds the queues of both, by
+-- ascending origin, each unchanged. What it had pending, and its caller's pin, are unchanged (Fraser,
+-- section 5.2.3, lists of nodes that are passed on; by origin ours)
 pub record HasResigned (heir leaver z : WorkerView) : Type 0 where
   pub free : (leaver.held ≡ None) × (leaver.pending ≡ None)
   pub joined : HasJoined heir.pass leaver.pass z.pass

@@ -8,6 +8,7 @@ ghost use Rattle.nm_order.specs.Totals.{TotalsAgree};
 ghost use Rattle.nm_tree.specs.Closing.{AllWereGiven, AreAllOf, EachReportIsACores, EachSlotEndsOnce, GoesOnFromAll, IsClosed, IsCloseReason, SaysClosed};
 ghost use Rattle.nm_tree.specs.Closing.{OfEachClosed, OfEachClosedRun, QueuesAreTheRest, StandsForAll, all_merged, given_in};
 ghost use Rattle.nm_tree.specs.MapReports.{EndsMap, StoresGoOnFromAll};
+ghost use Rattle.nm_tree.specs.Once.{EachReachedNodeEndsOnce, EachStoredValueEndsOnce};
 ghost use Rattle.nm_tree.specs.Workers.{WorkerView};
 
 use crate::reporting::{Found, ReportRoom, read};
@@ -192,6 +193,14 @@ pub fn closed_trees_are_accounted_for()
     ensures given { AllWereGiven }
     ensures accounted { OfEachClosed QueuesAreTheRest }
     ensures once { OfEachClosed EachSlotEndsOnce }
+{}
+
+/// Law: for every tree that was closed, each node in a slot above 5 that a path from the root ever
+/// reached is at exactly one place: on a path from the root, at an index of a queue of the report, or
+/// among the freed nodes, once. So is each leaf for which a value was stored.
+pub fn linked_leaves_end_once()
+    ensures nodes { OfEachClosed EachReachedNodeEndsOnce }
+    ensures values { OfEachClosed EachStoredValueEndsOnce }
 {}
 
 /// Law: for every tree that was closed, the run that ends with its words is a run like any other.

@@ -26,7 +26,7 @@ mod values;
 mod worker;
 
 pub use closing::{
-    CloseError, CloseReason, Ended, Report, closed_trees_are_accounted_for,
+    CloseError, CloseReason, Ended, Report, closed_trees_are_accounted_for, linked_leaves_end_once,
     runs_of_closed_trees_are_runs,
 };
 pub use fault::PinFault;

@@ -11,9 +11,9 @@ use nm_steps::Note;
 
 impl Tree {
     /// Makes a note of all that the worker has seen: its own calls, and those of others that
-    /// happened before them, with the values that were stored. The note may go to another thread, in a message or in any other way. A
-    /// note that is dropped has no effect. It may be made at any time, and the worker is unchanged.
-    /// Takes no step, no lock and no memory, and writes no word.
+    /// happened before them, with the values that were stored. The note may go to another thread, in
+    /// a message or in any other way. A note that is dropped has no effect. It may be made at any
+    /// time, and the worker is unchanged. Takes no step, no lock and no memory, and writes no word.
     ///
     /// Calls of workers that have exchanged no notes have an order, but their callers do not know
     /// it. `hear` makes it known.

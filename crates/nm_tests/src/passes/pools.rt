@@ -119,7 +119,7 @@ fn by_two<R: Threads + Sync>(
 
 /// Returns how often the three slots were put to use.
 fn births(words: &Words) -> u64
-    requires { length words.now ≡ WORDS }
+    requires { length words.now.core ≡ WORDS }
 {
     let sixth = words.word(26);
     let seventh = words.word(30);

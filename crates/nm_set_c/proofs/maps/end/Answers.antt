@@ -4,4 +4,4 @@ use Rattle.nm_set_c.proofs.maps.end.Goals as goal
 
 pub returns-in-Ok : goal.returns-in-Ok
 unfolding EndsOwned
-returns-in-Ok c = inl (c.in-Map.map, c.in-Map.is, inl (refl, c.in-Ok.report, refl, c.in-Ok.ensures.closed))
+returns-in-Ok c = inl (c.in-Map.map, c.in-Map.is, inl (refl, c.in-Ok.left.report, refl, c.in-Ok.ensures.closed))

@@ -1,13 +1,14 @@
 use Rattle.std.proofs.Common.{◌≡◌, ◌∙◌, List, sym, ap, subst}
 use Rattle.std.specs.Arc.{arc_value}
+use Rattle.nm_tree.specs.declared.closing.Ended.{Ended}
 use Rattle.nm_tree.specs.Workers.{WorkerView}
 use Rattle.nm_set.specs.declared.home.Site.{Site}
 use Rattle.nm_set.specs.declared.set.State.{State}
 use Rattle.nm_set.specs.Seats.{AreOwn, HomeView, site_in}
 use Rattle.nm_set.specs.Ends.{EndsSet, SaysEnded}
 use Rattle.nm_set.specs.States.{site_of, standing_of, open_set}
-use Rattle.nm_set.proofs.SetEnds.{Gathers, closes, refuses, had_gathered, gathered_now, as_before, if_ok, says_ended}
-use Rattle.nm_set.proofs.set.Set.close.Goals as goal
+use Rattle.nm_set.proofs.SetEnds.{Gathers, closes, hands_out, refuses, had_gathered, gathered_now, as_before, if_ok, says_ended}
+use Rattle.nm_set.proofs.set.Set.end.Goals as goal
 
 had : (c : goal.After-end) → Gathers c.args.self c.in-Closing.site c.self.inside.kept.items
 had c =
@@ -19,7 +20,10 @@ pub returns-in-Closing-clause-closed : goal.returns-in-Closing-clause-closed
 returns-in-Closing-clause-closed c = closes c.args.self c.in-Closing.site c.self.inside.kept.items (had c) c.end.result c.end.ensures.closed
 
 pub returns-in-Closing-clause-says : goal.returns-in-Closing-clause-says
-returns-in-Closing-clause-says c = if_ok (EndsSet c.args.self) (SaysEnded c.args.self) c.end.result (returns-in-Closing-clause-closed c) (says_ended c.args.self)
+returns-in-Closing-clause-says c = if_ok (λ (r : Ended). EndsSet c.args.self r.report) (λ (r : Ended). SaysEnded c.args.self r.report) c.end.result (returns-in-Closing-clause-closed c) (λ r. says_ended c.args.self r.report)
+
+pub returns-in-Closing-clause-values : goal.returns-in-Closing-clause-values
+returns-in-Closing-clause-values c = hands_out c.args.self c.in-Closing.site c.self.inside.kept.items (had c) c.end.result c.end.ensures.values
 
 pub returns-in-Closing-clause-refused : goal.returns-in-Closing-clause-refused
 returns-in-Closing-clause-refused c = refuses c.args.self c.in-Closing.site c.self.inside.kept.items (had c) c.end.result c.end.ensures.refused c.end.ensures.reason
@@ -38,7 +42,10 @@ pub returns-in-Ok-clause-closed : goal.returns-in-Ok-clause-closed
 returns-in-Ok-clause-closed c = closes c.args.self c.gather-site.result.0 c.gather-site.result.1.items (gathers c) c.end-in-Ok.result c.end-in-Ok.ensures.closed
 
 pub returns-in-Ok-clause-says : goal.returns-in-Ok-clause-says
-returns-in-Ok-clause-says c = if_ok (EndsSet c.args.self) (SaysEnded c.args.self) c.end-in-Ok.result (returns-in-Ok-clause-closed c) (says_ended c.args.self)
+returns-in-Ok-clause-says c = if_ok (λ (r : Ended). EndsSet c.args.self r.report) (λ (r : Ended). SaysEnded c.args.self r.report) c.end-in-Ok.result (returns-in-Ok-clause-closed c) (λ r. says_ended c.args.self r.report)
+
+pub returns-in-Ok-clause-values : goal.returns-in-Ok-clause-values
+returns-in-Ok-clause-values c = hands_out c.args.self c.gather-site.result.0 c.gather-site.result.1.items (gathers c) c.end-in-Ok.result c.end-in-Ok.ensures.values
 
 pub returns-in-Ok-clause-refused : goal.returns-in-Ok-clause-refused
 returns-in-Ok-clause-refused c = refuses c.args.self c.gather-site.result.0 c.gather-site.result.1.items (gathers c) c.end-in-Ok.result c.end-in-Ok.ensures.refused c.end-in-Ok.ensures.reason
