@@ -4,6 +4,7 @@ ghost use Rattle.std.specs.Arc.{arc_value};
 ghost use Rattle.nm_edge.specs.Layouts.{IsLayout};
 ghost use Rattle.nm_steps.specs.Rules.{Extends, ExtendsStores};
 ghost use Rattle.nm_steps.specs.Steps.{HasHeard, HasSeen, HasSeenAllOf, IsNoteOf, IsOfRun};
+ghost use Rattle.nm_steps.specs.Values.{HasSeenStores, HasValues};
 ghost use Rattle.nm_tree.specs.Resigning.{HasResigned};
 ghost use Rattle.nm_tree.specs.Running.{HasSeenTurns};
 ghost use Rattle.nm_tree.specs.Workers.{WorkerView, IsBetweenCalls, IsLedger, waiting_in, blocks_in, AreFewIn, IsIdle};
