@@ -1,5 +1,5 @@
 -- A get after an insert of the same key finds a value, over the page alone.
-use Rattle.std.proofs.Common.{◌≡◌, ℕ, ◌+◌, ◌<◌, true, List, length, refl, sym, ap, ◌∙◌, subst, arith}
+use Rattle.std.proofs.Common.{◌≡◌, ℕ, true, List, length, refl, sym, ap, ◌∙◌, subst, arith}
 use Rattle.std.proofs.lemmas.List.{length-append}
 use Rattle.std.specs.Prelude.{IfOk, IfSome, IsSome, None, Ok, Err, Option, Result, Some}
 use Rattle.std.specs.Result.{result_ok}

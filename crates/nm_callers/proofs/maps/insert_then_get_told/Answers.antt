@@ -1,9 +1,9 @@
-use Rattle.std.proofs.Common.{rules, ◌≡◌, ◌∙◌, sym, ap, subst}
+use Rattle.std.proofs.Common.{rules, ◌≡◌, sym, ap, subst}
 use Rattle.std.specs.Prelude.{IfSome, Ok, Some}
 use Rattle.nm_edge.specs.Keys.{IsKey}
 use Rattle.nm_model.specs.declared.event.Op.TheVariants.{Insert}
-use Rattle.nm_steps.specs.Steps.{PassView}
 use Rattle.nm_steps.proofs.Seeing.{seen_through, stores_through}
+use Rattle.nm_tree.specs.Workers.{WorkerView}
 use Rattle.nm_calls.specs.Maps.{MapGave}
 use Rattle.nm_calls.specs.Moments.{AnswerHasMoment}
 use Rattle.nm_callers.specs.Mapping.{AreOfOneMap}
@@ -38,7 +38,8 @@ returns-clause-one_map c =
     let q = c.get-found.new.worker.pass in
     let e = c.get-found.ensures in
     let layout : p.view.layout ≡ q.view.layout = search rules in
-    of_found c.get-found.result c.ok.result (MapGave m q c.args.key) (λ found. IfSome found (AreOfOneMap q.view.layout o.view.past q.view.past p.view.number c.args.key c.args.value)) c.ok.ensures.value
+    subst (λ (w : WorkerView). IfSome c.ok.result (λ found. IfSome found (AreOfOneMap q.view.layout o.view.past q.view.past w.pass.view.number c.args.key c.args.value))) (sym c.tell_worker.ensures.from)
+    (of_found c.get-found.result c.ok.result (MapGave m q c.args.key) (λ found. IfSome found (AreOfOneMap q.view.layout o.view.past q.view.past p.view.number c.args.key c.args.value)) c.ok.ensures.value
     (λ found later. told_of_one_map o p q c.args.key c.args.value (subst IsKey c.get-number.ensures.number c.get-number.ensures.fits) c.know_run.ensures.seen c.know_run-2.ensures.seen c.know_run-2.ensures.fits layout (seen_through p m q c.tell_worker.ensures.heard e.past)
     (stores_through p.view.stores m.view.stores q.view.stores c.tell_worker.ensures.heard_stores e.stores) (c.in-Ok-true.ensures.puts c.requires.values (ap Ok c.in-Ok-true.field-0-test)) found (gave_earlier p m q c.tell_worker.ensures.heard c.args.key found later))
-    e.moment
+    e.moment)
