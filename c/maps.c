@@ -314,8 +314,8 @@ static void no_values(nm_handle *handle, nm_outcome wanted) {
           nm_map_report_returned(handle, 0, &value) == wanted && value == NOT_WRITTEN);
 }
 
-/* Makes a map of two workers, each of which has removed some keys. It has the keys 3, 5 and 7. The
- * value of each key is ten times the key. */
+/* Makes a map with the keys 3, 5 and 7, from which two workers have removed others. The value of
+ * each key is ten times the key. */
 static void make_with_values(nm_handle *map) {
     nm_handle worker = NM_CLOSED_HANDLE;
     uint64_t value = NOT_WRITTEN;

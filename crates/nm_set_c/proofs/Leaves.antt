@@ -2,7 +2,7 @@
 use Rattle.std.proofs.Common.{◌≡◌, ℕ, suc, ◌+◌, Bool, true, false, List, [], ◌∷◌, length, refl, sym, ap, subst, ◌∙◌, inr, arith}
 use Rattle.std.proofs.lemmas.Bool.{cond-true, cond-false, eqb-true, eqb-false, eq-eqb}
 use Rattle.std.proofs.lemmas.Option.{slice_get_within}
-use Rattle.std.specs.Prelude.{◌%◌, Option, Some, slice_get}
+use Rattle.std.specs.Prelude.{◌%◌, MatchOption, Option, Some, None, slice_get}
 use Rattle.std.specs.Vec.{with_item}
 use Rattle.nm_epoch.specs.Handing.{is_odd, leaves_of}
 use Rattle.nm_epoch.specs.declared.collecting.Entry.{Entry}
@@ -56,6 +56,15 @@ lost_second h g x e rest first second even origin counts =
       origin = origin;
       counts = counts;
     }
+
+-- the second pop of a queue in which an even number of entries waited, and at least one: there was a
+-- second entry, and it is the leaf
+pub lost_next : (h g : HeldQueue) (x : Entry) (rest : List Entry) (r : Option Entry) (A : Type 0) (B : Entry → Type 0) → h.queue.items ≡ x ∷ rest → is_odd (length h.queue.items) ≡ false
+    → MatchOption r ((rest ≡ []) × A) (λ e. (rest ≡ e ∷ g.queue.items) × B e) → g.origin ≡ h.origin → g.counts ≡ h.counts → MatchOption r ((h.queue.items ≡ []) × (g ≡ h)) (LosesLeaf h g)
+lost_next h g x rest None A B first even (empty, a) origin counts =
+    let one : length h.queue.items % 2 ≡ 1 = ap (λ (es : List Entry). length es % 2) (first ∙ ap (λ (es : List Entry). x ∷ es) empty) in
+    absurd (eqb-false (length h.queue.items % 2) 1 even one)
+lost_next h g x rest (Some e) A B first even (next, b) origin counts = lost_second h g x e rest first next even origin counts
 
 -- what is left of a map, with this queue of a worker
 abbrev pub with_queue : Remains → ℕ → HeldQueue → Remains

@@ -1,5 +1,5 @@
 -- The words of a closed tree, and so the values of a closed map, may go from thread to thread.
-use Rattle.std.proofs.Common.{ℕ, ◌*◌, ◌^◌, Bool, true, false, List, [], ◌∷◌}
+use Rattle.std.proofs.Common.{Bool, true, false, List, [], ◌∷◌}
 use mir.Syntax.{Ty, ty_array}
 use mir.Raw.{raw}
 use base.Fml.{Fml}
@@ -11,6 +11,7 @@ use denote.RattleType.{RattleType}
 use denote.RawPtr.{Ptr, block_ptr, null_ptr, in_block, room_for, ◌+ₚ◌}
 use denote.Struct.Owning.{shape, fields, to}
 use denote.Struct.Struct.{exits_of}
+use Rattle.core.specs.Mem.Slots.{lease_heap, lease_len, lease_ptr, slots_filled, slots_items, slots_ptr}
 use Rattle.core.specs.Mem.Slots.Ownership.{bytes_of, slot, slots}
 use Rattle.core.specs.contracts.slots.Lease as lease
 use Rattle.core.specs.contracts.slots.Slots as places
@@ -48,7 +49,7 @@ pub slots_send : (R : RattleType) → IsSend R → IsSend (places.the_row R)
 slots_send R s =
     let O = places.the_type R in
     let all : AllSend (fields O) = (pointer_send, (number_send, tt)) in
-    owning_send O all (λ d. (tt, inside d.ptr _ (each R s d.ptr d.items d.filled)))
+    owning_send O all (λ d. (tt, inside (slots_ptr d) _ (each R s (slots_ptr d) (slots_items d) (slots_filled d))))
     (λ k. quiet (to O) (exits_of k (fields O)) ((struct_send (shape O) all).leaving k))
 
 -- ---- the right to free their block
@@ -57,7 +58,7 @@ pub lease_send : (R : RattleType) → IsSend (lease.the_row R Heap.the_row ghost
 lease_send R =
     let O = lease.the_type R Heap.the_row ghosts in
     let all : AllSend (fields O) = (pointer_send, (number_send, (search sendable, tt))) in
-    owning_send O all (λ d. heap.frees.frees d.alloc (raw (ty_array (lone R.mir) d.len)) d.ptr)
+    owning_send O all (λ d. heap.frees.frees (lease_heap d) (raw (ty_array (lone R.mir) (lease_len d))) (lease_ptr d))
     (λ k. quiet (to O) (exits_of k (fields O)) ((struct_send (shape O) all).leaving k))
 
 pub ruleset sent_words = (slots_send, lease_send)
