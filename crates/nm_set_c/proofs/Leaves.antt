@@ -59,12 +59,12 @@ lost_second h g x e rest first second even origin counts =
 
 -- the second pop of a queue in which an even number of entries waited, and at least one: there was a
 -- second entry, and it is the leaf
-pub lost_next : (h g : HeldQueue) (x : Entry) (rest : List Entry) (r : Option Entry) (A : Type 0) (B : Entry → Type 0) → h.queue.items ≡ x ∷ rest → is_odd (length h.queue.items) ≡ false
-    → MatchOption r ((rest ≡ []) × A) (λ e. (rest ≡ e ∷ g.queue.items) × B e) → g.origin ≡ h.origin → g.counts ≡ h.counts → MatchOption r ((h.queue.items ≡ []) × (g ≡ h)) (LosesLeaf h g)
-lost_next h g x rest None A B first even (empty, a) origin counts =
+pub lost_next : (h g : HeldQueue) (x : Entry) (rest : List Entry) (r : Option Entry) (A : Type 0) (P : Entry → Type 0) → h.queue.items ≡ x ∷ rest → is_odd (length h.queue.items) ≡ false
+    → MatchOption r ((rest ≡ []) × A) P → ((e : Entry) → P e → rest ≡ e ∷ g.queue.items) → g.origin ≡ h.origin → g.counts ≡ h.counts → MatchOption r ((h.queue.items ≡ []) × (g ≡ h)) (LosesLeaf h g)
+lost_next h g x rest None A P first even (empty, a) next origin counts =
     let one : length h.queue.items % 2 ≡ 1 = ap (λ (es : List Entry). length es % 2) (first ∙ ap (λ (es : List Entry). x ∷ es) empty) in
     absurd (eqb-false (length h.queue.items % 2) 1 even one)
-lost_next h g x rest (Some e) A B first even (next, b) origin counts = lost_second h g x e rest first next even origin counts
+lost_next h g x rest (Some e) A P first even p next origin counts = lost_second h g x e rest first (next e p) even origin counts
 
 -- what is left of a map, with this queue of a worker
 abbrev pub with_queue : Remains → ℕ → HeldQueue → Remains
