@@ -307,6 +307,67 @@ static void ends(void) {
     CHECK(nm_drop(&map) == NM_DONE);
 }
 
+/* Checks that both calls for a value of a report return the wanted outcome, and write nothing. */
+static void no_values(nm_handle *handle, nm_outcome wanted) {
+    uint64_t value = NOT_WRITTEN;
+    CHECK(nm_map_report_value(handle, 0, &value) == wanted &&
+          nm_map_report_returned(handle, 0, &value) == wanted && value == NOT_WRITTEN);
+}
+
+/* Makes a map with the keys 3, 5 and 7, from which two workers have removed others. The value of
+ * each key is ten times the key. */
+static void make_with_values(nm_handle *map) {
+    nm_handle worker = NM_CLOSED_HANDLE;
+    uint64_t value = NOT_WRITTEN;
+    CHECK(nm_map_new(map, 64, 3) == NM_DONE && nm_map_worker(map, &worker, 0) == NM_DONE);
+    for (uint64_t key = 1; key < 8; key++)
+        CHECK(nm_map_insert(&worker, key, 10 * key, usual) == NM_YES);
+    CHECK(nm_map_remove(&worker, 2, usual, &value) == NM_YES &&
+          nm_map_remove(&worker, 4, usual, &value) == NM_YES);
+    CHECK(nm_drop(&worker) == NM_DONE && nm_map_worker(map, &worker, 1) == NM_DONE);
+    CHECK(nm_map_remove(&worker, 6, usual, &value) == NM_YES &&
+          nm_map_remove(&worker, 1, usual, &value) == NM_YES && nm_drop(&worker) == NM_DONE);
+}
+
+/* A close leaves each value that has not come back: under its key, or in the queue of the worker
+ * that cut its leaf off. */
+static void leaves_values(void) {
+    nm_handle map = NM_CLOSED_HANDLE;
+    nm_waiting internal = {0, 0, 0};
+    uint64_t value = NOT_WRITTEN, nodes = NOT_WRITTEN;
+    make_with_values(&map);
+    no_values(&map, NM_KIND);
+    CHECK(nm_map_close(&map) == NM_DONE);
+    for (uint64_t index = 0; index < 3; index++)
+        CHECK(nm_map_report_value(&map, index, &value) == NM_DONE && value == 30 + 20 * index);
+    CHECK(nm_map_report_value(&map, 3, &value) == NM_NUMBER &&
+          nm_map_report_value(&map, UINT64_MAX, &value) == NM_NUMBER);
+    CHECK(nm_map_report_returned(&map, 3, &value) == NM_NUMBER &&
+          nm_map_report_returned(&map, 2, &value) == NM_NO && value == 70);
+    CHECK(nm_map_report_returned(&map, 0, &value) == NM_YES && value == 20 &&
+          nm_report_queue(&map, 0, &nodes) == NM_DONE && nodes == 2);
+    CHECK(nm_map_report_returned(&map, 0, &value) == NM_YES && value == 40 &&
+          nm_map_report_returned(&map, 0, &value) == NM_NO && value == 40);
+    CHECK(nm_report_waiting(&map, 1, &internal) == NM_YES &&
+          nm_map_report_returned(&map, 1, &value) == NM_YES && value == 60);
+    CHECK(nm_map_report_returned(&map, 1, &value) == NM_YES && value == 10 &&
+          nm_map_report_returned(&map, 1, &value) == NM_NO);
+    CHECK(nm_map_report_value(&map, 0, &value) == NM_DONE && value == 30);
+    map.in_use = 1;
+    no_values(&map, NM_IN_USE);
+    map.in_use = 0;
+    CHECK(nm_drop(&map) == NM_DONE);
+    no_values(&map, NM_CLOSED);
+}
+
+/* The report of a set has no values. */
+static void sets_leave_no_values(void) {
+    nm_handle set = NM_CLOSED_HANDLE;
+    CHECK(nm_set_new(&set, 64, 1) == NM_DONE && nm_set_close(&set) == NM_DONE);
+    no_values(&set, NM_KIND);
+    CHECK(nm_drop(&set) == NM_DONE);
+}
+
 /* A handle of another kind is refused, and so is one that is closed or in use. */
 static void kinds(void) {
     nm_handle map = NM_CLOSED_HANDLE, worker = NM_CLOSED_HANDLE, none = NM_CLOSED_HANDLE;
@@ -491,6 +552,8 @@ int main(void) {
     pinned_itself();
     returned();
     ends();
+    leaves_values();
+    sets_leave_no_values();
     kinds();
     threads();
     printf("%" PRIuFAST64 " values came back, each once; %" PRIuFAST64

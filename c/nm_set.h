@@ -503,8 +503,8 @@ nm_outcome nm_map_attach(nm_handle *map, nm_handle *worker);
 nm_outcome nm_map_attached(nm_handle *map, uint32_t number);
 
 /* Ends the map when all its workers have been returned. Returns NM_DONE, and the handle owns the
- * report from then on. Values that have not come back are lost: those of the keys in the report, and
- * those that wait with a worker. So remove the keys, and reclaim by each worker, before the close.
+ * report from then on, with the values that have not come back: those of the keys in the report
+ * (nm_map_report_value), and those that wait with a worker (nm_map_report_returned).
  * Errors: NM_ATTACHED: the handle still owns the map, unchanged. NM_NO_MEMORY: the handle still owns
  * the map, whose workers were gathered, so that only this function goes on. */
 nm_outcome nm_map_close(nm_handle *map);
@@ -633,6 +633,17 @@ nm_outcome nm_report_queue(nm_handle *report, uint32_t worker, uint64_t *nodes);
 /* Takes the oldest node out of a worker's queue. Returns NM_YES and writes the node, or NM_NO if
  * none waits any more. Errors: NM_NUMBER: there is no such worker. */
 nm_outcome nm_report_waiting(nm_handle *report, uint32_t worker, nm_waiting *waiting);
+
+/* Writes the value under the key at an index of a map's report, from 0 on: the key of
+ * nm_report_key. Returns NM_DONE. Errors: NM_NUMBER: there are not that many keys. NM_KIND: also if
+ * the report is that of a set. */
+nm_outcome nm_map_report_value(nm_handle *report, uint64_t index, uint64_t *value);
+
+/* Takes the oldest leaf out of a worker's queue in a map's report, and the internal node before it,
+ * which was cut off with it. Returns NM_YES and writes the value that the leaf had when it was cut
+ * off, or NM_NO if no node waits any more. A node that nm_report_waiting has taken is not there.
+ * Errors: NM_NUMBER: there is no such worker. NM_KIND: also if the report is that of a set. */
+nm_outcome nm_map_report_returned(nm_handle *report, uint32_t worker, uint64_t *value);
 
 #ifdef __cplusplus
 }

@@ -77,6 +77,8 @@ static void is_refused(nm_handle *handle, nm_outcome worker, nm_outcome report) 
         CHECK(nm_report_key(handle, 0, &wide) == report &&
               nm_report_queue(handle, 0, &wide) == report);
         CHECK(nm_report_waiting(handle, 0, &waiting) == report);
+        CHECK(nm_map_report_value(handle, 0, &wide) == report &&
+              nm_map_report_returned(handle, 0, &wide) == report);
     }
     CHECK(wide == NOT_WRITTEN && other == NOT_WRITTEN && narrow == NOT_WRITTEN &&
           second == NOT_WRITTEN);

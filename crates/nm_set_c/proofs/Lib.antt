@@ -3,5 +3,7 @@ pub mod Places
 pub mod Swaps
 pub mod Holds
 pub mod Items
+pub mod Leaves
 pub mod Owners
+pub mod SentWords
 pub mod Sending

@@ -1,13 +1,13 @@
 -- What a call on a handle leaves, by what the handle owns.
 use Rattle.std.proofs.Common.{◌≡◌, refl, sym, subst, inl, inr}
 use Rattle.nm_set.specs.Seats.{MemberView}
-use Rattle.nm_tree.specs.declared.closing.Report.{Report}
 use Rattle.nm_set_c.specs.Handles.{Hold, Open, IsRefused}
 use Rattle.nm_set_c.specs.Owners.{HasDone, Owns, OfHandle, OfWorker, OfMapWorker, OfReport}
 use Rattle.nm_set_c.specs.declared.outcome.Outcome.{Outcome}
 use Rattle.nm_set_c.specs.declared.outcome.Outcome.TheVariants.{Kind}
 use Rattle.nm_set_c.specs.declared.owner.Owner.{Owner}
 use Rattle.nm_set_c.specs.declared.owner.Owner.TheVariants.{Worker, MapWorker, Ended}
+use Rattle.nm_set_c.specs.declared.remains.Remains.{Remains}
 
 pub has_done : {A : Type 0} (does : A → A → Outcome → Type 0) (m n : A) (o : Outcome) → does m n o → HasDone does m n o
 unfolding HasDone
@@ -62,8 +62,8 @@ told_map_worker = told MapWorker
 pub told_report : Told Ended
 told_report = told Ended
 
-pub other_report : (does : Report → Report → Outcome → Type 0) (same : Type 0) (old new : Hold) (x : Owner)
-    → ((r : Report) → x ≡ Ended r → ⊥) → old ≡ Open x → new ≡ Open x → same → OfReport does same old new Kind
+pub other_report : (does : Remains → Remains → Outcome → Type 0) (same : Type 0) (old new : Hold) (x : Owner)
+    → ((r : Remains) → x ≡ Ended r → ⊥) → old ≡ Open x → new ≡ Open x → same → OfReport does same old new Kind
 other_report = other Ended
 
 -- ---- by which an export is proved: one that returns what it reads, and one that makes a call, whose

@@ -11,5 +11,6 @@ pub mod NextKeys
 pub mod Scanning
 pub mod Reports
 pub mod Maps
+pub mod MapReports
 pub mod MapEntries
 pub mod MapScanning

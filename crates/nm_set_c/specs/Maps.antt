@@ -11,12 +11,14 @@ use Rattle.nm_calls.specs.declared.fault.CallFault.{CallFault}
 use Rattle.nm_calls.specs.declared.fault.CallFault.TheVariants as fault
 use Rattle.nm_epoch.specs.declared.handing.HandedOut.{HandedOut}
 use Rattle.nm_tree.specs.Answers.{IfTaken}
+use Rattle.nm_tree.specs.MapReports.{MapValuesView}
 use Rattle.nm_tree.specs.Workers.{WorkerView}
 use Rattle.nm_set.specs.declared.fault.PinnedGetFault.{PinnedGetFault}
 use Rattle.nm_set.specs.declared.fault.PinnedGetFault.TheVariants as getting
 use Rattle.nm_set.specs.declared.managed.Options.{Options}
+use Rattle.nm_set.specs.Ends.{EndsSet, SaysMapEnded}
 use Rattle.nm_set.specs.Maps.{LeavesReclaim, SaysChange, SaysGet, SaysPinnedGet, TookMeanwhile}
-use Rattle.nm_set.specs.Seats.{MemberView}
+use Rattle.nm_set.specs.Seats.{MemberView, SetView}
 use Rattle.nm_set_c.specs.Handles.{Hold}
 use Rattle.nm_set_c.specs.NextKeys.{TellsNear}
 use Rattle.nm_set_c.specs.Outcomes.{of_answer}
@@ -25,6 +27,7 @@ use Rattle.nm_set_c.specs.Workers.{OfKey, TellsAnswer}
 use Rattle.nm_set_c.specs.declared.outcome.Outcome.{Outcome}
 use Rattle.nm_set_c.specs.declared.outcome.Outcome.TheVariants as outcome
 use Rattle.nm_set_c.specs.declared.owner.Owner.TheVariants.{Map, MapWorker}
+use Rattle.nm_set_c.specs.declared.remains.Remains.{Remains}
 
 -- ---- a map: what `Sets` says of a set and its workers, for the owners of maps
 
@@ -40,8 +43,13 @@ AttachesToMap = TakesByHandles (GivesAny Map MapWorker)
 abbrev pub MissesOfMap : ℕ → Hold → Outcome → Type 0
 MissesOfMap = MissesByHandle Map
 
+-- what is left of a closed map: its report, and its values, which a caller of `Map::close` learns too
+abbrev pub LeavesMapReport : SetView → Remains → Type 0
+LeavesMapReport s r = EndsSet s r.report × (v : MapValuesView) × (r.values ≡ Some v)
+    × SaysMapEnded s (record { report = r.report; values = v })
+
 abbrev pub EndsMap : Hold → Hold → Outcome → Type 0
-EndsMap = EndsBy (EndsOwned Map)
+EndsMap = EndsBy (EndsOwned Map LeavesMapReport)
 
 -- ---- values by key: managed calls
 

@@ -1,12 +1,12 @@
 -- What a call on a handle leaves, by the kind of what the handle owns.
 use Rattle.std.specs.Prelude.{◌≡◌, ◌⊎◌}
 use Rattle.nm_set.specs.Seats.{MemberView}
-use Rattle.nm_tree.specs.declared.closing.Report.{Report}
 use Rattle.nm_set_c.specs.Handles.{Hold, Open, IsRefused}
 use Rattle.nm_set_c.specs.declared.outcome.Outcome.{Outcome}
 use Rattle.nm_set_c.specs.declared.outcome.Outcome.TheVariants as outcome
 use Rattle.nm_set_c.specs.declared.owner.Owner.{Owner}
 use Rattle.nm_set_c.specs.declared.owner.Owner.TheVariants.{Worker, MapWorker, Ended}
+use Rattle.nm_set_c.specs.declared.remains.Remains.{Remains}
 
 -- what a call does, as one word: it begins with m, leaves n, and has this outcome
 unfoldable pub HasDone : {A : Type 0} → (A → A → Outcome → Type 0) → A → A → Outcome → Type 0
@@ -47,5 +47,5 @@ OfWorker = OfHandle Worker
 abbrev pub OfMapWorker : (MemberView → MemberView → Outcome → Type 0) → Type 0 → Hold → Hold → Outcome → Type 0
 OfMapWorker = OfHandle MapWorker
 
-abbrev pub OfReport : (Report → Report → Outcome → Type 0) → Type 0 → Hold → Hold → Outcome → Type 0
+abbrev pub OfReport : (Remains → Remains → Outcome → Type 0) → Type 0 → Hold → Hold → Outcome → Type 0
 OfReport = OfHandle Ended

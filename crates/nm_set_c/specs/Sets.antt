@@ -1,14 +1,13 @@
 -- What calls on a set return and leave.
-use Rattle.std.specs.Prelude.{◌≡◌, ◌≤◌, ◌⊎◌, ◌↔◌, ℕ, Bool, true, false, [], Result, Ok, Err}
+use Rattle.std.specs.Prelude.{◌≡◌, ◌≤◌, ◌⊎◌, ◌↔◌, ℕ, Bool, true, false, [], None, Result, Ok, Err}
 use Rattle.nm_edge.specs.Layouts.{Layout}
 use Rattle.nm_edge.specs.declared.placement.Fit.{Fit}
 use Rattle.nm_set.specs.declared.fault.MemberFault.{MemberFault}
 use Rattle.nm_set.specs.declared.fault.MemberFault.TheVariants as taking
-use Rattle.nm_set.specs.Ends.{EndsMember, EndsSet, HasGathered, IsLeftOpen, set_of}
+use Rattle.nm_set.specs.Ends.{EndsSet, HasGathered, IsLeftOpen, set_of}
 use Rattle.nm_set.specs.Seats.{SetView, MemberView, IsResident, IsAnyResident, TellsAttached}
 use Rattle.nm_tree.specs.Workers.{WorkerView}
 use Rattle.nm_tree.specs.declared.closing.CloseReason.{CloseReason}
-use Rattle.nm_tree.specs.declared.closing.Report.{Report}
 use Rattle.nm_set_c.specs.Outcomes.{of_bool, of_taking, of_reason}
 use Rattle.nm_set_c.specs.Handles.{Hold, Closed, Open, IsRefused, CannotOpen}
 use Rattle.nm_set_c.specs.declared.outcome.Outcome.{Outcome}
@@ -16,6 +15,7 @@ use Rattle.nm_set_c.specs.declared.outcome.Outcome.TheVariants as outcome
 use Rattle.nm_set_c.specs.declared.owner.Owner.{Owner}
 use Rattle.nm_set_c.specs.declared.owner.Owner.TheVariants.{Set, Worker, Ended}
 use Rattle.nm_set_c.specs.Owners.{ByKind}
+use Rattle.nm_set_c.specs.declared.remains.Remains.{Remains}
 
 -- ---- a new set
 
@@ -146,17 +146,21 @@ Misses = MissesByHandle Set
 
 -- ---- the close of a set
 
--- the report is there; or the outcome is the reason, and the set is there as that reason leaves it,
--- as an owner of the kind
-abbrev pub IsEnded : (SetView → Owner) → Owner → Outcome → SetView → Type 0
-IsEnded kind new o s =
-    ((o ≡ outcome.Done) × (r : Report) × (new ≡ Ended r) × EndsSet s r)
+-- what is left of a closed set: its report, and no values
+abbrev pub LeavesReport : SetView → Remains → Type 0
+LeavesReport s r = EndsSet s r.report × (r.values ≡ None)
+
+-- what the close of the kind leaves is there; or the outcome is the reason, and the set is there as that
+-- reason leaves it, as an owner of the kind
+abbrev pub IsEnded : (SetView → Owner) → (SetView → Remains → Type 0) → Owner → Outcome → SetView → Type 0
+IsEnded kind leaves new o s =
+    ((o ≡ outcome.Done) × (r : Remains) × (new ≡ Ended r) × leaves s r)
     ⊎ ((why : CloseReason) × (o ≡ of_reason why) × (t : SetView) × (new ≡ kind t)
     × IsLeftOpen s why t)
 
--- what owned a set of the kind owns its report afterwards; anything else is refused
-unfoldable pub EndsOwned : (SetView → Owner) → Owner → Owner → Outcome → Type 0
-EndsOwned kind x new o = ByKind kind x (IsEnded kind new o) ((o ≡ outcome.Kind) × (new ≡ x))
+-- what owned a set of the kind owns what is left of it afterwards; anything else is refused
+unfoldable pub EndsOwned : (SetView → Owner) → (SetView → Remains → Type 0) → Owner → Owner → Outcome → Type 0
+EndsOwned kind leaves x new o = ByKind kind x (IsEnded kind leaves new o) ((o ≡ outcome.Kind) × (new ≡ x))
 
 -- a handle owns afterwards what a call on its owner leaves
 abbrev pub EndsBy : (Owner → Owner → Outcome → Type 0) → Hold → Hold → Outcome → Type 0
@@ -164,7 +168,7 @@ EndsBy ends old new o = IsRefused old new o
     ⊎ ((x : Owner) × (old ≡ Open x) × (y : Owner) × (new ≡ Open y) × ends x y o)
 
 abbrev pub EndsHandle : Hold → Hold → Outcome → Type 0
-EndsHandle = EndsBy (EndsOwned Set)
+EndsHandle = EndsBy (EndsOwned Set LeavesReport)
 
 -- ---- the close of a set by its last worker
 
@@ -172,7 +176,7 @@ EndsHandle = EndsBy (EndsOwned Set)
 -- its tree was not closed, and the set is there, with the worker and those that had been returned
 abbrev pub IsEndedBy : Owner → Outcome → MemberView → Type 0
 IsEndedBy new o m =
-    ((o ≡ outcome.Done) × (r : Report) × (new ≡ Ended r) × EndsMember m r)
+    ((o ≡ outcome.Done) × (r : Remains) × (new ≡ Ended r) × LeavesReport (set_of m) r)
     ⊎ (((o ≡ outcome.Attached) × (new ≡ Worker m))
     ⊎ ((why : CloseReason) × (o ≡ of_reason why) × (t : SetView) × (new ≡ Set t)
     × HasGathered (set_of m) why t))

@@ -1,11 +1,12 @@
 //! The end of a set, by its own handle or by that of its last worker.
 ghost use Rattle.nm_set_c.specs.Handles.{held_by};
 ghost use Rattle.nm_set_c.specs.Outcomes.{IsCodeOf};
-ghost use Rattle.nm_set_c.specs.Sets.{EndsHandle, EndsOwned, EndsByHandle, EndsByOwner};
+ghost use Rattle.nm_set_c.specs.Sets.{EndsHandle, EndsOwned, EndsByHandle, EndsByOwner, LeavesReport};
 
 use crate::handle::Handle;
 use crate::outcome::Outcome;
 use crate::owner::Owner;
+use crate::remains::Remains;
 use nm_set::EndError;
 use std::alloc::Global;
 use std::mem::replace;
@@ -31,14 +32,17 @@ pub extern "C" fn nm_set_close(alloc: Global, set: &mut Handle) -> i32
 
 #[tactic(auto, unfolding(crate::specs::Sets::EndsOwned))]
 fn end(owner: Owner) -> (Owner, Outcome)
-    ensures { EndsOwned Owner.Set owner result.0 result.1 }
+    ensures { EndsOwned Owner.Set LeavesReport owner result.0 result.1 }
 {
     let set = match owner {
         Owner::Set(set) => set,
         other => return (other, Outcome::Kind),
     };
     match set.close() {
-        Ok(report) => (Owner::Ended(report), Outcome::Done),
+        Ok(report) => {
+            let values = None;
+            (Owner::Ended(Remains { report, values }), Outcome::Done)
+        }
         Err(error) => (Owner::Set(error.set), Outcome::of_reason(error.reason)),
     }
 }
@@ -73,7 +77,10 @@ fn end_by_worker(owner: Owner) -> (Owner, Outcome)
         other => return (other, Outcome::Kind),
     };
     match member.end() {
-        Ok(report) => (Owner::Ended(report), Outcome::Done),
+        Ok(report) => {
+            let values = None;
+            (Owner::Ended(Remains { report, values }), Outcome::Done)
+        }
         Err(EndError::Attached(member)) => (Owner::Worker(member), Outcome::Attached),
         Err(EndError::Gathered(error)) => {
             (Owner::Set(error.set), Outcome::of_reason(error.reason))

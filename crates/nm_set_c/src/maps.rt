@@ -3,7 +3,7 @@ ghost use Rattle.std.specs.Prelude.{◌≡◌};
 ghost use Rattle.nm_edge.specs.Layouts.{in_radix, spaced};
 ghost use Rattle.nm_edge.specs.declared.placement.Fit.TheVariants.{NextFit};
 ghost use Rattle.nm_set_c.specs.Handles.{held_by};
-ghost use Rattle.nm_set_c.specs.Maps.{MakesMap, TakesMapWorker, AttachesToMap, MissesOfMap, EndsMap};
+ghost use Rattle.nm_set_c.specs.Maps.{MakesMap, TakesMapWorker, AttachesToMap, MissesOfMap, EndsMap, LeavesMapReport};
 ghost use Rattle.nm_set_c.specs.Outcomes.{IsCodeOf};
 ghost use Rattle.nm_set_c.specs.Sets.{EndsOwned, GivesAny, GivesNumbered, MissesOwned};
 
@@ -11,6 +11,7 @@ use crate::handle::Handle;
 use crate::opening::{by_two_handles, open};
 use crate::outcome::Outcome;
 use crate::owner::Owner;
+use crate::remains::Remains;
 use nm_set::{Map, MapReport};
 use std::alloc::Global;
 use std::mem::replace;
@@ -119,7 +120,7 @@ fn is_attached(owner: &Owner, number: u32) -> Outcome
 }
 
 /// Ends the map when all its workers are closed: `Map::close` of `nm_set`. Returns `Done`, and the
-/// handle owns the report from then on. The values that have not come back are lost.
+/// handle owns the report from then on, with the values that have not come back.
 ///
 /// Errors: `Attached`: the handle still owns the map, unchanged. `NotAll`, `NoMemory`: the handle
 /// still owns the map, and all workers were gathered. `Closed`, `InUse`, `Kind`.
@@ -139,7 +140,7 @@ pub extern "C" fn nm_map_close(alloc: Global, map: &mut Handle) -> i32
 
 #[tactic(auto, unfolding(crate::specs::Sets::EndsOwned))]
 fn end(owner: Owner) -> (Owner, Outcome)
-    ensures { EndsOwned Owner.Map owner result.0 result.1 }
+    ensures { EndsOwned Owner.Map LeavesMapReport owner result.0 result.1 }
 {
     let map = match owner {
         Owner::Map(map) => map,
@@ -147,8 +148,9 @@ fn end(owner: Owner) -> (Owner, Outcome)
     };
     match map.close() {
         Ok(left) => {
-            let MapReport { report, values: _ } = left;
-            (Owner::Ended(report), Outcome::Done)
+            let MapReport { report, values } = left;
+            let values = Some(values);
+            (Owner::Ended(Remains { report, values }), Outcome::Done)
         }
         Err(error) => (Owner::Map(error.map), Outcome::of_reason(error.reason)),
     }

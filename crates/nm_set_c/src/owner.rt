@@ -1,5 +1,6 @@
 //! What a handle owns.
-use nm_set::{Map, MapMember, Member, Report, Set};
+use crate::remains::Remains;
+use nm_set::{Map, MapMember, Member, Set};
 
 /// What a handle owns while it is open.
 #[derive(Drop)]
@@ -12,8 +13,8 @@ pub enum Owner {
     Map(Map),
     /// A worker of a map.
     MapWorker(MapMember),
-    /// The report that a set or a map was closed with.
-    Ended(Report),
+    /// The report that a set or a map was closed with, and the values of a map.
+    Ended(Remains),
     /// Nothing, while a call has what was owned.
     Nothing,
 }

@@ -1,4 +1,4 @@
-//! Calls on the report of a set that was closed, by its handle.
+//! Calls on the report of a set or a map that was closed, by its handle.
 #![tactic(auto, using(crate::proofs::Owners::told_of_report))]
 
 ghost use Rattle.std.specs.Prelude.{◌≡◌};
@@ -9,10 +9,10 @@ ghost use Rattle.nm_set_c.specs.Reports.{TellsSlots, TellsKeys, TellsKey, TellsQ
 
 use crate::handle::{Handle, by_handle};
 use crate::outcome::Outcome;
-use nm_set::Report;
+use crate::remains::Remains;
 use std::alloc::Global;
 
-/// A node that waited in a worker's queue when the set was closed.
+/// A node that waited in a worker's queue when the set or the map was closed.
 #[repr(C)]
 #[derive(Clone, Copy, Debug, Default, PartialEq, Eq)]
 pub struct Waiting {
@@ -38,8 +38,8 @@ pub extern "C" fn nm_report_slots(
         (held_by report.new)) result }
 {
     by_handle!(alloc, report, Ended(ended) => {
-        *free = ended.free;
-        *reached = ended.reached;
+        *free = ended.report.free;
+        *reached = ended.report.reached;
         Outcome::Done
     })
 }
@@ -51,7 +51,7 @@ pub extern "C" fn nm_report_keys(alloc: Global, report: &mut Handle, count: &mut
         (held_by report.new)) result }
 {
     by_handle!(alloc, report, Ended(ended) => {
-        *count = ended.keys.len() as u64;
+        *count = ended.report.keys.len() as u64;
         Outcome::Done
     })
 }
@@ -71,10 +71,10 @@ pub extern "C" fn nm_report_key(
     by_handle!(alloc, report, Ended(ended) => key_at(ended, index, key))
 }
 
-fn key_at(report: &mut Report, index: u64, key: &mut u64) -> Outcome
-    ensures { TellsKey index key.old key.new report.old report.new result }
+fn key_at(remains: &mut Remains, index: u64, key: &mut u64) -> Outcome
+    ensures { TellsKey index key.old key.new remains.old remains.new result }
 {
-    match report.keys.get(index as usize) {
+    match remains.report.keys.get(index as usize) {
         Some(found) => {
             *key = found.get();
             Outcome::Done
@@ -98,10 +98,10 @@ pub extern "C" fn nm_report_queue(
     by_handle!(alloc, report, Ended(ended) => queue_of(ended, worker, nodes))
 }
 
-fn queue_of(report: &mut Report, worker: u32, nodes: &mut u64) -> Outcome
-    ensures { TellsQueue worker nodes.old nodes.new report.old report.new result }
+fn queue_of(remains: &mut Remains, worker: u32, nodes: &mut u64) -> Outcome
+    ensures { TellsQueue worker nodes.old nodes.new remains.old remains.new result }
 {
-    match report.queues.get(worker as usize) {
+    match remains.report.queues.get(worker as usize) {
         Some(held) => {
             *nodes = u64::from(held.queue.len());
             Outcome::Done
@@ -125,10 +125,10 @@ pub extern "C" fn nm_report_waiting(
     by_handle!(alloc, report, Ended(ended) => oldest(ended, worker, waiting))
 }
 
-fn oldest(report: &mut Report, worker: u32, waiting: &mut Waiting) -> Outcome
-    ensures { TakesOldest worker waiting.old waiting.new report.old report.new result }
+fn oldest(remains: &mut Remains, worker: u32, waiting: &mut Waiting) -> Outcome
+    ensures { TakesOldest worker waiting.old waiting.new remains.old remains.new result }
 {
-    let Some(held) = report.queues.get_mut(worker as usize) else {
+    let Some(held) = remains.report.queues.get_mut(worker as usize) else {
         return Outcome::Number;
     };
     let Some(entry) = held.queue.pop() else {

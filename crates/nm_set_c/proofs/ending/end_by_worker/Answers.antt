@@ -1,10 +1,11 @@
 use Rattle.std.proofs.Common.{refl, subst, inl, inr}
+use Rattle.std.specs.Prelude.{None}
 use Rattle.nm_set.specs.Ends.{IsNotEnded}
 use Rattle.nm_set.specs.declared.ending.EndError.{EndError}
 use Rattle.nm_set_c.proofs.ending.end_by_worker.Goals as goal
 
 pub returns-in-Ok : goal.returns-in-Ok
-returns-in-Ok c = inl (c.in-Worker.member, c.in-Worker.is, inl (refl, c.in-Ok.report, refl, c.in-Ok.ensures.ended))
+returns-in-Ok c = inl (c.in-Worker.member, c.in-Worker.is, inl (refl, record { report = c.in-Ok.report; values = None }, refl, (c.in-Ok.ensures.ended, refl)))
 
 pub returns-in-Err-Gathered : goal.returns-in-Err-Gathered
 returns-in-Err-Gathered c =
