@@ -260,7 +260,8 @@ class Keys(MutableSet):  # type: ignore[type-arg]
         """Returns an iterator over the keys from `minimum` to `maximum`, in the way of `__iter__`:
         ascending, or descending if `reverse`."""
         first, below = ends_of(minimum, maximum, inclusive)
-        return each_scanned(self._calls.scan, first, below, reverse)
+        # The iterator refers to the set, which would close if nothing did.
+        return each_scanned(lambda *read: self._calls.scan(*read), first, below, reverse)
 
     def count_range(
         self,

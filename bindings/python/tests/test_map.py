@@ -38,6 +38,10 @@ def ended(references: list[weakref.ref[Value]]) -> int:
 
 
 class Answers(unittest.TestCase):
+    def test_an_iterator_keeps_its_map_open(self) -> None:
+        self.assertEqual(list(iter(Map({3: "c", 1: "a"}))), [1, 3])
+        self.assertEqual(list(iter(Map({3: "c", 1: "a"}).values())), ["a", "c"])
+
     def test_a_map_answers_like_a_dict(self) -> None:
         chance, wanted = random.Random(7), dict[int, int]()
         with Map[int](4_096, workers=2) as found:

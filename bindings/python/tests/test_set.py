@@ -141,6 +141,12 @@ class InOrder(unittest.TestCase):
             with self.assertRaises(KeyError):
                 numbers.pop_last()
 
+    def test_an_iterator_keeps_its_set_open(self) -> None:
+        for count in (1, 100):
+            self.assertEqual(list(iter(Set(range(count)))), list(range(count)))
+            self.assertEqual(list(reversed(Set(range(count)))), list(range(count))[::-1])
+            self.assertEqual(list(Set(range(count)).irange(1)), list(range(1, count)))
+
     def test_a_list_is_read_in_blocks(self) -> None:
         for count, blocks in ((0, 1), (7, 1), (9, 2), (73, 3), (100, 3), (1_000, 4)):
             with Set(range(count), nodes=4_096) as numbers:
