@@ -1,28 +1,10 @@
 /* For bench/churn: inserts after churn, whose instructions valgrind counts. Arguments: how many
  * keys the set has, and how many inserts are counted. It prints how many inserts were true. */
+#include "counted.h"
 #include "nm_set.h"
-
-#include <stdint.h>
-#include <stdio.h>
-#include <stdlib.h>
 
 static nm_handle set = NM_CLOSED_HANDLE;
 static _Alignas(64) nm_handle worker = NM_CLOSED_HANDLE;
-
-/* The next random number (xorshift), from which a key is made. */
-static uint64_t next_random(void) {
-    static uint64_t random = 88172645463325252u;
-    random ^= random << 13;
-    random ^= random >> 7;
-    random ^= random << 17;
-    return random;
-}
-
-static void must(int is_so, const char *what) {
-    if (is_so) return;
-    fprintf(stderr, "bench/churn: %s\n", what);
-    exit(1);
-}
 
 /* valgrind counts what happens in here alone. */
 __attribute__((noinline)) int counted_insert(uint64_t key) {
@@ -33,9 +15,6 @@ static void pop(void) {
     uint64_t key;
     must(nm_worker_pop_first(&worker, &nm_default_options, &key) == NM_YES, "a pop found no key");
 }
-
-/* A random key below 2^63: the three greatest numbers are no keys. */
-static uint64_t random_key(void) { return next_random() >> 1; }
 
 int main(int count, char **words) {
     if (count != 3) return 2;

@@ -1,31 +1,14 @@
 /* For bench/values: calls for keys that are there, whose instructions valgrind counts. Arguments: the
  * call, how many keys there are, and how many calls are counted. It prints how many calls found their
  * key, with its value if the call returns one. */
+#include "counted.h"
 #include "nm_set.h"
 
-#include <stdint.h>
-#include <stdio.h>
-#include <stdlib.h>
 #include <string.h>
 
 static nm_handle owner = NM_CLOSED_HANDLE;
 static _Alignas(64) nm_handle worker = NM_CLOSED_HANDLE;
 static uint64_t *keys;
-
-/* The next random number (xorshift), from which a key is made. */
-static uint64_t next_random(void) {
-    static uint64_t random = 88172645463325252u;
-    random ^= random << 13;
-    random ^= random >> 7;
-    random ^= random << 17;
-    return random;
-}
-
-static void must(int is_so, const char *what) {
-    if (is_so) return;
-    fprintf(stderr, "bench/values: %s\n", what);
-    exit(1);
-}
 
 static uint64_t value_of(uint64_t key) { return key ^ 5; }
 
@@ -68,13 +51,13 @@ static const struct call *named(const char *name) {
     return NULL;
 }
 
-/* Makes a set or a map of random keys below 2^63, in four times as many nodes. */
+/* Makes a set or a map of random keys, in four times as many nodes. */
 static void fill(int is_map, uint64_t count) {
     uint32_t nodes = (uint32_t)(4 * count + 4096);
     must((is_map ? nm_map_new : nm_set_new)(&owner, nodes, 4) == NM_DONE, "no memory for the nodes");
     must((is_map ? nm_map_worker : nm_set_worker)(&owner, &worker, 0) == NM_DONE, "no worker");
     for (uint64_t at = 0; at < count; at++) {
-        uint64_t key = keys[at] = next_random() >> 1;
+        uint64_t key = keys[at] = random_key();
         int made = is_map ? nm_map_insert(&worker, key, value_of(key), &nm_default_options)
                           : nm_worker_insert(&worker, key, &nm_default_options);
         must(made == NM_YES, "a fill failed");
