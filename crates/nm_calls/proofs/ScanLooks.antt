@@ -32,7 +32,7 @@ use Rattle.nm_walks.specs.declared.looking.Onward.{Onward}
 use Rattle.nm_calls.specs.declared.fault.CallFault.{CallFault}
 use Rattle.nm_calls.specs.declared.fault.CallFault.TheVariants as fault
 use Rattle.nm_calls.specs.declared.scanning.Scanned.{Scanned}
-use Rattle.nm_calls.specs.declared.scanning.Stretch.{Stretch}
+use Rattle.nm_calls.specs.declared.stretches.Stretch.{Stretch}
 use Rattle.nm_calls.specs.NearKeys.{IsPast, Lies, bound}
 use Rattle.nm_calls.specs.PlainWalks.{GivesUpUnderPin, HasEndedAt, HasEndedSo, HasPassed, LooksUnderPin, WasSo, most_looks}
 use Rattle.nm_calls.specs.Scans.{AfterScan, Chooses, GiveUp, HasFoundNone, HasRouter, HasStoppedShort, Keeps, IsFull, IsIn, IsRangeBy, IsStretch, IsTooFar, StopsShort, beyond, count_of, end_of, entry_of, exit_of, found_in, leg_looks, most_keys, stretch_over}

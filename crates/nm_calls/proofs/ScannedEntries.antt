@@ -19,7 +19,7 @@ use Rattle.nm_walks.specs.Telling.{GoesOn}
 use Rattle.nm_calls.specs.declared.fault.CallFault.{CallFault}
 use Rattle.nm_calls.specs.declared.map_scanning.MapEntry.{MapEntry}
 use Rattle.nm_calls.specs.declared.scanning.Scanned.{Scanned}
-use Rattle.nm_calls.specs.declared.scanning.Stretch.{Stretch}
+use Rattle.nm_calls.specs.declared.stretches.Stretch.{Stretch}
 use Rattle.nm_calls.specs.MapScans.{EndsAt, HadEntries, HadEntry, HasReadEntry, IsLeafOf, keys_of, leaf_in, leaf_of}
 use Rattle.nm_calls.specs.Scans.{IsStretch}
 use Rattle.nm_walks.proofs.GoingOn.{goes_then}

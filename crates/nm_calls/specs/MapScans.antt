@@ -9,9 +9,9 @@ use Rattle.nm_walks.specs.Telling.{GoesOn}
 use Rattle.nm_calls.specs.declared.fault.CallFault.{CallFault}
 use Rattle.nm_calls.specs.declared.map_scanning.MapEntry.{MapEntry}
 use Rattle.nm_calls.specs.declared.scanning.Scanned.{Scanned}
-use Rattle.nm_calls.specs.declared.scanning.Stretch.{Stretch}
-use Rattle.nm_calls.specs.declared.scanning.What.{What}
-use Rattle.nm_calls.specs.declared.scanning.What.TheVariants.{Keys, Entries}
+use Rattle.nm_calls.specs.declared.stretches.Stretch.{Stretch}
+use Rattle.nm_calls.specs.declared.scan_plan.What.{What}
+use Rattle.nm_calls.specs.declared.scan_plan.What.TheVariants.{Keys, Entries}
 use Rattle.nm_calls.specs.Maps.{HasReadValue, WasMapped}
 use Rattle.nm_calls.specs.PlainWalks.{HasEndedAt}
 

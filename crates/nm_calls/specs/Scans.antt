@@ -14,7 +14,7 @@ use Rattle.nm_epoch.specs.Resting.{IsResting, KeepsHands}
 use Rattle.nm_calls.specs.declared.fault.CallFault.{CallFault}
 use Rattle.nm_calls.specs.declared.fault.CallFault.TheVariants as fault
 use Rattle.nm_calls.specs.declared.scanning.Scanned.{Scanned}
-use Rattle.nm_calls.specs.declared.scanning.Stretch.{Stretch}
+use Rattle.nm_calls.specs.declared.stretches.Stretch.{Stretch}
 use Rattle.nm_calls.specs.InTurns.{GiveUp as GiveUpInTurns}
 use Rattle.nm_calls.specs.NearKeys.{IsPast, Lies, bound}
 use Rattle.nm_calls.specs.PlainWalks.{GivesUpUnderPin, HasEndedSo, HasPassed, LooksUnderPin, PlainMissed, WasSo}

@@ -13,7 +13,9 @@ mod lookup;
 mod many;
 mod map_scanning;
 mod near_key;
+mod scan_plan;
 mod scanning;
+mod stretches;
 mod values;
 
 pub use deleting::{Deletion, Unfinished, delete, finish};

@@ -17,7 +17,8 @@ ghost use Rattle.nm_walks.specs.Bounds.{reach};
 ghost use Rattle.nm_walks.specs.Telling.{Tells, GoesOn, OnlyLooks, IsPinnedIn};
 
 use crate::fault::CallFault;
-use crate::scanning::{Scanned, What, scan_pinned};
+use crate::scan_plan::What;
+use crate::scanning::{Scanned, scan_pinned};
 use nm_edge::{Key, Side};
 use nm_epoch::{pin, unpin};
 use nm_steps::{Pass, Shared};

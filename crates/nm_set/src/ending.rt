@@ -34,18 +34,7 @@ impl Member {
         ensures ended { IfOk result (EndsMember self) }
         ensures refused { IfErr result (IsNotEnded self) }
     {
-        match self.end_tree() {
-            Ok(ended) => {
-                let Ended {
-                    report,
-                    leaves: _,
-                    words: _,
-                    nodes: _,
-                } = ended;
-                Ok(report)
-            }
-            Err(error) => Err(error),
-        }
+        Ok(self.end_tree()?.into_report())
     }
 
     /// Ends the set, like `end`, and returns its words too, with the values of a map among them.

@@ -270,18 +270,7 @@ impl Set {
         ensures closed { IfOk result (EndsSet self) }
         ensures refused { IfErr result (λ e. IsLeftOpen self e.reason e.set) }
     {
-        match self.end() {
-            Ok(ended) => {
-                let Ended {
-                    report,
-                    leaves: _,
-                    words: _,
-                    nodes: _,
-                } = ended;
-                Ok(report)
-            }
-            Err(error) => Err(error),
-        }
+        Ok(self.end()?.into_report())
     }
 
     /// Ends the set, like `close`, and returns its words too, with the values of a map among them.

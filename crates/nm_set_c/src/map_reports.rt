@@ -11,12 +11,11 @@ ghost use Rattle.nm_set_c.specs.Owners.{OfReport};
 use crate::handle::{Handle, by_handle};
 use crate::outcome::Outcome;
 use crate::remains::Remains;
-use nm_set::{Entry, HeldQueue};
-use nm_tree::MapValues;
+use nm_set::{Entry, HeldQueue, MapValues};
 use std::alloc::Global;
 
 /// Writes the value under the key at an index of a map's report, from 0 on: `MapValues::of_key` of
-/// `nm_tree`. Returns `Done`. Errors: `Number`: there are not that many keys. `Kind`: also if the
+/// `nm_set`. Returns `Done`. Errors: `Number`: there are not that many keys. `Kind`: also if the
 /// report is that of a set. `Closed`, `InUse`.
 #[unsafe(no_mangle)]
 pub extern "C" fn nm_map_report_value(
@@ -48,7 +47,7 @@ fn value_at(remains: &mut Remains, index: u64, value: &mut u64) -> Outcome
 
 /// Takes the oldest leaf out of a worker's queue in a map's report, and the internal node before it,
 /// which was cut off with it. Returns `Yes` and writes the value of the leaf: `MapValues::of_slot` of
-/// `nm_tree`. Returns `No` if no node waits any more. Errors: `Number`: there is no such worker.
+/// `nm_set`. Returns `No` if no node waits any more. Errors: `Number`: there is no such worker.
 /// `Kind`: also if the report is that of a set. `Closed`, `InUse`.
 #[unsafe(no_mangle)]
 pub extern "C" fn nm_map_report_returned(

@@ -1,6 +1,5 @@
 //! What is left of a set or a map that was closed.
-use nm_set::Report;
-use nm_tree::MapValues;
+use nm_set::{MapValues, Report};
 
 /// What is left of a set or a map that was closed.
 #[derive(Drop)]

@@ -12,6 +12,7 @@ use std::marker::Brand;
 impl Shared {
     /// Returns the value of a slot: the one that was stored last for it, or 0. The look is in no
     /// log.
+    #[inline(always)]
     pub fn look_value(&self, pass: &mut Pass, slot: u32) -> u64
         requires own { IsOf self.now pass.old }
         requires values { HasValues self.now }
@@ -39,6 +40,7 @@ impl Shared {
     }
 
     /// Returns the number of the word of a slot's value.
+    #[inline(always)]
     fn value_word(&self, slot: u32) -> usize
         requires { IsSlot self.now.layout slot }
         ensures { result ≡ value_word self.now slot }

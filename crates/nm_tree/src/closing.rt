@@ -70,6 +70,21 @@ pub struct Ended {
     pub nodes: u32,
 }
 
+impl Ended {
+    /// Returns the report, and drops the words.
+    pub fn into_report(self) -> Report
+        ensures { result ≡ self.report }
+    {
+        let Self {
+            report,
+            leaves: _,
+            words: _,
+            nodes: _,
+        } = self;
+        report
+    }
+}
+
 impl Tree {
     /// Closes the tree and all its workers, and returns what is left. The workers may be given in
     /// any order. A caller may have pinned them, and keys may be pending. A worker that resigned is
@@ -90,18 +105,7 @@ impl Tree {
             (λ e. IsCloseReason self workers.items e.reason × (e.tree ≡ self)
             × (e.workers.items ≡ workers.items)) }
     {
-        match self.end(workers) {
-            Ok(ended) => {
-                let Ended {
-                    report,
-                    leaves: _,
-                    words: _,
-                    nodes: _,
-                } = ended;
-                Ok(report)
-            }
-            Err(error) => Err(error),
-        }
+        Ok(self.end(workers)?.into_report())
     }
 
     /// Closes the tree and all its workers, like `close`, and returns its words too. The values of a

@@ -67,8 +67,8 @@ impl Shared {
 
     /// Lets the pass hear a note: from now on, what it has seen of turns and of stores extends what
     /// the note has seen and what the pass itself had seen. So in the one run, all later turns of the
-    /// pass come after all turns that the note's pass had seen. It reads the epoch's word once; it is no step, and no
-    /// log records it.
+    /// pass come after all turns that the note's pass had seen. It reads the epoch's word once. This
+    /// is no step, and no log records it.
     pub fn hear(&self, pass: &mut Pass, note: Note)
         requires own { IsOf self.now pass.old }
         requires table { note.table ≡ self.now.table }

@@ -1,6 +1,6 @@
 use Rattle.std.proofs.Common.{◌≡◌, ◌<◌, ◌+◌, ◌++◌, ◌∷◌, [], length, subst, sym, take}
 use Rattle.std.specs.Prelude.{slice_set}
-use Rattle.nm_calls.specs.declared.scanning.What.{What}
+use Rattle.nm_calls.specs.declared.scan_plan.What.{What}
 use Rattle.nm_calls.specs.MapScans.{keys_in, leaf_of}
 use Rattle.nm_calls.proofs.ScannedEntries.{key_more}
 use Rattle.nm_calls.proofs.scanning.put.Goals as goal

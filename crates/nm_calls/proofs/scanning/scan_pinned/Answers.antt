@@ -3,7 +3,7 @@ use Rattle.std.specs.Prelude.{length, take}
 use Rattle.nm_edge.specs.declared.edge.Side.{Side}
 use Rattle.nm_order.specs.Facts.Fact.{KnowsSlot}
 use Rattle.nm_walks.specs.Bounds.{reach}
-use Rattle.nm_calls.specs.declared.scanning.What.{What}
+use Rattle.nm_calls.specs.declared.scan_plan.What.{What}
 use Rattle.nm_calls.specs.MapScans.{keys_in}
 use Rattle.nm_calls.specs.NearKeys.{bound}
 use Rattle.nm_calls.specs.PlainWalks.{HasEndedSo}

@@ -3,7 +3,7 @@ use Rattle.std.specs.Prelude.{All, length, take}
 use Rattle.nm_walks.specs.AddedLooks.{AddsLooks}
 use Rattle.nm_walks.specs.Bounds.{reach}
 use Rattle.nm_walks.specs.Telling.{GoesOn, OnlyLooks}
-use Rattle.nm_calls.specs.declared.scanning.What.TheVariants.{Entries}
+use Rattle.nm_calls.specs.declared.scan_plan.What.TheVariants.{Entries}
 use Rattle.nm_calls.specs.MapScans.{EndsAt, IsLeafOf, keys_in}
 use Rattle.nm_calls.specs.PlainWalks.{HasEndedSo}
 use Rattle.nm_calls.specs.Scans.{IsRangeBy, IsStretch, entry_of, leg_looks}

@@ -4,7 +4,7 @@ use Rattle.nm_walks.proofs.GoingOn.{goes_then, only_then, pinned_in_still}
 use Rattle.nm_calls.specs.MapScans.{EndsAt}
 use Rattle.nm_calls.proofs.PlainLooks.{looks_in, looks_then, no_looks}
 use Rattle.nm_calls.proofs.ScanLooks.{goes_here, only_here, stretch_sooner, too_far}
-use Rattle.nm_calls.proofs.scanning.walk_down.Goals as goal
+use Rattle.nm_calls.proofs.stretches.walk_down.Goals as goal
 
 pub loop-node-init : goal.loop-node-init
 loop-node-init c =

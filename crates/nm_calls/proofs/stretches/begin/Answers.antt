@@ -1,7 +1,7 @@
 use Rattle.std.proofs.Common.{sym, subst}
 use Rattle.nm_calls.specs.Scans.{IsStretch}
 use Rattle.nm_calls.proofs.ScanLooks.{stretch_begins}
-use Rattle.nm_calls.proofs.scanning.begin.Goals as goal
+use Rattle.nm_calls.proofs.stretches.begin.Goals as goal
 
 pub returns-clause-walks : goal.returns-clause-walks
 returns-clause-walks c =

@@ -3,10 +3,10 @@ use Rattle.std.specs.Prelude.{All}
 use Rattle.nm_walks.specs.Bounds.{reach}
 use Rattle.nm_walks.specs.AddedLooks.{AddsLooks}
 use Rattle.nm_walks.specs.Telling.{GoesOn, OnlyLooks}
-use Rattle.nm_calls.specs.declared.scanning.What.TheVariants.{Entries}
+use Rattle.nm_calls.specs.declared.scan_plan.What.TheVariants.{Entries}
 use Rattle.nm_calls.specs.MapScans.{EndsAt}
 use Rattle.nm_calls.specs.Scans.{IsStretch, entry_of}
-use Rattle.nm_calls.proofs.scanning.walk_down.Given as goal
+use Rattle.nm_calls.proofs.stretches.walk_down.Given as goal
 
 abbrev pub invariant-loop-node : goal.invariant-loop-node
 invariant-loop-node l = record {

@@ -5,7 +5,7 @@ use Rattle.nm_model.specs.declared.event.Event.TheVariants.{Look}
 use Rattle.nm_model.specs.declared.event.Field.TheVariants.{Edge as EdgeOn}
 use Rattle.nm_model.specs.declared.reply.Reply.TheVariants.{EdgeIs}
 use Rattle.nm_order.specs.Facts.Fact.{KnowsSlot}
-use Rattle.nm_calls.specs.declared.scanning.Stretch.{Stretch}
+use Rattle.nm_calls.specs.declared.stretches.Stretch.{Stretch}
 use Rattle.nm_calls.specs.PlainWalks.{HasEndedAt}
 use Rattle.nm_calls.specs.Scans.{IsStretch}
 use Rattle.nm_steps.specs.Steps.{Stepped}
@@ -14,8 +14,8 @@ use Rattle.nm_walks.specs.Walks.{IsLeafRead, Reads}
 use Rattle.nm_walks.proofs.PlainLooks.{read_added}
 use Rattle.nm_calls.proofs.PlainLooks.{look_added}
 use Rattle.nm_calls.proofs.ScanLooks.{chosen, leaf_on, leaf_right, lower_still, stretch_on, stretch_sooner, stretches_still, upper_on}
-use Rattle.nm_calls.proofs.scanning.read_on.Goals as goal
-use Rattle.nm_calls.proofs.scanning.read_on.Goals.{then-is_null-via-then-is_null, then-is_null-via-else-is_null+then-on-stretch, then-is_null-via-else-is_null+else-on-stretch+then-stretch-on}
+use Rattle.nm_calls.proofs.stretches.read_on.Goals as goal
+use Rattle.nm_calls.proofs.stretches.read_on.Goals.{then-is_null-via-then-is_null, then-is_null-via-else-is_null+then-on-stretch, then-is_null-via-else-is_null+else-on-stretch+then-stretch-on}
 
 pub read_node-on-requires-clause-known : goal.read_node-on-requires-clause-known
 read_node-on-requires-clause-known c = subst (λ (x : ℕ). Tells c.args.pass.now (KnowsSlot x)) (sym c.slot-node.ensures) c.requires.known
