@@ -44,3 +44,5 @@ pub mod LeavesInHands
 pub mod StoredLeaves
 pub mod OneStore
 pub mod HandedStores
+pub mod StayingValues
+pub mod ManyValues

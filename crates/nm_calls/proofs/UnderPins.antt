@@ -139,6 +139,14 @@ quiet_stays w (t ∷ ts) none' left = by (quiet_stays w ts (let sum = sizes in o
     by rest (inl now) = let both = and_parts (t.worker == w) (departs t.event t.outcome) now in its t.outcome refl both.0 both.1
     by rest (inr later) = rest later
 
+-- nor has it left in more turns, by which its log has not grown
+pub stays_longer : (w : ℕ) (now more rest : List Turn) → length (part_of w (now ++ more)) ≡ length (part_of w now) → (HasLeft w rest → ⊥) → HasLeft w (rest ++ more) → ⊥
+stays_longer w now more rest same stays left = by (or_cases (list_any (leaves w) rest) (list_any (leaves w) more) (sym (list_any-append (leaves w) rest more) ∙ left))
+  where
+    by : (list_any (leaves w) rest ≡ true) ⊎ (list_any (leaves w) more ≡ true) → ⊥
+    by (inl early) = stays early
+    by (inr late) = quiet_stays w more (let sum = part_append w now more in omega (arith, sum, same)) late
+
 -- what a worker got under its pin, in more turns, by which its log has not grown
 pub got_longer : (L : Layout) (now more : List Turn) (stores : List Stored) (w k v : ℕ) → length (part_of w (now ++ more)) ≡ length (part_of w now) → WasMappedUnderPin L now stores w k (Some v) → WasMappedUnderPin L (now ++ more) stores w k (Some v)
 got_longer L now more stores w k v same got = record {
@@ -146,11 +154,7 @@ got_longer L now more stores w k v same got = record {
   rest = got.rest ++ more;
   are = ap (λ (ts : List Turn). ts ++ more) got.are ∙ append_assoc got.so_far got.rest more;
   pinned = got.pinned;
-  stays = λ left. by (or_cases (list_any (leaves w) got.rest) (list_any (leaves w) more) (sym (list_any-append (leaves w) got.rest more) ∙ left));
+  stays = stays_longer w now more got.rest same got.stays;
   gives = got.gives;
   stored = holds_longer L got.so_far now (now ++ more) stores (record { more = more; is = refl }) got.stored;
 }
-  where
-    by : (list_any (leaves w) got.rest ≡ true) ⊎ (list_any (leaves w) more ≡ true) → ⊥
-    by (inl early) = got.stays early
-    by (inr late) = quiet_stays w more (let sum = part_append w now more in omega (arith, sum, same)) late

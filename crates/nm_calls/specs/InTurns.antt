@@ -1,5 +1,5 @@
 -- Look-ups of several keys under one pin, whose walks take turns.
-use Rattle.std.specs.Prelude.{◌≡◌, ◌≢◌, ◌==◌, ◌+◌, ◌*◌, ◌≤◌, ℕ, suc, false, List, length, map, All, Contains, Result, IfOk, IfErr}
+use Rattle.std.specs.Prelude.{◌≡◌, ◌≢◌, ◌==◌, ◌+◌, ◌*◌, ◌≤◌, ℕ, suc, true, false, List, length, map, All, Contains, Result, IfOk, IfErr}
 use Rattle.nm_edge.specs.Keys.{IsKey}
 use Rattle.nm_edge.specs.Layouts.{Layout}
 use Rattle.nm_model.specs.Walks.{Entry}
@@ -10,29 +10,39 @@ use Rattle.nm_calls.specs.declared.fault.CallFault.{CallFault}
 use Rattle.nm_calls.specs.declared.fault.CallFault.TheVariants as fault
 use Rattle.nm_walks.specs.declared.looking.Onward.{Onward}
 use Rattle.nm_calls.specs.declared.many.Query.{Query}
+use Rattle.nm_calls.specs.declared.scan_plan.What.{What}
+use Rattle.nm_calls.specs.declared.scan_plan.What.TheVariants.{Keys, Entries}
 use Rattle.nm_walks.specs.Bounds.{reach}
 use Rattle.nm_walks.specs.Telling.{Tells}
 pub use Rattle.nm_walks.specs.AddedLooks.{AddsLooks}
-pub use Rattle.nm_calls.specs.PlainWalks.{LooksUnderPin, PlainMissed, HasPassed, HasEndedSo, WasSo, most_looks}
+pub use Rattle.nm_calls.specs.PlainWalks.{LooksUnderPin, PlainMissed, HasPassed, HasEndedAt, HasEndedSo, WasSo, most_looks}
 use Rattle.nm_walks.specs.WonCounts.{won_splices}
 use Rattle.nm_calls.specs.Won.{HasWon}
 
 -- after at least n nodes the walk of the query has reached a known node, which it reads next; or it
--- has no node to read, and has ended with its answer (Natarajan and Mittal, section 3.2)
-pub record IsUnderWay (n : ℕ) (p : PassView) (q : Query) : Type 0 where
+-- has no node to read, and has ended with its answer. If values are looked up, the query has the leaf
+-- with the key (Natarajan and Mittal, section 3.2)
+pub record IsUnderWay (what : What) (n : ℕ) (p : PassView) (q : Query) : Type 0 where
   pub is_key : IsKey q.key
   pub comes : q.node ≢ 0 → HasPassed n p.view.log q.key q.node
   pub known : q.node ≢ 0 → Tells p (KnowsSlot q.node)
   pub ends : q.node ≡ 0 → HasEndedSo p q.key q.found
+  pub leaf : what ≡ Entries → q.node ≡ 0 → q.found ≡ true → HasEndedAt p q.key q.value
 
 -- the query is at the beginning of its walk, which reads this node first (Natarajan and Mittal,
 -- section 3.2)
 abbrev pub HasBegun : ℕ → Query → Type 0
 HasBegun first q = IsKey q.key × (q.node ≡ first)
 
+-- the slot that the query keeps when its walk reads its node: for a value, that of the node
+abbrev pub slot_kept : What → Query → ℕ
+slot_kept Keys q = q.value
+slot_kept Entries q = q.node
+
 -- the query after its walk has read its node (Natarajan and Mittal, section 3.2)
-abbrev pub query_read : Query → Onward → Query
-query_read q on = record { key = q.key; found = on.found == q.key; node = on.next.slot }
+abbrev pub query_read : What → Query → Onward → Query
+query_read what q on =
+    record { key = q.key; found = on.found == q.key; value = slot_kept what q; node = on.next.slot }
 
 abbrev pub key_of : Query → ℕ
 key_of q = q.key

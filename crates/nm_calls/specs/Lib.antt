@@ -18,4 +18,5 @@ pub mod HandedBack
 pub mod ComingBack
 pub mod OnceBack
 pub mod GotValues
+pub mod ValuesInTurns
 pub mod StoredLeaves

@@ -11,6 +11,7 @@ mod laws;
 mod leaving;
 mod lookup;
 mod many;
+mod map_many;
 mod map_scanning;
 mod near_key;
 mod scan_plan;
@@ -31,6 +32,7 @@ pub use laws::{
 pub use leaving::leave;
 pub use lookup::has;
 pub use many::{Query, has_many};
+pub use map_many::get_many_pinned;
 pub use map_scanning::{MapEntry, scan_with_values};
 pub use near_key::{nearest, nearest_with_value};
 pub use scanning::{Scanned, scan};

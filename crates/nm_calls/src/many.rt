@@ -10,18 +10,23 @@ ghost use Rattle.nm_walks.specs.Bounds.{reach};
 ghost use Rattle.nm_walks.specs.Telling.{Tells, GoesOn, OnlyLooks, IsPinnedIn};
 
 use crate::fault::CallFault;
+use crate::scan_plan::What;
 use nm_edge::{Key, Layout, Side};
 use nm_epoch::{pin, unpin};
 use nm_steps::{Pass, Shared};
 use nm_walks::{Onward, look_edge, reach, read_node};
 
-/// A key that is looked up together with others, and its answer, which is valid after `has_many`
+/// A key that is looked up together with others, and its answer, which is valid after the call for it
 /// has succeeded.
 #[derive(Clone, Copy, Debug)]
 pub struct Query {
     pub key: Key,
     /// Whether the set had the key.
     pub found: bool,
+    /// The value that a map had under the key, if its values were looked up and the key was found.
+    /// Otherwise it means nothing.
+    // Until then it is the slot of the leaf at which the walk has ended.
+    pub value: u64,
     // The node that its walk reads next; 0 if there is none.
     node: u32,
 }
@@ -34,6 +39,7 @@ impl Query {
         Query {
             key,
             found: false,
+            value: 0,
             node: 0,
         }
     }
@@ -71,7 +77,7 @@ pub fn has_many(
     let Ok(_epoch) = pin(shared, pass, tries) else {
         return Err(CallFault::Busy);
     };
-    let ended = walk_all(shared, pass, queries);
+    let ended = walk_all(shared, pass, What::Keys, queries);
     pass.know_run();
     unpin(shared, pass);
     if ended { Ok(()) } else { Err(CallFault::Busy) }
@@ -79,12 +85,18 @@ pub fn has_many(
 
 /// Walks for each of these keys, in turns, until all walks have ended. Returns false if one of them
 /// has looked at as many nodes as there are, which never happens in a radix tree.
-fn walk_all(shared: &Shared, pass: &mut Pass, queries: &mut [Query]) -> bool
+#[inline(always)]
+pub(crate) fn walk_all(
+    shared: &Shared,
+    pass: &mut Pass,
+    what: What,
+    queries: &mut [Query],
+) -> bool
     requires pinned { IsPinnedIn shared.now pass.old }
     requires known { Tells pass.old (KnowsSlot 2) }
     ensures looks { AddsLooks (most_looks (reach shared.now.layout) (length queries.old))
         pass.old.view.log pass.new.view.log }
-    ensures under_way { All (IsUnderWay 0 pass.new) queries.new }
+    ensures under_way { All (IsUnderWay what 0 pass.new) queries.new }
     ensures ended { result ≡ true → All (λ q. q.node ≡ 0) queries.new }
     ensures given_up { result ≡ false → GiveUp shared.now.layout (map key_of queries.old)
         pass.old.view.log pass.new.view.log }
@@ -100,7 +112,7 @@ fn walk_all(shared: &Shared, pass: &mut Pass, queries: &mut [Query]) -> bool
         if have_ended(queries) {
             return true;
         }
-        take_turns(shared, layout, pass, queries);
+        take_turns(shared, layout, pass, what, queries);
     }
     have_ended(queries)
 }
@@ -117,30 +129,38 @@ fn begin_each(queries: &mut [Query], first: u32)
 }
 
 /// Takes each walk one node further, if it has not ended.
-fn take_turns(shared: &Shared, layout: Layout, pass: &mut Pass, queries: &mut [Query])
+#[inline(always)]
+fn take_turns(
+    shared: &Shared,
+    layout: Layout,
+    pass: &mut Pass,
+    what: What,
+    queries: &mut [Query],
+)
     requires layout { layout ≡ shared.now.layout }
     requires pinned { IsPinnedIn shared.now pass.old }
-    requires under_way { All (IsUnderWay 0 pass.old) queries.old }
+    requires under_way { All (IsUnderWay what 0 pass.old) queries.old }
     ensures looks { AddsLooks (3 * length queries.old) pass.old.view.log pass.new.view.log }
-    ensures under_way { (n : ℕ) → All (IsUnderWay n pass.old) queries.old
-        → All (IsUnderWay (n + 1) pass.new) queries.new }
+    ensures under_way { (n : ℕ) → All (IsUnderWay what n pass.old) queries.old
+        → All (IsUnderWay what (n + 1) pass.new) queries.new }
     ensures keys { map key_of queries.new ≡ map key_of queries.old }
     ensures on { GoesOn pass.old pass.new }
     ensures only { OnlyLooks pass.old pass.new }
 {
     for index in 0..queries.len() {
-        take_turn(shared, layout, pass, &mut queries[index]);
+        take_turn(shared, layout, pass, what, &mut queries[index]);
     }
 }
 
 /// Takes a walk one node further, if it has not ended. Cost: at most three looks.
-fn take_turn(shared: &Shared, layout: Layout, pass: &mut Pass, query: &mut Query)
+#[inline(always)]
+fn take_turn(shared: &Shared, layout: Layout, pass: &mut Pass, what: What, query: &mut Query)
     requires layout { layout ≡ shared.now.layout }
     requires pinned { IsPinnedIn shared.now pass.old }
-    requires under_way { IsUnderWay 0 pass.old query.old }
+    requires under_way { IsUnderWay what 0 pass.old query.old }
     ensures looks { AddsLooks 3 pass.old.view.log pass.new.view.log }
-    ensures under_way { (n : ℕ) → IsUnderWay n pass.old query.old
-        → IsUnderWay (n + 1) pass.new query.new }
+    ensures under_way { (n : ℕ) → IsUnderWay what n pass.old query.old
+        → IsUnderWay what (n + 1) pass.new query.new }
     ensures key { query.new.key ≡ query.old.key }
     ensures on { GoesOn pass.old pass.new }
     ensures only { OnlyLooks pass.old pass.new }
@@ -149,16 +169,21 @@ fn take_turn(shared: &Shared, layout: Layout, pass: &mut Pass, query: &mut Query
         return;
     }
     let on = read_node(shared, layout, pass, query.node, query.key.get());
-    read_so(query, &on);
+    read_so(what, query, &on);
 }
 
-/// Records in the query what its walk has read. It writes two words, and not the whole query,
+/// Records in the query what its walk has read. It writes two or three words, and not the whole query,
 /// because each turn of each walk calls it.
-fn read_so(query: &mut Query, on: &Onward)
-    ensures query { query.new ≡ query_read query.old on.now }
+#[inline(always)]
+fn read_so(what: What, query: &mut Query, on: &Onward)
+    ensures query { query.new ≡ query_read what query.old on.now }
     ensures key { IsKey query.old.key }
 {
     query.found = on.found == query.key.get();
+    match what {
+        What::Keys => {}
+        What::Entries => query.value = u64::from(query.node),
+    }
     query.node = on.next.slot();
 }
 
@@ -171,6 +196,7 @@ fn begun_at(query: &Query, first: u32) -> Query
     Query {
         key: query.key,
         found: false,
+        value: 0,
         node: first,
     }
 }

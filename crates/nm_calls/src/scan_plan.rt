@@ -11,7 +11,7 @@ use nm_edge::{INFINITY_0, Key, Side};
 /// The largest number of keys that one scan returns, because its worker is pinned until it ends.
 pub(crate) const MOST_KEYS: usize = 1_024;
 
-/// What a scan writes: the keys that it finds, or entries of a map with these keys.
+/// What a call writes: the keys that it finds, or entries of a map with these keys.
 #[derive(Clone, Copy, Debug, PartialEq, Eq)]
 pub(crate) enum What {
     Keys,

@@ -11,12 +11,13 @@ use Rattle.nm_walks.specs.Bounds.{reach}
 use Rattle.nm_calls.specs.Maps.{HasTaken, MapGave}
 use Rattle.nm_calls.specs.PlainWalks.{most_looks}
 use Rattle.nm_calls.specs.Won.{HasWon}
+use Rattle.nm_calls.specs.declared.many.Query.{Query}
 use Rattle.nm_calls.specs.declared.fault.CallFault.{CallFault}
 use Rattle.nm_calls.specs.declared.fault.CallFault.TheVariants as fault
 use Rattle.nm_epoch.specs.declared.answers.Advance.{Advance}
 use Rattle.nm_epoch.specs.declared.handing.HandedOut.{HandedOut}
 use Rattle.nm_tree.specs.Answers.{FailsAlone}
-use Rattle.nm_tree.specs.Calls.{LeavesAdvance, LeavesPinnedGet}
+use Rattle.nm_tree.specs.Calls.{LeavesAdvance, LeavesPinnedGet, LeavesPinnedGetMany}
 use Rattle.nm_tree.specs.Handing.{LeavesCollectValues}
 use Rattle.nm_tree.specs.Workers.{WorkerView}
 use Rattle.nm_set.specs.declared.fault.PinnedGetFault.{PinnedGetFault}
@@ -54,7 +55,7 @@ IsMapNotEnded m (Attached n) = n ≡ m
 IsMapNotEnded m (Gathered e) = HasGathered (set_of m) e.reason e.map
 
 -- the result of a look-up under the caller's pin, which can fail for one reason alone
-abbrev pub of_pinned : Result (Option ℕ) CallFault → Result (Option ℕ) PinnedGetFault
+abbrev pub of_pinned : {A : Type 0} → Result A CallFault → Result A PinnedGetFault
 of_pinned (Ok found) = Ok found
 of_pinned (Err f) = Err getting.Busy
 
@@ -65,6 +66,13 @@ abbrev pub SaysPinnedGet : Layout → ℕ → WorkerView → WorkerView → Resu
 SaysPinnedGet L k w z (Ok found) = LeavesPinnedGet L k w z (Ok found)
 SaysPinnedGet L k w z (Err getting.Busy) = LeavesPinnedGet L k w z (Err fault.Busy)
 SaysPinnedGet L k w z (Err getting.NotPinned) = (w.held ≡ None) × (z ≡ w)
+
+-- the same for a call for the values of several queries, from the old ones to the new ones
+abbrev pub SaysPinnedGetMany : Layout → List Query → List Query → WorkerView → WorkerView
+    → Result (Unit {0}) PinnedGetFault → Type 0
+SaysPinnedGetMany L old new w z (Ok u) = LeavesPinnedGetMany L old new w z (Ok u)
+SaysPinnedGetMany L old new w z (Err getting.Busy) = LeavesPinnedGetMany L old new w z (Err fault.Busy)
+SaysPinnedGetMany L old new w z (Err getting.NotPinned) = (w.held ≡ None) × (z ≡ w) × (new ≡ old)
 
 -- ---- managed calls
 

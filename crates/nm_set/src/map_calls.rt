@@ -5,16 +5,16 @@ ghost use Rattle.nm_calls.specs.Maps.{HasPut, HasTaken};
 ghost use Rattle.nm_tree.specs.Answers.{IfTaken};
 ghost use Rattle.nm_tree.specs.Calls.{LeavesGet};
 ghost use Rattle.nm_set.specs.Asked.{Asked, SaysTryInsert, SaysTryRemove};
-ghost use Rattle.nm_set.specs.Maps.{FindsValue, HandsInto, SaysPinnedGet, of_pinned};
+ghost use Rattle.nm_set.specs.Maps.{FindsValue, HandsInto, SaysPinnedGet, SaysPinnedGetMany, of_pinned};
 ghost use Rattle.nm_set.specs.NextKeys.{AskedNext, AskedPrev};
 
 use crate::fault::PinnedGetFault;
 use crate::member::Member;
 use nm_edge::Key;
-use nm_tree::{CallFault, HandedOut};
+use nm_tree::{CallFault, HandedOut, Query};
 
 /// Converts the result of a look-up under the caller's pin.
-fn of_pinned(answer: Result<Option<u64>, CallFault>) -> Result<Option<u64>, PinnedGetFault>
+fn of_pinned<T>(answer: Result<T, CallFault>) -> Result<T, PinnedGetFault>
     ensures { result ≡ of_pinned answer }
 {
     match answer {
@@ -144,6 +144,24 @@ impl Member {
             return Err(PinnedGetFault::NotPinned);
         }
         let answer = self.home.tree().get_pinned(&mut self.sealed.worker, key);
+        of_pinned(answer)
+    }
+
+    /// Looks up the value of each of these keys, under the caller's pin: `Tree::get_many_pinned` of
+    /// `nm_tree`.
+    pub(crate) fn get_values_pinned(&mut self, queries: &mut [Query]) -> Result<(), PinnedGetFault>
+        requires values { HasValues self.old.tree }
+        ensures tree { self.new.tree ≡ self.old.tree }
+        ensures says { SaysPinnedGetMany self.old.tree.layout queries.old queries.new self.old.worker
+            self.new.worker result }
+    {
+        if self.sealed.worker.held().is_none() {
+            return Err(PinnedGetFault::NotPinned);
+        }
+        let answer = self
+            .home
+            .tree()
+            .get_many_pinned(&mut self.sealed.worker, queries);
         of_pinned(answer)
     }
 

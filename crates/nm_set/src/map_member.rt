@@ -16,7 +16,7 @@ ghost use Rattle.nm_tree.specs.Workers.{WorkerView, IsBetweenCalls, IsLedger, wa
 ghost use Rattle.nm_set.specs.Asked.{Asked, AskedToPin, AskedToUnpin, SaysTryInsert, SaysTryRemove, SaysGoOn};
 ghost use Rattle.nm_set.specs.InTurns.{AskedMany};
 ghost use Rattle.nm_set.specs.Managed.{SaysManaged};
-ghost use Rattle.nm_set.specs.Maps.{FindsValue, HandsInto, SaysPinnedGet};
+ghost use Rattle.nm_set.specs.Maps.{FindsValue, HandsInto, SaysPinnedGet, SaysPinnedGetMany};
 ghost use Rattle.nm_set.specs.NextKeys.{AskedNext, AskedPrev};
 ghost use Rattle.nm_set.specs.Posts.{IsReturned, IsSentBack, IsTallyOf, ReadsNote};
 ghost use Rattle.nm_set.specs.Scanning.{AskedScan};
@@ -352,6 +352,20 @@ impl MapMember {
             result }
     {
         self.member.get_value_pinned(key)
+    }
+
+    /// Looks up the value of each of these keys like `get_pinned`, and writes the answers into their
+    /// `found` and `value`: `Tree::get_many_pinned` of `nm_tree`. Proved (`says`): each answer was right
+    /// at a moment of the caller's pin. No value that it finds comes back before `unpin`.
+    ///
+    /// Errors: no answer means anything then. `NotPinned`: the caller has not pinned the worker; the
+    /// queries are unchanged. `Busy`: see `PinnedGetFault`.
+    pub fn get_many_pinned(&mut self, queries: &mut [Query]) -> Result<(), PinnedGetFault>
+        ensures tree { self.new.tree ≡ self.old.tree }
+        ensures says { SaysPinnedGetMany self.old.tree.layout queries.old queries.new self.old.worker
+            self.new.worker result }
+    {
+        self.member.get_values_pinned(queries)
     }
 
     /// Ends the caller's pin, in one step.

@@ -28,6 +28,7 @@ use Rattle.nm_calls.specs.Maps.{MapGave, MapGivesUnderPin}
 use Rattle.nm_calls.specs.Moments.{AnswerHasMoment}
 use Rattle.nm_calls.specs.NearKeys.{WasNear, GiveUp}
 use Rattle.nm_calls.specs.PlainWalks.{most_looks}
+use Rattle.nm_calls.specs.ValuesInTurns.{answer_of}
 use Rattle.nm_calls.specs.Won.{HasWon}
 use Rattle.nm_progress.specs.Alone.{IsAlone, RunsAlone}
 use Rattle.nm_progress.specs.Lookups.{WasBusy}
@@ -156,6 +157,22 @@ pub record LeavesPinnedGet (L : Layout) (k : ℕ) (w z : WorkerView) (r : Result
   pub did : AddsLooks (most_looks (reach L) 1) w.pass.view.log z.pass.view.log
   pub gave : IfErr r (λ e. (e ≡ fault.Busy) × GiveUpInTurns L (k ∷ []) w.pass.view.log z.pass.view.log)
   pub moment : IfOk r (MapGivesUnderPin z.pass k)
+  pub won : HasWon w.pass.view.log z.pass.view.log 0 0
+  pub place : KeepsPlace w z
+  pub queues : z.queues ≡ w.queues
+  pub fit : z.fit ≡ w.fit
+
+-- `LeavesPinnedGetMany`: the same for a look-up of the values of several queries, from the old ones to
+-- the new ones
+pub record LeavesPinnedGetMany (L : Layout) (old new : List Query) (w z : WorkerView)
+    (r : Result (Unit {0}) CallFault) : Type 0 where
+  pub same : IsSamePass w.pass z.pass
+  pub past : HasSeenAllOf z.pass w.pass
+  pub did : AddsLooks (most_looks (reach L) (length old)) w.pass.view.log z.pass.view.log
+  pub gave : IfErr r
+      (λ e. (e ≡ fault.Busy) × GiveUpInTurns L (map key_of old) w.pass.view.log z.pass.view.log)
+  pub keys : map key_of new ≡ map key_of old
+  pub moment : IfOk r (λ u. All (λ q. MapGivesUnderPin z.pass q.key (answer_of q)) new)
   pub won : HasWon w.pass.view.log z.pass.view.log 0 0
   pub place : KeepsPlace w z
   pub queues : z.queues ≡ w.queues

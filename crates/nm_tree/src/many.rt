@@ -1,9 +1,12 @@
 //! Look-ups of several keys under one pin.
-ghost use Rattle.nm_tree.specs.Calls.{MayCall, LeavesHasMany};
+ghost use Rattle.std.specs.Prelude.{IsSome};
+ghost use Rattle.nm_steps.specs.Steps.{IsOf};
+ghost use Rattle.nm_steps.specs.Values.{HasValues};
+ghost use Rattle.nm_tree.specs.Calls.{MayCall, LeavesHasMany, LeavesPinnedGetMany};
 
 use crate::tree::Tree;
 use crate::worker::{Standing, Worker};
-use nm_calls::{CallFault, Query, has_many};
+use nm_calls::{CallFault, Query, get_many_pinned, has_many};
 
 impl Tree {
     /// Looks up each of these keys, and writes the answers into their `found`. It walks for all
@@ -44,5 +47,33 @@ impl Tree {
         let answer = has_many(&self.shared, &mut worker.pass, queries, tries);
         worker.pass.know_run();
         answer
+    }
+
+    /// Looks up the value of each of these keys like `get_pinned`, for a worker that its caller has
+    /// pinned, and writes the answers into their `found` and `value`. It walks for all keys in turns,
+    /// like `has_many`. Proved (`moment`): each answer was right at a moment of that pin. Two answers
+    /// may have different moments. The keys are unchanged. Takes no memory. The tree must have values.
+    ///
+    /// So no value that the call finds comes back by `collect_values` before `unpin`.
+    ///
+    /// Errors: no answer means anything then. `Busy`: one of the walks had looked at as many nodes as
+    /// there are, and had not ended. In a radix tree this never happens (`gave`).
+    ///
+    /// Cost: at most one step, 3 `reach` for each key, and a look at each value. A walk's reach is 66
+    /// nodes in a radix tree, and the number of nodes otherwise. (The search of Natarajan and Mittal,
+    /// section 3.2.)
+    pub fn get_many_pinned(
+        &self,
+        worker: &mut Worker,
+        queries: &mut [Query],
+    ) -> Result<(), CallFault>
+        requires own { IsOf self.now worker.old.pass }
+        requires values { HasValues self.now }
+        requires held { IsSome worker.old.held }
+        ensures { LeavesPinnedGetMany self.now.layout queries.old queries.new worker.old worker.new
+            result }
+    {
+        worker.pass.know_run();
+        get_many_pinned(&self.shared, &mut worker.pass, queries)
     }
 }

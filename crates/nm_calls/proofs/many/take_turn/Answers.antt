@@ -11,9 +11,9 @@ returns-clause-under_way c n under_way =
     let q = c.read_node-on.new.pass in
     let query = c.args.query.now in
     let on = c.read_node-on.result in
-    subst (IsUnderWay (n + 1) q) (sym c.read_so.ensures.query)
-    (gone_on p q n query on (subst (λ k. Reads k query.node p.view.log q.view.log on) c.get.ensures.number c.read_node-on.ensures.looks)
+    subst (IsUnderWay c.args.what (n + 1) q) (sym c.read_so.ensures.query)
+    (gone_on c.args.what p q n query on (subst (λ k. Reads k query.node p.view.log q.view.log on) c.get.ensures.number c.read_node-on.ensures.looks)
     (subst (λ k. OnwardTold p q k query.node on.found on.side on.next) c.get.ensures.number c.read_node-on.ensures.told) under_way c.if-query-eq0.false)
 
 pub returns-then-query-eq0-clause-under_way : goal.returns-then-query-eq0-clause-under_way
-returns-then-query-eq0-clause-under_way c n under_way = ended_further c.args.pass.now n c.args.query.now c.if-query-eq0.true under_way
+returns-then-query-eq0-clause-under_way c n under_way = ended_further c.args.what c.args.pass.now n c.args.query.now c.if-query-eq0.true under_way

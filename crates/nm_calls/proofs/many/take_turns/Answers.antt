@@ -15,10 +15,10 @@ loop-index-preserved c =
     let did = c.take_turn.ensures in
     record {
       looks = looks_in (3 * (c.loop-index.index + 1)) o.view.log q.view.log (omega arith) (looks_then o.view.log p.view.log q.view.log held.looks did.looks);
-      under_way = turned p q did.looks did.on c.loop-index.queries c.loop-index.index (search rules) c.index-queries-index.result c.take_turn.new.query did.under_way 0 held.under_way;
+      under_way = turned c.args.what p q did.looks did.on c.loop-index.queries c.loop-index.index (search rules) c.index-queries-index.result c.take_turn.new.query did.under_way 0 held.under_way;
       further = λ n all. (
-        turned p q did.looks did.on c.loop-index.queries c.loop-index.index (search rules) c.index-queries-index.result c.take_turn.new.query did.under_way n (held.further n all).0,
-        turned_so_far p q did.looks did.on c.loop-index.queries c.loop-index.index (search rules) c.index-queries-index.result c.take_turn.new.query did.under_way n (held.further n all).0 (held.further n all).1,
+        turned c.args.what p q did.looks did.on c.loop-index.queries c.loop-index.index (search rules) c.index-queries-index.result c.take_turn.new.query did.under_way n (held.further n all).0,
+        turned_so_far c.args.what p q did.looks did.on c.loop-index.queries c.loop-index.index (search rules) c.index-queries-index.result c.take_turn.new.query did.under_way n (held.further n all).0 (held.further n all).1,
       );
       keys = map-set_same key_of c.loop-index.queries c.loop-index.index c.take_turn.new.query c.index-queries-index.result (search rules) ∙ held.keys;
       on = goes_then o p q held.on did.on;

@@ -22,14 +22,14 @@ loop-turn-init c =
     record {
       inside = omega (arith, some, size, layout);
       looks = looks_in _ o.view.log q.view.log (omega arith) (look_added o q 2 Left edge c.look_edge.ensures.step);
-      under_way = begun_so o q edge c.look_edge.ensures.step c.look_edge.ensures.told c.begin_each.new.queries (subst (λ n. All (HasBegun n) c.begin_each.new.queries) c.slot-first.ensures c.begin_each.ensures.begun);
+      under_way = begun_so c.args.what o q edge c.look_edge.ensures.step c.look_edge.ensures.told c.begin_each.new.queries (subst (λ n. All (HasBegun n) c.begin_each.new.queries) c.slot-first.ensures c.begin_each.ensures.begun);
       keys = c.begin_each.ensures.keys;
       on = c.look_edge.ensures.on;
       only = c.look_edge.ensures.only;
     }
 
 pub take_turns-requires-clause-under_way : goal.take_turns-requires-clause-under_way
-take_turns-requires-clause-under_way c = passed_any c.loop-turn.pass c.loop-turn._turn c.loop-turn.queries c.loop-turn.invariant.under_way
+take_turns-requires-clause-under_way c = passed_any c.args.what c.loop-turn.pass c.loop-turn._turn c.loop-turn.queries c.loop-turn.invariant.under_way
 
 pub loop-turn-preserved : goal.loop-turn-preserved
 loop-turn-preserved c =
@@ -54,10 +54,10 @@ loop-turn-preserved c =
     }
 
 pub returns-clause-under_way : goal.returns-clause-under_way
-returns-clause-under_way c = passed_any c.loop-turn.pass c.loop-turn._turn c.loop-turn.queries c.loop-turn.invariant.under_way
+returns-clause-under_way c = passed_any c.args.what c.loop-turn.pass c.loop-turn._turn c.loop-turn.queries c.loop-turn.invariant.under_way
 
 pub returns-then-have_ended-clause-under_way : goal.returns-then-have_ended-clause-under_way
-returns-then-have_ended-clause-under_way c = passed_any c.loop-turn.pass c.loop-turn._turn c.loop-turn.queries c.loop-turn.invariant.under_way
+returns-then-have_ended-clause-under_way c = passed_any c.args.what c.loop-turn.pass c.loop-turn._turn c.loop-turn.queries c.loop-turn.invariant.under_way
 
 pub returns-clause-given_up : goal.returns-clause-given_up
 returns-clause-given_up c none =
@@ -73,5 +73,5 @@ returns-clause-given_up c none =
     let layout = ap reach c.layout-layout.ensures in
     let below : c.loop-turn._turn < far = omega (arith, inside) in
     let few = mul_below c.loop-turn._turn far (3 * n) below in
-    given_up c.args.shared.now o.view.log p (pinned_in_still c.args.shared.now o p held.on c.requires.pinned) c.loop-turn._turn c.loop-turn.queries keys held.keys held.under_way (c.have_ended-2.ensures.goes_on none)
+    given_up c.args.what c.args.shared.now o.view.log p (pinned_in_still c.args.shared.now o p held.on c.requires.pinned) c.loop-turn._turn c.loop-turn.queries keys held.keys held.under_way (c.have_ended-2.ensures.goes_on none)
     (omega (arith, inside, end, size, layout)) (subst (λ (m : ℕ). AddsLooks (most_looks far m) o.view.log p.view.log) (sym (length-map c.args.queries.now key_of)) (looks_in (most_looks far n) o.view.log p.view.log (omega (arith, few)) held.looks))

@@ -10,6 +10,7 @@ use Rattle.nm_calls.specs.PlainWalks.{HasPassed}
 use Rattle.nm_calls.proofs.MapMoments.{ends_at}
 use Rattle.nm_calls.proofs.PlainLooks.{comes_first, comes_on, look_added, looks_in, looks_then}
 use Rattle.nm_calls.specs.declared.many.Query.{Query}
+use Rattle.nm_calls.specs.declared.scan_plan.What.TheVariants.{Keys}
 use Rattle.nm_calls.specs.InTurns.{IsUnderWay}
 use Rattle.nm_calls.proofs.InTurnsLooks.{given_up, one_of}
 use Rattle.nm_calls.proofs.values.find_leaf.Goals as goal
@@ -102,7 +103,7 @@ returns-clause-gave c =
     let end = c.loop-node-test.false in
     let size = c.reach-node-end.ensures.reach in
     let layout = ap reach c.layout-layout.ensures in
-    let query : Query = record { key = k; found = false; node = x } in
-    let under : IsUnderWay c.loop-node._node p query = record { is_key = c.requires.key; comes = λ some. held.came; known = λ some. held.known; ends = λ none. absurd (held.some none) } in
-    given_up c.args.shared.now o.view.log p (pinned_in_still c.args.shared.now o p held.on c.requires.pinned) c.loop-node._node (query ∷ []) (k ∷ []) refl (one_of (IsUnderWay c.loop-node._node p) query under) (0, omega arith, λ _. held.some)
+    let query : Query = record { key = k; found = false; value = 0; node = x } in
+    let under : IsUnderWay Keys c.loop-node._node p query = record { is_key = c.requires.key; comes = λ some. held.came; known = λ some. held.known; ends = λ none. absurd (held.some none); leaf = λ values none. absurd (held.some none) } in
+    given_up Keys c.args.shared.now o.view.log p (pinned_in_still c.args.shared.now o p held.on c.requires.pinned) c.loop-node._node (query ∷ []) (k ∷ []) refl (one_of (IsUnderWay Keys c.loop-node._node p) query under) (0, omega arith, λ _. held.some)
     (omega (arith, inside, end, size, layout)) (looks_in _ o.view.log p.view.log (omega (arith, inside)) held.looks)

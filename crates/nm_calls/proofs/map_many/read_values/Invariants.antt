@@ -1,0 +1,16 @@
+use Rattle.std.proofs.Common.{◌≡◌, length, map}
+use Rattle.std.specs.List.{AllWithin}
+use Rattle.nm_walks.specs.Telling.{GoesOn, OnlyLooks}
+use Rattle.nm_calls.specs.InTurns.{key_of}
+use Rattle.nm_calls.specs.ValuesInTurns.{HasAnswer, HasWalked}
+use Rattle.nm_calls.proofs.map_many.read_values.Given as goal
+
+abbrev pub invariant-loop-index : goal.invariant-loop-index
+invariant-loop-index l = record {
+  answers : AllWithin (HasAnswer l.pass) l.queries 0 l.index;
+  unread : AllWithin (HasWalked l.pass) l.queries l.index (length l.fn.queries);
+  keys : map key_of l.queries ≡ map key_of l.fn.queries;
+  log : l.pass.view.log ≡ l.fn.pass.view.log;
+  on : GoesOn l.fn.pass l.pass;
+  only : OnlyLooks l.fn.pass l.pass;
+}
