@@ -86,12 +86,7 @@ pub fn has_many(
 /// Walks for each of these keys, in turns, until all walks have ended. Returns false if one of them
 /// has looked at as many nodes as there are, which never happens in a radix tree.
 #[inline(always)]
-pub(crate) fn walk_all(
-    shared: &Shared,
-    pass: &mut Pass,
-    what: What,
-    queries: &mut [Query],
-) -> bool
+pub(crate) fn walk_all(shared: &Shared, pass: &mut Pass, what: What, queries: &mut [Query]) -> bool
     requires pinned { IsPinnedIn shared.now pass.old }
     requires known { Tells pass.old (KnowsSlot 2) }
     ensures looks { AddsLooks (most_looks (reach shared.now.layout) (length queries.old))
@@ -130,13 +125,7 @@ fn begin_each(queries: &mut [Query], first: u32)
 
 /// Takes each walk one node further, if it has not ended.
 #[inline(always)]
-fn take_turns(
-    shared: &Shared,
-    layout: Layout,
-    pass: &mut Pass,
-    what: What,
-    queries: &mut [Query],
-)
+fn take_turns(shared: &Shared, layout: Layout, pass: &mut Pass, what: What, queries: &mut [Query])
     requires layout { layout ≡ shared.now.layout }
     requires pinned { IsPinnedIn shared.now pass.old }
     requires under_way { All (IsUnderWay what 0 pass.old) queries.old }

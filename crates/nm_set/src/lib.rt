@@ -39,7 +39,8 @@ pub use map_member::{MapMember, MapResignError, ReturnedMapWorker};
 pub use member::{Member, ResignError};
 pub use nm_tree::{
     Advance, Behind, CallFault, CloseReason, Collected, Counts, Entry, Fit, HandedOut, HeldQueue,
-    MapEntry, MapReport, MapValues, NewError, PinFault, Query, Report, ResignReason, Scanned, Tally,
+    MapEntry, MapReport, MapValues, NewError, PinFault, Query, Report, ResignReason, Scanned,
+    Tally,
 };
 pub use posting::{Stamp, letters_are_in_order};
 pub use returning::ReturnedWorker;
