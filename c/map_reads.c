@@ -144,13 +144,16 @@ static void several_keys_are_looked_up(void) {
         uint64_t key = at % SPAN;
         CHECK(lookups[at].key == key);
         CHECK(lookups[at].found == (key % 3 == 0 && key > 0 && key <= 3 * KEYS));
-        CHECK(!lookups[at].found || lookups[at].value == 100 * key);
+        CHECK(lookups[at].value == (lookups[at].found ? 100 * key : 0));
     }
     CHECK(nm_map_hold(&worker, &many, &epoch) == NM_DONE);
     CHECK(nm_map_get_many(&worker, lookups, 3, &many) == NM_PINNED);
     CHECK(nm_map_get_many_pinned(&worker, lookups + 3, 1) == NM_DONE && lookups[3].value == 300);
-    lookups[0].key = UINT64_MAX;
+    CHECK(nm_map_get_many_pinned(&worker, lookups, 0) == NM_DONE);
+    lookups[0] = (nm_map_lookup){3, 7, 7}, lookups[1] = (nm_map_lookup){UINT64_MAX, 7, 7};
     CHECK(nm_map_get_many_pinned(&worker, lookups, 2) == NM_KEY);
+    CHECK(lookups[0].found == 7 && lookups[0].value == 7 && lookups[1].found == 7);
+    lookups[0].key = UINT64_MAX;
     CHECK(nm_map_unpin(&worker) == NM_DONE);
     CHECK(nm_map_get_many(&worker, lookups, 1, &many) == NM_KEY);
     CHECK(nm_map_unpin(&worker) == NM_NOT_PINNED);

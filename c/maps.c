@@ -50,15 +50,18 @@ static void each_pop_tells(nm_handle *worker, const nm_options *options, nm_outc
 static void no_worker_of_a_map(nm_handle *handle, nm_outcome wanted) {
     uint64_t wide = NOT_WRITTEN, values[2] = {NOT_WRITTEN, NOT_WRITTEN};
     uint32_t narrow = NOT_WRITTEN;
+    nm_map_lookup lookup = {5, NOT_WRITTEN, NOT_WRITTEN};
     each_call_tells(handle, 5, wanted);
     each_pop_tells(handle, usual, wanted);
     CHECK(nm_map_reclaim(handle, values, 2, &wide, &narrow) == wanted);
     CHECK(nm_map_pin(handle, TRIES, &wide) == wanted && nm_map_unpin(handle) == wanted &&
-          nm_map_get_pinned(handle, 5, &wide) == wanted);
+          nm_map_get_pinned(handle, 5, &wide) == wanted &&
+          nm_map_get_many_pinned(handle, &lookup, 1) == wanted);
     CHECK(nm_map_number(handle, &narrow) == wanted && nm_map_queue_len(handle, &wide) == wanted &&
           nm_map_pending(handle, &wide) == wanted);
     CHECK(wide == NOT_WRITTEN && narrow == NOT_WRITTEN && values[0] == NOT_WRITTEN &&
           values[1] == NOT_WRITTEN);
+    CHECK(lookup.key == 5 && lookup.found == NOT_WRITTEN && lookup.value == NOT_WRITTEN);
 }
 
 /* Checks that each call on a map returns the wanted outcome, and opens no handle. */

@@ -165,15 +165,6 @@ nm_outcome nm_map_count(nm_handle *worker, uint64_t from, uint64_t below, uint64
     return outcome == NM_NO ? NM_DONE : outcome;
 }
 
-nm_outcome nm_map_get_many_pinned(nm_handle *worker, nm_map_lookup *lookups, size_t count) {
-    for (size_t at = 0; at < count; at++) {
-        nm_outcome outcome = nm_map_get_pinned(worker, lookups[at].key, &lookups[at].value);
-        if (outcome < 0) return outcome;
-        lookups[at].found = outcome == NM_YES;
-    }
-    return NM_DONE;
-}
-
 nm_outcome nm_map_get_many(nm_handle *worker, nm_map_lookup *lookups, size_t count,
                            const nm_options *options) {
     nm_outcome outcome = NM_DONE;

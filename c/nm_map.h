@@ -126,21 +126,10 @@ nm_outcome nm_map_read_entries_back(nm_handle *worker, uint64_t from, uint64_t b
 nm_outcome nm_map_count(nm_handle *worker, uint64_t from, uint64_t below, uint64_t *count,
                         const nm_options *options);
 
-/* A look-up of nm_map_get_many: the key, whether the map had it (1 or 0), and then its value. */
-typedef struct nm_map_lookup {
-    uint64_t key;
-    uint64_t found;
-    uint64_t value;
-} nm_map_lookup;
-
-/* Looks up count keys, and writes the found and the value of each. It pins the worker for 64 keys
- * at a time. Returns NM_DONE. */
+/* Looks up count keys as nm_map_get_many_pinned does, under pins of its own: each is for 64 keys.
+ * Returns NM_DONE. After an error, the keys of earlier pins have their answers. */
 nm_outcome nm_map_get_many(nm_handle *worker, nm_map_lookup *lookups, size_t count,
                            const nm_options *options);
-
-/* Does the same for a caller that has pinned the worker. No value that it writes comes back before
- * nm_map_unpin. Errors: NM_NOT_PINNED, NM_KEY, NM_CLOSED, NM_KIND, NM_IN_USE. */
-nm_outcome nm_map_get_many_pinned(nm_handle *worker, nm_map_lookup *lookups, size_t count);
 
 /* ---- how many keys there are, and forks ----
  * The library does not count the keys of a map, and does not know of forks. A program that owns a

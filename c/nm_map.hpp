@@ -687,8 +687,9 @@ private:
         std::vector<detail::Found<T>> all;
         detail::in_memory([&] { lookups.reserve(wanted.size()), all.reserve(wanted.size()); });
         for (std::uint64_t key : wanted) lookups.push_back({key, 0, 0});
-        nm_outcome outcome =
-            ask([&](nm_handle *it) { return call(it, lookups.data(), lookups.size()); });
+        nm_map_lookup none{};
+        nm_map_lookup *at = lookups.empty() ? &none : lookups.data();
+        nm_outcome outcome = ask([&](nm_handle *it) { return call(it, at, lookups.size()); });
         auto wrong = std::find_if(wanted.begin(), wanted.end(),
                                   [](std::uint64_t key) { return key > most_key; });
         detail::answered_by_map(outcome, wrong != wanted.end() ? *wrong : 0);

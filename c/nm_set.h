@@ -177,6 +177,13 @@ typedef struct nm_entry {
     uint64_t value;
 } nm_entry;
 
+/* A key whose value nm_map_get_many_pinned looks up beside others. */
+typedef struct nm_map_lookup {
+    uint64_t key;    /* 0 to 2^64 - 4 */
+    uint64_t found;  /* 1 if the map had the key, else 0 */
+    uint64_t value;  /* the value under the key, or 0 if the map did not have the key */
+} nm_map_lookup;
+
 /* What a managed call may spend, and when it collects. */
 typedef struct nm_options {
     uint32_t tries;         /* the tries of each call of the tree; with fewer than 2 no remove
@@ -563,8 +570,8 @@ nm_outcome nm_map_reclaim(nm_handle *worker, uint64_t *values, size_t room, uint
                           uint32_t *behind);
 
 /* Pins the epoch for the caller, until nm_map_unpin, and writes it: no value that the map has now
- * comes back meanwhile. A pinned worker answers nm_map_get_pinned, and no other call for keys
- * (NM_PINNED). While it is pinned, no worker gets back a value that was removed after the pin.
+ * comes back meanwhile. A pinned worker answers nm_map_get_pinned and nm_map_get_many_pinned, and no
+ * other call for keys (NM_PINNED). While it is pinned, no worker gets back a value that was removed after the pin.
  * Returns NM_DONE. Errors: NM_BUSY: the epoch that was read last is written. NM_PENDING,
  * NM_PINNED. */
 nm_outcome nm_map_pin(nm_handle *worker, uint32_t tries, uint64_t *epoch);
@@ -576,6 +583,14 @@ nm_outcome nm_map_unpin(nm_handle *worker);
  * have the key, to a caller that has pinned the worker. The value does not come back before
  * nm_map_unpin. Errors: NM_NOT_PINNED. NM_BUSY, which no map of nm_map_new returns. NM_KEY. */
 nm_outcome nm_map_get_pinned(nm_handle *worker, uint64_t key, uint64_t *value);
+
+/* Looks up the values of count keys, which are one after the other in memory, for a caller that has
+ * pinned the worker. Returns NM_DONE and writes the found and the value of each. Each answer was right
+ * at a moment of the pin; two of them may have different moments. No value that it writes comes back
+ * before nm_map_unpin. The searches are interleaved, as those of nm_worker_contains_many. lookups is
+ * not null, even if count is 0. Errors: NM_KEY: one of the numbers is no key. NM_NOT_PINNED,
+ * NM_NO_MEMORY. NM_BUSY, which no map of nm_map_new returns. After an error nothing is written. */
+nm_outcome nm_map_get_many_pinned(nm_handle *worker, nm_map_lookup *lookups, size_t count);
 
 /* Finds the least key of the map that is not below key, or the greatest that is not above it. They
  * return like nm_worker_next and nm_worker_prev, and with NM_YES they write the value of the key that

@@ -74,9 +74,12 @@ static void insert_values(void) {
 static void get_values(void) {
     uint64_t keys[64], count, next;
     nm_entry entries[64];
+    nm_map_lookup lookups[64];
+    for (uint64_t key = 0; key < 64; key++) lookups[key].key = key;
     CHECK(nm_map_get(&map_worker, 7, &nm_default_options, &word) == NM_YES);
     CHECK(nm_map_pin(&map_worker, 64, &word) == NM_DONE &&
           nm_map_get_pinned(&map_worker, 7, &word) == NM_YES &&
+          nm_map_get_many_pinned(&map_worker, lookups, 64) == NM_DONE &&
           nm_map_unpin(&map_worker) == NM_DONE);
     CHECK(nm_map_scan(&map_worker, 0, UINT64_MAX, keys, 64, &count, &next, 64) == NM_YES &&
           nm_map_scan_back(&map_worker, 299, 0, keys, 64, &count, &next, 64) == NM_YES);

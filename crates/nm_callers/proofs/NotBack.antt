@@ -1,6 +1,6 @@
 -- A value that a worker got under its pin has not come back to another worker that it has heard.
-use Rattle.std.proofs.Common.{◌≡◌, ℕ, List, ◌++◌, length, sym, ap, subst, ◌∙◌}
-use Rattle.std.specs.Prelude.{Contains, IfOk, IfSome, None, Ok, Option, Result, Some}
+use Rattle.std.proofs.Common.{◌≡◌, ℕ, Bool, true, cond, List, ◌++◌, length, sym, ap, subst, ◌∙◌}
+use Rattle.std.specs.Prelude.{All, slice_index_or, Contains, IfOk, IfSome, None, Ok, Option, Result, Some}
 use Rattle.nm_edge.specs.Layouts.{Layout}
 use Rattle.nm_edge.specs.declared.node.NodeId.{NodeId}
 use Rattle.nm_model.specs.declared.trace.Turn.{Turn}
@@ -10,8 +10,10 @@ use Rattle.nm_steps.specs.declared.view.View.{View}
 use Rattle.nm_steps.specs.Rules.{Extends}
 use Rattle.nm_steps.specs.Steps.{HasHeard, HasSeenAllOf, PassView}
 use Rattle.nm_calls.specs.declared.fault.CallFault.{CallFault}
+use Rattle.nm_calls.specs.declared.many.Query.{Query}
 use Rattle.nm_calls.specs.GotValues.{got_leaf}
 use Rattle.nm_calls.specs.Maps.{MapGivesUnderPin, WasMappedUnderPin}
+use Rattle.nm_calls.specs.ValuesInTurns.{answer_of}
 use Rattle.nm_calls.proofs.UnderPins.{got_leaves_are_not_freed, got_longer, got_values_stay_out}
 use Rattle.nm_calls.proofs.Unheld.{freed_longer}
 use Rattle.nm_tree.specs.Running.{HasSeenTurns}
@@ -54,3 +56,11 @@ pub if_found : (p q : PassView) (o : View) (k : ℕ) (back : List ℕ) → HasSe
     → (r : Result (Option ℕ) CallFault) (found : Option ℕ) → IfSome found (λ v. r ≡ Ok (Some v)) → IfOk r (MapGivesUnderPin p k) → IfSome found (λ v. HasNotComeBack q.view k v o back)
 if_found p q o k back first seen heard on told returned r None is moment = tt
 if_found p q o k back first seen heard on told returned r (Some v) is moment = has_not_come_back p q o k v back first seen heard on told returned (subst (λ (x : Result (Option ℕ) CallFault). IfOk x (MapGivesUnderPin p k)) is moment)
+
+-- the same of each query that has found its key
+pub each_found : (p q : PassView) (o : View) (back : List ℕ) → HasSeenTurns p.view → HasSeenTurns q.view → HasHeard p q → HasSeenAllOf q p → Extends q.view.past o.past → ((u : ℕ) → Contains back u → HasComeBack o u)
+    → (xs : List Query) → All (λ x. MapGivesUnderPin p x.key (answer_of x)) xs → All (λ x. x.found ≡ true → HasNotComeBack q.view x.key x.value o back) xs
+each_found p q o back first seen heard on told returned xs moments i d below found =
+    let x : Query = slice_index_or xs i d in
+    has_not_come_back p q o x.key x.value first seen heard on told returned
+    (subst (λ (b : Bool). MapGivesUnderPin p x.key (cond b (Some x.value) None)) found (moments i d below))

@@ -64,7 +64,7 @@ pub use reading::look_where_told;
 pub use rejoining::{
     Rejoined, StayedLeaver, add_then_come_back, add_then_rejoin, finish_own_remove,
 };
-pub use returned_values::{GotBeside, get_while_collected, take_back};
+pub use returned_values::{GotBeside, get_many_while_collected, get_while_collected, take_back};
 pub use sets::{insert_then_end, insert_then_report};
 pub use sharing::{SharedTasks, add_tasks, share_tasks, take_tasks};
 pub use taken_values::{pin_then_get, put_then_take};

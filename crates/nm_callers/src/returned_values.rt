@@ -1,13 +1,13 @@
 //! A worker of a tree with values that takes back the values of removed keys, proved from the clauses of
 //! `nm_tree` and the page alone.
-ghost use Rattle.std.specs.Prelude.{ℕ, ◌≡◌, ◌≤◌, length, take, Contains, IfSome, IsSome, Ok, Some};
+ghost use Rattle.std.specs.Prelude.{ℕ, ◌≡◌, ◌≤◌, true, length, take, All, Contains, IfSome, IsSome, Ok, Some};
 ghost use Rattle.nm_steps.specs.Steps.{IsOf};
 ghost use Rattle.nm_steps.specs.Values.{HasValues};
 ghost use Rattle.nm_callers.specs.Returning.{HasComeBack, HasNotComeBack};
 
 use crate::trees::tell_worker;
 use nm_edge::Key;
-use nm_tree::{CallFault, Tree, Worker};
+use nm_tree::{CallFault, Query, Tree, Worker};
 
 /// Frees nodes, and writes the values that come back to `out`; returns how many there are. Proved, about
 /// each of them: a leaf was cut off that had this value, and the leaf is freed. Each worker that was
@@ -73,4 +73,34 @@ pub fn get_while_collected(
         found: found_value(found),
         back,
     }
+}
+
+/// Gets the values of several keys like `get_while_collected`, and returns how many values came back.
+/// Proved: of each key that was found, the leaf is not freed, and the value that was stored for it has
+/// not come back. `None`: a walk had looked at as many nodes as there are. Then no answer means
+/// anything, and no value was taken back.
+pub fn get_many_while_collected(
+    tree: &Tree,
+    reader: &mut Worker,
+    other: &mut Worker,
+    queries: &mut [Query],
+    out: &mut [u64],
+) -> Option<usize>
+    requires reader { IsOf tree.now reader.old.pass }
+    requires other { IsOf tree.now other.old.pass }
+    requires values { HasValues tree.now }
+    requires pinned { IsSome reader.old.held }
+    ensures pinned { IsSome reader.new.held }
+    ensures kept { IfSome result (λ n. All (λ q. q.found ≡ true → HasNotComeBack reader.new.pass.view
+        q.key q.value other.new.pass.view (take n out.new)) queries.new) }
+    ensures few { IfSome result (λ n. n ≤ length out.new) }
+{
+    if tree.get_many_pinned(reader, queries).is_err() {
+        return None;
+    }
+    reader.know_run();
+    let back = take_back(tree, other, out);
+    tell_worker(tree, other, reader);
+    reader.know_run();
+    Some(back)
 }

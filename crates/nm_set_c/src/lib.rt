@@ -20,6 +20,7 @@ mod managed;
 mod many;
 mod map_entries;
 mod map_epochs;
+mod map_many;
 mod map_reports;
 mod map_scanning;
 mod map_values;

@@ -1,11 +1,11 @@
 //! Look-ups of several keys together, by the handle of a worker.
 #![tactic(auto, using(crate::proofs::Owners::asked_of_owner))]
 
-ghost use Rattle.std.specs.Prelude.{◌≡◌, true, false, length, map, IfOk, IfErr};
+ghost use Rattle.std.specs.Prelude.{◌≡◌, ℕ, true, false, length, map, IfOk, IfErr};
 ghost use Rattle.nm_calls.specs.InTurns.{key_of};
 ghost use Rattle.nm_set.specs.InTurns.{AskedMany};
 ghost use Rattle.nm_set_c.specs.Handles.{held_by};
-ghost use Rattle.nm_set_c.specs.Lookups.{AreKeys, TellsContainsMany, IsUnasked, lookup_of, key_looked_up};
+ghost use Rattle.nm_set_c.specs.Lookups.{AreKeys, TellsContainsMany, IsUnasked, key_looked_up, lookup_of};
 ghost use Rattle.nm_set_c.specs.Outcomes.{IsCodeOf};
 ghost use Rattle.nm_set_c.specs.Owners.{HasDone, OfWorker};
 
@@ -15,6 +15,21 @@ use nm_edge::{Key, MOST_KEY};
 use nm_set::{CallFault, Member, Query};
 use std::alloc::Global;
 
+/// A key that is looked up beside others, with its answer, as C has it.
+pub(crate) trait Asking: Copy {
+    ghost number: { Self → ℕ };
+
+    ghost written: { Query → Self };
+
+    /// Returns the number to look up, which may be no key.
+    fn number(&self) -> u64
+        ensures { result ≡ number self.now };
+
+    /// Returns a query with its answer.
+    fn answered(query: &Query) -> Self
+        ensures { result ≡ written query.now };
+}
+
 /// A key that is looked up beside others, and whether it is in the set.
 #[repr(C)]
 #[derive(Clone, Copy, Debug)]
@@ -23,6 +38,23 @@ pub struct Lookup {
     pub key: u64,
     /// 1 if the set had the key, else 0.
     pub found: u64,
+}
+
+impl Asking for Lookup {
+    ghost number = { key_looked_up };
+
+    ghost written = { lookup_of };
+
+    fn number(&self) -> u64 {
+        self.key
+    }
+
+    fn answered(query: &Query) -> Lookup {
+        Lookup {
+            key: query.key.get(),
+            found: u64::from(query.found),
+        }
+    }
 }
 
 /// Looks up each of these keys: `Member::contains_many` of `nm_set`. Returns `Done`, and writes
@@ -50,7 +82,7 @@ fn contains_many(alloc: Global, member: &mut Member, lookups: &mut [Lookup], tri
     };
     match ask(member, &mut queries, tries) {
         Ok(()) => {
-            write_found(lookups, &queries);
+            write_answers(lookups, &queries);
             Outcome::Done
         }
         Err(fault) => Outcome::of_fault(fault),
@@ -67,18 +99,18 @@ fn ask(member: &mut Member, queries: &mut Vec<Query>, tries: u32) -> Result<(), 
 }
 
 /// Returns whether each of these numbers is a key.
-fn are_keys(lookups: &[Lookup]) -> bool
-    ensures yes { result ≡ true → AreKeys lookups.now }
-    ensures no { result ≡ false → AreKeys lookups.now → ⊥ }
+fn are_keys<A: Asking>(lookups: &[A]) -> bool
+    ensures yes { result ≡ true → AreKeys A.number lookups.now }
+    ensures no { result ≡ false → AreKeys A.number lookups.now → ⊥ }
 {
-    lookups.iter().all(|lookup| lookup.key <= MOST_KEY)
+    lookups.iter().all(|lookup| lookup.number() <= MOST_KEY)
 }
 
 /// Makes a query of each of these keys. Errors: `Key` if one of the numbers is no key, and else
 /// `NoMemory`.
-fn queries_of(alloc: Global, lookups: &[Lookup]) -> Result<Vec<Query>, Outcome>
-    ensures keys { IfOk result (λ v. map key_of v.items ≡ map key_looked_up lookups.now) }
-    ensures unasked { IfErr result (λ o. IsUnasked lookups.now o) }
+pub(crate) fn queries_of<A: Asking>(alloc: Global, lookups: &[A]) -> Result<Vec<Query>, Outcome>
+    ensures keys { IfOk result (λ v. map key_of v.items ≡ map A.number lookups.now) }
+    ensures unasked { IfErr result (λ o. IsUnasked A.number lookups.now o) }
 {
     if !are_keys(lookups) {
         return Err(Outcome::Key);
@@ -87,7 +119,7 @@ fn queries_of(alloc: Global, lookups: &[Lookup]) -> Result<Vec<Query>, Outcome>
         return Err(Outcome::NoMemory);
     };
     for lookup in lookups {
-        let Some(key) = Key::new(lookup.key) else {
+        let Some(key) = Key::new(lookup.number()) else {
             return Err(Outcome::Key);
         };
         if queries.push(Query::new(key)).is_err() {
@@ -98,20 +130,11 @@ fn queries_of(alloc: Global, lookups: &[Lookup]) -> Result<Vec<Query>, Outcome>
 }
 
 /// Writes each query with its answer.
-fn write_found(lookups: &mut [Lookup], queries: &[Query])
+pub(crate) fn write_answers<A: Asking>(lookups: &mut [A], queries: &[Query])
     requires { length queries.now ≡ length lookups.old }
-    ensures { lookups.new ≡ map lookup_of queries.now }
+    ensures { lookups.new ≡ map A.written queries.now }
 {
     for index in 0..lookups.len() {
-        lookups[index] = answered(&queries[index]);
-    }
-}
-
-fn answered(query: &Query) -> Lookup
-    ensures { result ≡ lookup_of query.now }
-{
-    Lookup {
-        key: query.key.get(),
-        found: u64::from(query.found),
+        lookups[index] = A::answered(&queries[index]);
     }
 }

@@ -1,6 +1,6 @@
 //! Look-ups of several keys by one call of a member.
 use nm_edge::Key;
-use nm_set::{CallFault, Fit, Query, Set};
+use nm_set::{CallFault, Fit, Map, PinnedGetFault, Query, Set};
 use std::process::Abort;
 use std::test::Fail;
 
@@ -51,5 +51,32 @@ fn keys_are_not_looked_up_where_nobody_may_be_asked(rt: HostRuntime) -> Result<(
     assert_eq!(rt; member.unpin(), Ok(()));
     assert_eq!(rt; member.contains_many(&mut queries, TRIES), Ok(()));
     assert_eq!(rt; (queries[0].found, queries[1].found), (false, false));
+    Ok(())
+}
+
+/// Under the caller's pin the values of several keys are found, and without a pin none is looked up.
+#[test]
+fn values_are_found_together_under_a_pin(rt: HostRuntime) -> Result<(), Fail> {
+    let map = Map::new(rt.alloc(), 64, 1)?;
+    let mut member = map.attach()?;
+    for number in 5..8u64 {
+        let inserted = member.try_insert(key(&rt, number), 10 * number, TRIES);
+        assert_eq!(rt; inserted, Ok(true));
+    }
+    let mut queries = [
+        Query::new(key(&rt, 7)),
+        Query::new(key(&rt, 4)),
+        Query::new(key(&rt, 5)),
+    ];
+    assert_eq!(rt;
+        member.get_many_pinned(&mut queries),
+        Err(PinnedGetFault::NotPinned)
+    );
+    let _ = member.pin(TRIES)?;
+    assert_eq!(rt; member.get_many_pinned(&mut queries), Ok(()));
+    assert_eq!(rt; (queries[0].found, queries[0].value), (true, 70));
+    assert_eq!(rt; queries[1].found, false);
+    assert_eq!(rt; (queries[2].found, queries[2].value), (true, 50));
+    assert_eq!(rt; member.unpin(), Ok(()));
     Ok(())
 }
