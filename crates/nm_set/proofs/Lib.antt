@@ -17,4 +17,4 @@ pub mod RunSums
 pub mod Rests
 pub mod FirstLooks
 pub mod Filled
-pub mod MapValues
+pub mod TreesWithValues

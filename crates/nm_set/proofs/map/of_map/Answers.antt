@@ -1,6 +1,6 @@
 use Rattle.std.proofs.Common.{◌≡◌, ◌∙◌, ℕ, suc, List, [], ◌∷◌, ◌++◌, append_assoc, length, length-append, sym, ap, subst, arith}
 use Rattle.nm_set.specs.Seats.{AreNewMembers, MemberView}
-use Rattle.nm_set.proofs.MapValues.{keeps_values}
+use Rattle.nm_set.proofs.TreesWithValues.{keeps_values}
 use Rattle.nm_set.proofs.map.of_map.Goals as goal
 
 pub of-requires : goal.of-requires

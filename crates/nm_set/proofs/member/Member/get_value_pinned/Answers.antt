@@ -1,7 +1,7 @@
 use Rattle.std.proofs.Common.{sym, subst}
 use Rattle.nm_set.specs.Maps.{SaysPinnedGet}
 use Rattle.nm_set.proofs.Inside.{of_member}
-use Rattle.nm_set.proofs.MapValues.{pinned_said}
+use Rattle.nm_set.proofs.TreesWithValues.{pinned_said}
 use Rattle.nm_set.proofs.member.Member.get_value_pinned.Goals as goal
 
 pub returns-clause-says : goal.returns-clause-says

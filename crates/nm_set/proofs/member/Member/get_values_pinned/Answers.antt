@@ -1,7 +1,7 @@
 use Rattle.std.proofs.Common.{sym, subst}
 use Rattle.nm_set.specs.Maps.{SaysPinnedGetMany}
 use Rattle.nm_set.proofs.Inside.{of_member}
-use Rattle.nm_set.proofs.MapValues.{pinned_many_said}
+use Rattle.nm_set.proofs.TreesWithValues.{pinned_many_said}
 use Rattle.nm_set.proofs.member.Member.get_values_pinned.Goals as goal
 
 pub returns-clause-says : goal.returns-clause-says
