@@ -6,6 +6,8 @@
 
 #include <string.h>
 
+enum { TOGETHER = 20 }; /* the keys of one call of nm_map_get_many_pinned */
+
 static nm_handle owner = NM_CLOSED_HANDLE;
 static _Alignas(64) nm_handle worker = NM_CLOSED_HANDLE;
 static uint64_t *keys;
@@ -31,6 +33,19 @@ __attribute__((noinline)) int counted_get_pinned(uint64_t key) {
     return nm_map_get_pinned(&worker, key, &value) == NM_YES && value == value_of(key);
 }
 
+/* Keeps the key, and looks up all that were kept once there are TOGETHER of them. */
+__attribute__((noinline)) int counted_get_many(uint64_t key) {
+    static nm_map_lookup lookups[TOGETHER];
+    static size_t kept;
+    lookups[kept++].key = key;
+    if (kept < TOGETHER) return 0;
+    int found = nm_map_get_many_pinned(&worker, lookups, TOGETHER) == NM_DONE;
+    for (size_t at = 0; at < TOGETHER; at++)
+        found = found && lookups[at].found && lookups[at].value == value_of(lookups[at].key);
+    kept = 0;
+    return found ? TOGETHER : 0;
+}
+
 __attribute__((noinline)) int counted_put(uint64_t key) {
     return nm_map_insert(&worker, key, 0, &nm_default_options) == NM_NO;
 }
@@ -39,9 +54,11 @@ static const struct call {
     const char *name;
     int (*make)(uint64_t key);
     int is_of_map;
+    int is_pinned;
 } calls[] = {
-    {"contains", counted_contains, 0}, {"insert", counted_insert, 0}, {"get", counted_get, 1},
-    {"get_pinned", counted_get_pinned, 1}, {"put", counted_put, 1},
+    {"contains", counted_contains, 0, 0}, {"insert", counted_insert, 0, 0},
+    {"get", counted_get, 1, 0},           {"get_pinned", counted_get_pinned, 1, 1},
+    {"get_many", counted_get_many, 1, 1}, {"put", counted_put, 1, 0},
 };
 
 static const struct call *named(const char *name) {
@@ -73,11 +90,11 @@ int main(int count, char **words) {
     must(keys != NULL, "no memory for the keys");
     fill(call->is_of_map, size);
     uint64_t epoch;
-    if (call->make == counted_get_pinned)
+    if (call->is_pinned)
         must(nm_map_pin(&worker, 64, &epoch) == NM_DONE, "the pin was lost");
     for (uint64_t made = 0; made < counted; made++) found += call->make(keys[next_random() % size]);
     printf("%llu\n", (unsigned long long)found);
-    if (call->make == counted_get_pinned) nm_map_unpin(&worker);
+    if (call->is_pinned) nm_map_unpin(&worker);
     nm_drop(&worker);
     nm_drop(&owner);
     free(keys);

@@ -8,6 +8,9 @@ SOURCES = os.path.dirname(os.path.realpath(__file__))
 TOP = os.path.join(SOURCES, "..", "..")
 OUT = os.path.join(TOP, "out", "peers")
 
+# The servers that make no call but look-ups.
+LOOKING = {"tbb", "pinned", "several"}
+
 
 def run(*words):
     """Runs a command, and ends the program with its output if it fails."""
@@ -82,8 +85,8 @@ class Server:
 
 def measured(servers, asked, row):
     """Of each server the rates of all rounds, by turns, where it can do what the row asks. The second
-    number of a row is how many of 100 calls are look-ups, and TBB's can make nothing else."""
-    found = {name: [] for name in servers if name != "tbb" or row[1] == 100}
+    number of a row is how many of 100 calls are look-ups, and some servers can make nothing else."""
+    found = {name: [] for name in servers if name not in LOOKING or row[1] == 100}
     for _ in range(asked.rounds):
         for name, rates in found.items():
             rates.append(servers[name].rate(*row, asked.millis))

@@ -43,6 +43,52 @@ struct ProvedMap : Proved<nm_map_new, nm_map_attach> {
     };
 };
 
+// The map, by a worker that unpins and pins again after every 64 look-ups.
+struct PinnedMap : ProvedMap {
+    using ProvedMap::ProvedMap;
+
+    struct Worker : ProvedMap::Worker {
+        using ProvedMap::Worker::Worker;
+        ~Worker() { unpin(); }
+        bool contains(Key key) {
+            Key value;
+            if (left == 0) pin_again(64);
+            left--;
+            return nm_map_get_pinned(&handle, key, &value) == NM_YES;
+        }
+        void pin_again(unsigned looks) {
+            std::uint64_t epoch;
+            unpin();
+            if (nm_map_hold(&handle, &nm_default_options, &epoch) != NM_DONE) std::abort();
+            is_pinned = true, left = looks;
+        }
+        void unpin() {
+            if (is_pinned) nm_map_unpin(&handle);
+            is_pinned = false;
+        }
+        unsigned left = 0;
+        bool is_pinned = false;
+    };
+};
+
+// The map, by calls that look up SEVERAL keys, each under a pin of its own.
+struct SeveralMap : ProvedMap {
+    using ProvedMap::ProvedMap;
+    static constexpr std::size_t SEVERAL = 16;
+
+    struct Worker : ProvedMap::Worker {
+        using ProvedMap::Worker::Worker;
+        bool contains(Key key) {
+            lookups[kept++].key = key;
+            if (kept < SEVERAL) return false;
+            kept = 0;
+            return nm_map_get_many(&handle, lookups, SEVERAL, &nm_default_options) == NM_DONE;
+        }
+        nm_map_lookup lookups[SEVERAL];
+        std::size_t kept = 0;
+    };
+};
+
 struct LockedMap {
     LockedMap(std::size_t, unsigned) {}
     std::mutex lock;
@@ -118,6 +164,8 @@ struct TbbMap {
 
 int named(const std::string &name) {
     if (name == "map") return serve<ProvedMap>();
+    if (name == "pinned") return serve<PinnedMap>();
+    if (name == "several") return serve<SeveralMap>();
     if (name == "locked") return serve<LockedMap>();
 #ifdef HAS_CDS
     if (name == "ellen") return serve_cds<EllenMap>();
