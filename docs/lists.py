@@ -30,7 +30,7 @@ KINDS = {
                          "nm_tree nm_set nm_set_c",
     "proofs alone": "nm_laws nm_order nm_theorem nm_progress",
     "tools": "nm_core nm_files nm_replay nm_serial nm_stress",
-    "tests, callers and benches": "nm_callers nm_tests refused_growths set_bench",
+    "tests, callers and benches": "nm_callers nm_tests refused_growths set_bench set_tests",
 }
 NO_CODE = re.compile(r"\s*(?:(?:pub )?(?:ghost )?use |(?:pub )?mod |#!?\[|;?$)")
 CONTRACT = re.compile(r"\b(?:(?:requires|ensures|invariant)(?: \w+)?|decreases|ghost [^{;]*) ?\{")
