@@ -31,44 +31,104 @@ mod taken_values;
 mod threads;
 mod trees;
 
-pub use alone::{
-    finish_then_look_alone, insert_alone, insert_beside_pending, insert_then_delete_alone,
-    insert_then_remove_alone, look_alone, look_many_alone, next_alone, pop_alone, pop_first_alone,
-    remove_beside_pending,
-};
-pub use arena::{read_object, reset_returned};
-pub use beside::{delete_beside, insert_beside, look_many_beside, next_beside, prev_beside};
-pub use coming_back::{WorkedTasks, work_and_return};
-pub use entries::{
-    list_back, list_due, look_back, look_next, put_or_find, take_due, take_first, take_last,
-    take_last_from, take_out,
-};
+pub use alone::finish_then_look_alone;
+pub use alone::insert_alone;
+pub use alone::insert_beside_pending;
+pub use alone::insert_then_delete_alone;
+pub use alone::insert_then_remove_alone;
+pub use alone::look_alone;
+pub use alone::look_many_alone;
+pub use alone::next_alone;
+pub use alone::pop_alone;
+pub use alone::pop_first_alone;
+pub use alone::remove_beside_pending;
+pub use arena::read_object;
+pub use arena::reset_returned;
+pub use beside::delete_beside;
+pub use beside::insert_beside;
+pub use beside::look_many_beside;
+pub use beside::next_beside;
+pub use beside::prev_beside;
+pub use coming_back::WorkedTasks;
+pub use coming_back::work_and_return;
+pub use entries::list_back;
+pub use entries::list_due;
+pub use entries::look_back;
+pub use entries::look_next;
+pub use entries::put_or_find;
+pub use entries::take_due;
+pub use entries::take_first;
+pub use entries::take_last;
+pub use entries::take_last_from;
+pub use entries::take_out;
 pub use filled::keys_then_report;
-pub use fresh::{Looked, look_first, look_in_fresh, look_in_new, look_in_new_of_one, look_only};
+pub use fresh::Looked;
+pub use fresh::look_first;
+pub use fresh::look_in_fresh;
+pub use fresh::look_in_new;
+pub use fresh::look_in_new_of_one;
+pub use fresh::look_only;
 pub use full::add_or_blame;
-pub use least::{Taken, take_at_once, take_both, take_in_threads};
+pub use least::Taken;
+pub use least::take_at_once;
+pub use least::take_both;
+pub use least::take_in_threads;
 pub use left_values::close_for_least;
-pub use letters::{Reading, Written, insert_while_read};
-pub use mapping::{PutAndGot, put_then_get, put_then_get_in_new};
-pub use maps::{get_alone, insert_then_get, insert_then_get_told};
-pub use members::{add_then_find, put_again, put_and_take, put_back, remove_then_miss, take_once};
-pub use others::{PutAndTaken, put_and_take_alone, put_and_take_in_new};
-pub use page::{
-    deleted_keys_are_deleted_once, deleted_keys_are_missed, inserted_keys_are_found,
-    inserted_keys_are_in_the_set, keys_are_the_acts, keys_that_nobody_inserts_are_missed,
-};
+pub use letters::Reading;
+pub use letters::Written;
+pub use letters::insert_while_read;
+pub use mapping::PutAndGot;
+pub use mapping::put_then_get;
+pub use mapping::put_then_get_in_new;
+pub use maps::get_alone;
+pub use maps::insert_then_get;
+pub use maps::insert_then_get_told;
+pub use members::add_then_find;
+pub use members::put_again;
+pub use members::put_and_take;
+pub use members::put_back;
+pub use members::remove_then_miss;
+pub use members::take_once;
+pub use others::PutAndTaken;
+pub use others::put_and_take_alone;
+pub use others::put_and_take_in_new;
+pub use page::deleted_keys_are_deleted_once;
+pub use page::deleted_keys_are_missed;
+pub use page::inserted_keys_are_found;
+pub use page::inserted_keys_are_in_the_set;
+pub use page::keys_are_the_acts;
+pub use page::keys_that_nobody_inserts_are_missed;
 pub use queue::take_two_tasks;
 pub use radix::look_in_radix;
-pub use ranges::{ReadTwice, read_alone, read_range, read_range_back, read_twice};
+pub use ranges::ReadTwice;
+pub use ranges::read_alone;
+pub use ranges::read_range;
+pub use ranges::read_range_back;
+pub use ranges::read_twice;
 pub use reading::look_where_told;
-pub use rejoining::{
-    Rejoined, StayedLeaver, add_then_come_back, add_then_rejoin, finish_own_remove,
-};
-pub use returned_values::{GotBeside, get_many_while_collected, get_while_collected, take_back};
-pub use sets::{insert_then_end, insert_then_report};
-pub use sharing::{SharedTasks, add_tasks, share_tasks, take_tasks};
-pub use taken_values::{pin_then_get, put_then_take};
-pub use threads::{Inserted, find_both, insert_both, insert_both_then_find};
-pub use trees::{
-    delete_then_miss, insert_then_find, insert_then_find_alone, look_told, tell_worker,
-};
+pub use rejoining::Rejoined;
+pub use rejoining::StayedLeaver;
+pub use rejoining::add_then_come_back;
+pub use rejoining::add_then_rejoin;
+pub use rejoining::finish_own_remove;
+pub use returned_values::GotBeside;
+pub use returned_values::get_many_while_collected;
+pub use returned_values::get_while_collected;
+pub use returned_values::take_back;
+pub use sets::insert_then_end;
+pub use sets::insert_then_report;
+pub use sharing::SharedTasks;
+pub use sharing::add_tasks;
+pub use sharing::share_tasks;
+pub use sharing::take_tasks;
+pub use taken_values::pin_then_get;
+pub use taken_values::put_then_take;
+pub use threads::Inserted;
+pub use threads::find_both;
+pub use threads::insert_both;
+pub use threads::insert_both_then_find;
+pub use trees::delete_then_miss;
+pub use trees::insert_then_find;
+pub use trees::insert_then_find_alone;
+pub use trees::look_told;
+pub use trees::tell_worker;

@@ -3,6 +3,7 @@
 
 ghost use Rattle.std.specs.Prelude.{◌≡◌, ℕ, true, false, length, map, IfOk, IfErr};
 ghost use Rattle.nm_calls.specs.InTurns.{key_of};
+ghost use Rattle.nm_calls.specs.declared.many.Query.{Query as Asked};
 ghost use Rattle.nm_set.specs.InTurns.{AskedMany};
 ghost use Rattle.nm_set_c.specs.Handles.{held_by};
 ghost use Rattle.nm_set_c.specs.Lookups.{AreKeys, TellsContainsMany, IsUnasked, key_looked_up, lookup_of};
@@ -19,7 +20,7 @@ use std::alloc::Global;
 pub(crate) trait Asking: Copy {
     ghost number: { Self → ℕ };
 
-    ghost written: { Query → Self };
+    ghost written: { Asked → Self };
 
     /// Returns the number to look up, which may be no key.
     fn number(&self) -> u64

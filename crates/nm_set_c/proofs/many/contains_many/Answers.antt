@@ -14,6 +14,6 @@ returns-in-Ok-ask c = inr (record {
   told = refl;
   tree = c.ask.ensures.tree;
   says = c.in-Ok-ask.ensures.says;
-  written = c.write_found.ensures ∙ ap (map lookup_of) (search rules);
+  written = c.write_answers.ensures ∙ ap (map lookup_of) (search rules);
   kept = tt;
 })

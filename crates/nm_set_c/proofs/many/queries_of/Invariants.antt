@@ -1,7 +1,6 @@
 use Rattle.std.proofs.Common.{◌≡◌, map, take}
 use Rattle.nm_calls.specs.InTurns.{key_of}
-use Rattle.nm_set_c.specs.Lookups.{key_looked_up}
 use Rattle.nm_set_c.proofs.many.queries_of.Given as goal
 
 abbrev pub invariant-loop-lookup : goal.invariant-loop-lookup
-invariant-loop-lookup l = map key_of l.queries.items ≡ map key_looked_up (take l.lookup-index l.lookups)
+invariant-loop-lookup g l = map key_of l.queries.items ≡ map g.A.Asking.number (take l.lookup-index l.lookups)
