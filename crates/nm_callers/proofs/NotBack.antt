@@ -62,5 +62,5 @@ pub each_found : (p q : PassView) (o : View) (back : List ℕ) → HasSeenTurns 
     → (xs : List Query) → All (λ x. MapGivesUnderPin p x.key (answer_of x)) xs → All (λ x. x.found ≡ true → HasNotComeBack q.view x.key x.value o back) xs
 each_found p q o back first seen heard on told returned xs moments i d below found =
     let x : Query = slice_index_or xs i d in
-    has_not_come_back p q o x.key x.value first seen heard on told returned
+    has_not_come_back p q o x.key x.value back first seen heard on told returned
     (subst (λ (b : Bool). MapGivesUnderPin p x.key (cond b (Some x.value) None)) found (moments i d below))

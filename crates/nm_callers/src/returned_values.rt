@@ -95,9 +95,9 @@ pub fn get_many_while_collected(
         q.key q.value other.new.pass.view (take n out.new)) queries.new) }
     ensures few { IfSome result (λ n. n ≤ length out.new) }
 {
-    if tree.get_many_pinned(reader, queries).is_err() {
+    let Ok(()) = tree.get_many_pinned(reader, queries) else {
         return None;
-    }
+    };
     reader.know_run();
     let back = take_back(tree, other, out);
     tell_worker(tree, other, reader);
