@@ -8,8 +8,9 @@ SOURCES = os.path.dirname(os.path.realpath(__file__))
 TOP = os.path.join(SOURCES, "..", "..")
 OUT = os.path.join(TOP, "out", "peers")
 
-# The servers that make no call but look-ups.
+# The servers that make no call but look-ups, and those that remove no key.
 LOOKING = {"tbb", "pinned", "several"}
+UNCHANGING = {"tbb"}
 
 
 def run(*words):
@@ -83,13 +84,18 @@ class Server:
         return float(self.process.stdout.readline())
 
 
-def measured(servers, asked, row):
+def measured(servers, asked, row, churn=0):
     """Of each server the rates of all rounds, by turns, where it can do what the row asks. The second
-    number of a row is how many of 100 calls are look-ups, and some servers can make nothing else."""
-    found = {name: [] for name in servers if name not in LOOKING or row[1] == 100}
+    number of a row is how many of 100 calls are look-ups, and some servers can make nothing else. With
+    churn, there are so many inserts and removes for each key before."""
+    last = (churn,) if churn else ()
+    able = {name for name in servers if name not in LOOKING or row[1] == 100}
+    if churn:
+        able -= UNCHANGING
+    found = {name: [] for name in servers if name in able}
     for _ in range(asked.rounds):
         for name, rates in found.items():
-            rates.append(servers[name].rate(*row, asked.millis))
+            rates.append(servers[name].rate(*row, asked.millis, *last))
     return found
 
 

@@ -57,6 +57,7 @@ struct CdsThread {
 struct Row {
     std::size_t keys;
     unsigned lookups, threads, millis;
+    unsigned churn = 0; // how many times as many inserts and removes as keys are made before
 };
 
 inline Key draw(Key &seed) {
@@ -79,6 +80,11 @@ template <class Set> double rate(const Row &row) {
             Key seed = 88172645463325252u + number * 1000003u;
             for (std::size_t i = number; i < row.keys; i += row.threads) {
                 while (!worker.add(scattered(draw(seed) % (2 * row.keys)))) {}
+            }
+            for (std::size_t i = number; i < row.churn * row.keys; i += row.threads) {
+                Key drawn = draw(seed), key = scattered(drawn % (2 * row.keys));
+                if (drawn >> 63) worker.add(key);
+                else worker.remove(key);
             }
             ready++;
             while (!begins) std::this_thread::yield();
@@ -106,9 +112,13 @@ template <class Set> double rate(const Row &row) {
     return static_cast<double>(all) / micros;
 }
 
+// Answers a row in each line. Its last number, how much churn there is, may be left out.
 template <class Set> int serve() {
-    Row row;
-    while (std::scanf("%zu %u %u %u", &row.keys, &row.lookups, &row.threads, &row.millis) == 4) {
+    char line[128];
+    for (Row row; std::fgets(line, sizeof line, stdin) != nullptr; row = Row()) {
+        if (std::sscanf(line, "%zu %u %u %u %u", &row.keys, &row.lookups, &row.threads, &row.millis,
+                        &row.churn) < 4)
+            break;
         std::printf("%.4f\n", rate<Set>(row));
         std::fflush(stdout);
     }
