@@ -90,7 +90,8 @@ fn contains_many(alloc: Global, member: &mut Member, lookups: &mut [Lookup], tri
     }
 }
 
-/// Asks the worker for all of these.
+/// Asks the worker for all of these. In a function of its own the walk has all registers.
+#[inline(never)]
 fn ask(member: &mut Member, queries: &mut Vec<Query>, tries: u32) -> Result<(), CallFault>
     ensures tree { member.new.tree ≡ member.old.tree }
     ensures says { AskedMany member.old.tree.layout tries queries.old.items queries.new.items

@@ -76,7 +76,8 @@ fn get_many_pinned(alloc: Global, member: &mut MapMember, lookups: &mut [MapLook
     }
 }
 
-/// Asks the worker for all of these.
+/// Asks the worker for all of these. In a function of its own the walk has all registers.
+#[inline(never)]
 fn ask(member: &mut MapMember, queries: &mut Vec<Query>) -> Result<(), PinnedGetFault>
     ensures tree { member.new.tree ≡ member.old.tree }
     ensures says { SaysPinnedGetMany member.old.tree.layout queries.old.items queries.new.items
