@@ -2,7 +2,7 @@
  *
  * proved: nm_stress and all crates that it depends on
  * kit: rattle-kit-13f logic dac8208d650f15bf
- * sources: sha256 c86e6d909ea72701b9985a49501979cab38151b22cc4aeba4cc1f5386888ed79
+ * sources: sha256 600639efc2844cf2cadc939bef8d7b2e035d23177b8c9a41be926f2cb658b1cd
  *
  * dist/README.md says how this file is made, checked and used, and what is trusted.
  */
@@ -10581,7 +10581,7 @@
 	shll	$3, %r9d
 	leaq	".Lswitch.table.clap::builder::command::building::build_levels"(%rip), %r10
 	movq	(%r9,%r10), %r10
-	leaq	".Lswitch.table.clap::builder::command::building::build_levels.1822"(%rip), %r11
+	leaq	".Lswitch.table.clap::builder::command::building::build_levels.1821"(%rip), %r11
 	movq	(%r9,%r11), %r9
 	movq	$1, -83(%rdi,%rsi)
 	movq	%r10, -75(%rdi,%rsi)
@@ -56807,7 +56807,7 @@
 	shll	$3, %eax
 	leaq	".Lswitch.table.clap::parser::parse::Parser::check_value"(%rip), %rcx
 	movq	(%rax,%rcx), %rdx
-	leaq	".Lswitch.table.clap::parser::parse::Parser::check_value.1823"(%rip), %rcx
+	leaq	".Lswitch.table.clap::parser::parse::Parser::check_value.1822"(%rip), %rcx
 	movq	(%rax,%rcx), %rsi
 	cmpq	$0, 288(%rsp)
 	jne	.LBB120_433
@@ -85504,7 +85504,7 @@
 	leaq	".Lswitch.table.nm_files::read::line::first_line_of"(%rip), %r8
 	cmpq	(%rax,%r8), %rcx
 	jne	.LBB181_70
-	leaq	".Lswitch.table.nm_files::read::line::first_line_of.1824"(%rip), %r8
+	leaq	".Lswitch.table.nm_files::read::line::first_line_of.1823"(%rip), %r8
 	movq	(%rax,%r8), %rax
 	movl	(%rdx), %r8d
 	cmpl	(%rax), %r8d
@@ -137212,10 +137212,10 @@ main:
 	.quad	0
 	.quad	0
 	.size	".Lswitch.table.clap::builder::command::building::build_levels", 72
-	.type	".Lswitch.table.clap::builder::command::building::build_levels.1822",@object
-	.section	".rodata..Lswitch.table.clap::builder::command::building::build_levels.1822","a",@progbits
+	.type	".Lswitch.table.clap::builder::command::building::build_levels.1821",@object
+	.section	".rodata..Lswitch.table.clap::builder::command::building::build_levels.1821","a",@progbits
 	.p2align	3, 0x0
-".Lswitch.table.clap::builder::command::building::build_levels.1822":
+".Lswitch.table.clap::builder::command::building::build_levels.1821":
 	.quad	0
 	.quad	0
 	.quad	0
@@ -137225,7 +137225,7 @@ main:
 	.quad	0
 	.quad	0
 	.quad	0
-	.size	".Lswitch.table.clap::builder::command::building::build_levels.1822", 72
+	.size	".Lswitch.table.clap::builder::command::building::build_levels.1821", 72
 	.type	".Lswitch.table.clap::parser::parse::Parser::check_value",@object
 	.section	.rodata.cst32,"aM",@progbits,32
 	.p2align	3, 0x0
@@ -137235,15 +137235,15 @@ main:
 	.quad	38
 	.quad	38
 	.size	".Lswitch.table.clap::parser::parse::Parser::check_value", 32
-	.type	".Lswitch.table.clap::parser::parse::Parser::check_value.1823",@object
-	.section	".data.rel.ro..Lswitch.table.clap::parser::parse::Parser::check_value.1823","aw",@progbits
+	.type	".Lswitch.table.clap::parser::parse::Parser::check_value.1822",@object
+	.section	".data.rel.ro..Lswitch.table.clap::parser::parse::Parser::check_value.1822","aw",@progbits
 	.p2align	3, 0x0
-".Lswitch.table.clap::parser::parse::Parser::check_value.1823":
+".Lswitch.table.clap::parser::parse::Parser::check_value.1822":
 	.quad	.Lstatic.118
 	.quad	.Lstatic.119
 	.quad	.Lstatic.120
 	.quad	.Lstatic.121
-	.size	".Lswitch.table.clap::parser::parse::Parser::check_value.1823", 32
+	.size	".Lswitch.table.clap::parser::parse::Parser::check_value.1822", 32
 	.type	".Lswitch.table.nm_replay::run::output",@object
 	.section	".rodata..Lswitch.table.nm_replay::run::output","a",@progbits
 	.p2align	3, 0x0
@@ -137270,14 +137270,14 @@ main:
 	.quad	6
 	.quad	6
 	.size	".Lswitch.table.nm_files::read::line::first_line_of", 24
-	.type	".Lswitch.table.nm_files::read::line::first_line_of.1824",@object
-	.section	".data.rel.ro..Lswitch.table.nm_files::read::line::first_line_of.1824","aw",@progbits
+	.type	".Lswitch.table.nm_files::read::line::first_line_of.1823",@object
+	.section	".data.rel.ro..Lswitch.table.nm_files::read::line::first_line_of.1823","aw",@progbits
 	.p2align	3, 0x0
-".Lswitch.table.nm_files::read::line::first_line_of.1824":
+".Lswitch.table.nm_files::read::line::first_line_of.1823":
 	.quad	.Lstatic.155
 	.quad	.Lstatic.6
 	.quad	.Lstatic.7
-	.size	".Lswitch.table.nm_files::read::line::first_line_of.1824", 24
+	.size	".Lswitch.table.nm_files::read::line::first_line_of.1823", 24
 	.type	".Lswitch.table.nm_serial::making::make",@object
 	.section	".rodata..Lswitch.table.nm_serial::making::make","a",@progbits
 	.p2align	3, 0x0
