@@ -571,7 +571,8 @@ nm_outcome nm_map_reclaim(nm_handle *worker, uint64_t *values, size_t room, uint
 
 /* Pins the epoch for the caller, until nm_map_unpin, and writes it: no value that the map has now
  * comes back meanwhile. A pinned worker answers nm_map_get_pinned and nm_map_get_many_pinned, and no
- * other call for keys (NM_PINNED). While it is pinned, no worker gets back a value that was removed after the pin.
+ * other call for keys (NM_PINNED). While it is pinned, no worker gets back a value that was removed
+ * after the pin.
  * Returns NM_DONE. Errors: NM_BUSY: the epoch that was read last is written. NM_PENDING,
  * NM_PINNED. */
 nm_outcome nm_map_pin(nm_handle *worker, uint32_t tries, uint64_t *epoch);
