@@ -16,12 +16,12 @@ use Rattle.nm_set_c.specs.declared.map_many.MapLookup.{MapLookup}
 use Rattle.nm_set_c.specs.declared.outcome.Outcome.{Outcome}
 use Rattle.nm_set_c.specs.declared.outcome.Outcome.TheVariants as outcome
 
--- `key_looked_up`, `value_looked_up`: the key of a look-up in a set, and in a map
+-- `key_looked_up`, `map_key_looked_up`: the number that is looked up in a set, and in a map
 abbrev pub key_looked_up : Lookup → ℕ
 key_looked_up l = l.key
 
-abbrev pub value_looked_up : MapLookup → ℕ
-value_looked_up l = l.key
+abbrev pub map_key_looked_up : MapLookup → ℕ
+map_key_looked_up l = l.key
 
 -- the answer of a query, as it is written
 abbrev pub found_bit : Bool → ℕ
@@ -80,7 +80,7 @@ of_pinned_many (Err getting.Busy) = outcome.Busy
 pub record LooksUpValues (old new : List MapLookup) (m n : MemberView) (o : Outcome) : Type 0 where
   pub asked : List Query
   pub answered : List Query
-  pub keys : map key_of asked ≡ map value_looked_up old
+  pub keys : map key_of asked ≡ map map_key_looked_up old
   pub answer : Result (Unit {0}) PinnedGetFault
   pub told : o ≡ of_pinned_many answer
   pub tree : n.tree ≡ m.tree
@@ -91,4 +91,4 @@ pub record LooksUpValues (old new : List MapLookup) (m n : MemberView) (o : Outc
 -- no look-up was made, and nothing has changed; or the worker's call was made
 abbrev pub TellsGetManyPinned : List MapLookup → List MapLookup → MemberView → MemberView → Outcome → Type 0
 TellsGetManyPinned old new m n o =
-    (IsUnasked value_looked_up old o × (n ≡ m) × (new ≡ old)) ⊎ LooksUpValues old new m n o
+    (IsUnasked map_key_looked_up old o × (n ≡ m) × (new ≡ old)) ⊎ LooksUpValues old new m n o

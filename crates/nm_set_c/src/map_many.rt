@@ -4,7 +4,7 @@
 ghost use Rattle.std.specs.Prelude.{◌≡◌};
 ghost use Rattle.nm_set.specs.Maps.{SaysPinnedGetMany};
 ghost use Rattle.nm_set_c.specs.Handles.{held_by};
-ghost use Rattle.nm_set_c.specs.Lookups.{TellsGetManyPinned, map_lookup_of, value_looked_up};
+ghost use Rattle.nm_set_c.specs.Lookups.{TellsGetManyPinned, map_lookup_of, map_key_looked_up};
 ghost use Rattle.nm_set_c.specs.Outcomes.{IsCodeOf};
 ghost use Rattle.nm_set_c.specs.Owners.{HasDone, OfMapWorker};
 
@@ -27,7 +27,7 @@ pub struct MapLookup {
 }
 
 impl Asking for MapLookup {
-    ghost number = { value_looked_up };
+    ghost number = { map_key_looked_up };
 
     ghost written = { map_lookup_of };
 
