@@ -87,7 +87,7 @@ class Server:
 def measured(servers, asked, row, churn=0):
     """Of each server the rates of all rounds, by turns, where it can do what the row asks. The second
     number of a row is how many of 100 calls are look-ups, and some servers can make nothing else. With
-    churn, there are so many inserts and removes for each key before."""
+    churn, so many changes for each key are made before, half of them inserts."""
     last = (churn,) if churn else ()
     able = {name for name in servers if name not in LOOKING or row[1] == 100}
     if churn:

@@ -57,7 +57,7 @@ struct CdsThread {
 struct Row {
     std::size_t keys;
     unsigned lookups, threads, millis;
-    unsigned churn = 0; // how many times as many inserts and removes as keys are made before
+    unsigned churn = 0; // how many changes are made before for each key, half of them inserts
 };
 
 inline Key draw(Key &seed) {
