@@ -2,7 +2,7 @@
  *
  * proved: nm_set_c and all crates that it depends on
  * kit: rattle-kit-13f logic dac8208d650f15bf
- * sources: sha256 f8a550ac7231e3094741a05b5c37d0bc89b83c31ed9866d6d215384228fc3c30
+ * sources: sha256 ad0e4d3fb9fea0334c093a25d19ffa5a9a3f127cab666b626bd4432fbfe60827
  *
  * dist/README.md says how this file is made, checked and used, and what is trusted.
  */
