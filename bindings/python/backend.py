@@ -77,6 +77,21 @@ def _listed(kind: str) -> list[str]:
     return [place for word, _, place in (line.partition(" ") for line in lines) if word == kind]
 
 
+def _compare_texts() -> None:
+    """Raises an error if an assembly text has not the checksum of the list."""
+    for line in _listed("sum"):
+        place, _, listed = line.partition(" ")
+        text = _top() / place
+        if place not in _listed("source") or not text.is_file():
+            continue
+        found = hashlib.sha256(text.read_bytes()).hexdigest()
+        if found != listed:
+            raise ValueError(
+                f"{place} is not the text that c/build has made: its SHA-256 is {found}, and {LIST} "
+                f"has {listed}. Take both files from the repository again, or make both by c/build"
+            )
+
+
 def _header() -> list[str]:
     """The words by which the compiler finds nm_set.h."""
     own = _top() / "c"
@@ -139,6 +154,7 @@ def _library_words() -> list[str]:
     if missing or not sources:
         print(f"nm_set: the library was not compiled: no {missing or LIST}", file=sys.stderr)
         return []
+    _compare_texts()
     return ["-std=gnu11", f"-I{_top() / 'c'}", *sources, "-Wl,-z,relro", "-Wl,-z,now"]
 
 

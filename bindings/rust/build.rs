@@ -13,6 +13,7 @@ const ARCHIVE: &str = "libnm_set.a";
 /// The files of the library, and the folder that their list counts from.
 struct Library {
     top: PathBuf,
+    list: String,
     sources: Vec<PathBuf>,
 }
 
@@ -26,27 +27,51 @@ impl Library {
         } else {
             manifest.join("../..")
         };
-        let list = top.join("dist/files.txt");
-        let lines = fs::read_to_string(&list).map_err(|fault| {
+        let place = top.join("dist/files.txt");
+        let list = fs::read_to_string(&place).map_err(|fault| {
             format!(
                 "{} could not be read ({fault}): build the crate in its repository or from its \
                  package, or set NM_SET_LIB_DIR to the folder of {ARCHIVE}",
-                list.display()
+                place.display()
             )
         })?;
-        let sources: Vec<PathBuf> = lines
+        let sources: Vec<PathBuf> = list
             .lines()
             .filter_map(|line| line.strip_prefix("source "))
             .map(|place| top.join(place))
             .collect();
         match sources.iter().find(|source| !source.is_file()) {
-            None => Ok(Library { top, sources }),
+            None => Ok(Library { top, list, sources }),
             Some(source) => Err(format!(
                 "there is no {}: c/build makes it, with the kit of Rattle",
                 source.display()
             )
             .into()),
         }
+    }
+
+    /// Fails if an assembly text has not the checksum of the list.
+    fn compare_texts(&self) -> Result<(), Box<dyn Error>> {
+        let sums = self
+            .list
+            .lines()
+            .filter_map(|line| line.strip_prefix("sum "));
+        for (place, listed) in sums.filter_map(|line| line.split_once(' ')) {
+            let text = self.top.join(place);
+            if !self.sources.contains(&text) {
+                continue;
+            }
+            let found = checksum(&text)?;
+            if found != listed {
+                return Err(format!(
+                    "{place} is not the text that c/build has made: its SHA-256 is {found}, and \
+                     dist/files.txt has {listed}. Take both files from the repository again, or \
+                     make both by c/build"
+                )
+                .into());
+            }
+        }
+        Ok(())
     }
 
     /// Compiles each file, and puts the objects into an archive.
@@ -83,6 +108,17 @@ impl Library {
         command.arg("-o").arg(object);
         command
     }
+}
+
+/// The SHA-256 of a file in hexadecimal, by the program `sha256sum`.
+fn checksum(file: &Path) -> Result<String, Box<dyn Error>> {
+    let mut command = Command::new("sha256sum");
+    let output = command.arg("--").arg(file).output().map_err(|fault| {
+        format!("sha256sum could not be run ({fault}): install coreutils, or set NM_SET_LIB_DIR")
+    })?;
+    let line = String::from_utf8(output.stdout)?;
+    let sum = line.split_whitespace().next().unwrap_or_default();
+    Ok(sum.trim_start_matches('\\').to_owned())
 }
 
 /// A program that a variable names, with words of its own, such as `ccache gcc`.
@@ -146,6 +182,7 @@ fn library() -> Result<PathBuf, Box<dyn Error>> {
         found.top.join("dist").display()
     );
     println!("cargo:rerun-if-changed={}", found.top.join("c").display());
+    found.compare_texts()?;
     let out = PathBuf::from(env::var("OUT_DIR")?);
     found.build(&out)?;
     Ok(out)
