@@ -1,9 +1,12 @@
 /* The memory of the library, over the C library: the three functions that the proved code calls.
  * They are trusted, like the C library, and not proved. What the code relies on is at each of them.
  */
+#define _DEFAULT_SOURCE
 #include <stddef.h>
 #include <stdint.h>
 #include <stdlib.h>
+#include <string.h>
+#include <sys/mman.h>
 
 _Static_assert(_Alignof(max_align_t) >= 16, "malloc aligns each block as the proved code needs it");
 
@@ -32,11 +35,25 @@ static nm_memory given(void *block) {
 /* The C library returns null for a size of 0, or not: a block has at least one byte here. */
 static size_t at_least_one(size_t size) { return size != 0 ? size : 1; }
 
+/* Asks the kernel to back a block of 4 MB or more by huge pages, so that a walk in a large set misses
+ * fewer entries of the page table. The environment variable NM_SET_HUGE_PAGES=0 switches this off.
+ * The kernel may ignore it, and no byte of the block changes. */
+static void ask_for_huge_pages(char *block, size_t size) {
+    const size_t large = (size_t)4 << 20, page = 4096;
+    if (block == NULL || size < large) return;
+    const char *wanted = getenv("NM_SET_HUGE_PAGES");
+    if (wanted != NULL && strcmp(wanted, "0") == 0) return;
+    size_t before = (page - (uintptr_t)block % page) % page;
+    (void)madvise(block + before, (size - before) / page * page, MADV_HUGEPAGE);
+}
+
 /* Returns a new block of `size` bytes, less than 2^63. The alignment divides 16, which is that of
  * malloc on x86-64. */
 nm_memory nm_host_alloc(size_t size, size_t alignment) {
     (void)alignment;
-    return given(malloc(at_least_one(size)));
+    void *block = malloc(at_least_one(size));
+    ask_for_huge_pages(block, size);
+    return given(block);
 }
 
 /* Gives a block another size. Its first `kept` bytes remain, and it may move. A block that was
