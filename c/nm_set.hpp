@@ -478,11 +478,12 @@ private:
         return read;
     }
 
-    // Returns the block after this one, with more room.
+    // Returns the block after this one, with twice the room, so that a loop which ends early has not
+    // read many more keys than it went over.
     template <Order order>
     detail::Block<Entry> block_after(const detail::Block<Entry> &before,
                                      std::uint64_t bound) const {
-        std::size_t room = before.room < 512 ? 8 * before.room : 512;
+        std::size_t room = std::min<std::size_t>(2 * before.room, 512);
         if (before.is_last) return {room, {}, before.next, true};
         return block<order>(room, before.next, bound);
     }

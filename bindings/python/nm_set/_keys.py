@@ -124,7 +124,7 @@ def each_scanned(
         if rest is None:
             return
         first, below = (first, rest) if is_back else (rest, below)
-        room = min(8 * room, _MOST_ROOM)
+        room = min(2 * room, _MOST_ROOM)
 
 
 def _as_set(other: Iterable[Any]) -> AbstractSet[Any]:
@@ -245,7 +245,7 @@ class Keys(MutableSet):  # type: ignore[type-arg]
 
     def __iter__(self) -> Iterator[int]:
         """Returns an iterator over the keys, ascending, while the set is in use. It reads keys
-        ahead, in blocks of 8, 64 and 512, each by one call, in which other threads run. It may
+        ahead, in blocks of 8, 16 and so on to 512, each by one call, in which other threads run. It may
         return or skip a key that is added or removed meanwhile. It returns no key that was removed
         before its block was read."""
         return self.irange()

@@ -545,7 +545,7 @@ class Map(MutableMapping, Generic[V]):  # type: ignore[type-arg]
         reverse: bool = False,
     ) -> Iterator[int]:
         """Returns an iterator over the keys from `minimum` to `maximum`, ascending or descending.
-        It reads keys ahead, in blocks of 8, 64 and 512. A key that is in the map during the whole
+        It reads keys ahead, in blocks of 8, 16 and so on to 512. A key that is in the map during the whole
         iteration is returned, and a key that is absent during all of it is not."""
         self._check_open()
         return self._each(self._scan, ends_of(minimum, maximum, inclusive), reverse)

@@ -293,7 +293,7 @@ impl<'w, 'a, 'g, V> GuardedWorker<'w, 'a, 'g, V> {
     }
 
     /// Returns an iterator over the keys of a range with their values, in both directions. It takes
-    /// no snapshot: it reads ahead in blocks of 1, 8, 64 and then 512, each by one call, and the
+    /// no snapshot: it reads ahead in blocks of 1, 8, 16 and so on to 512, each by one call, and the
     /// map had each key with its value at a moment of such a call. A key that is in the map during
     /// the whole iteration is returned, and a key that is absent during all of it is not. Items are
     /// results; the iterator ends after the first fault: `Contention`, `Pinned`.

@@ -128,10 +128,11 @@ impl<C: Scans> Range<C> {
         }
     }
 
-    /// Returns the room of a scan; the next one has more.
+    /// Returns the room of a scan: for one key, then for 8, and then for twice as many each time. So a
+    /// loop that ends early has not read many more keys than it went over.
     fn take_room(&mut self) -> usize {
         let room = self.room;
-        self.room = MOST_ROOM.min(8 * room);
+        self.room = MOST_ROOM.min(if room == 1 { 8 } else { 2 * room });
         room
     }
 

@@ -268,7 +268,7 @@ impl Set {
     }
 
     /// Returns an iterator over the keys of a range, while the set is in use. It reads keys ahead,
-    /// in blocks of 1, 8, 64 and 512, each by one call. It may return or skip a key that is
+    /// in blocks of 1, 8, 16 and so on to 512, each by one call. It may return or skip a key that is
     /// inserted or removed meanwhile. It returns no key that was removed before its block was
     /// read. A range whose start is above its end has no keys; with a `BTreeSet` it panics.
     ///
