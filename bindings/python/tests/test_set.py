@@ -148,7 +148,7 @@ class InOrder(unittest.TestCase):
             self.assertEqual(list(Set(range(count)).irange(1)), list(range(1, count)))
 
     def test_a_list_is_read_in_blocks(self) -> None:
-        for count, blocks in ((0, 1), (7, 1), (9, 2), (73, 3), (100, 3), (1_000, 4)):
+        for count, blocks in ((0, 1), (7, 1), (9, 2), (73, 4), (100, 4), (1_000, 7)):
             with Set(range(count), nodes=4_096) as numbers:
                 calls = mock.Mock(wraps=numbers._calls)
                 with mock.patch.object(numbers, "_calls", calls):
