@@ -1,0 +1,41 @@
+use Rattle.std.proofs.Common.{◌≡◌, ◌∙◌, ◌<◌, ◌+◌, ◌*◌, ◌++◌, ◌∷◌, [], List, ℕ, sym, ap, subst, arith}
+use Rattle.std.specs.Prelude.{Some}
+use Rattle.atomic_table.specs.Seated.{TableId}
+use Rattle.atomic_table.specs.Table.{rest}
+use Rattle.nm_lending.specs.declared.knowing.Known.{Known}
+use Rattle.nm_lending.specs.Visits.{away, value_in, visited}
+use Rattle.nm_lending.specs.Views.{LoanView, LendingView}
+use Rattle.nm_lending.proofs.Moves.{gives_value, same_value}
+use Rattle.nm_lending.proofs.Passes.{has_word, loan_still, puts, back_again, knows_same, holds_same}
+use Rattle.nm_lending.proofs.lending.Lending.give_back.Goals as goal
+
+pub store-requires : goal.store-requires
+store-requires g c =
+    let loan = c.loan.inside in
+    let left = ap (λ (l : LoanView g.row.T.Denot g.row.C.Denot). l.table) c.loan.view_is in
+    let own = ap (λ (s : LendingView g.row.C.Denot). s.table) c.self.view_is in
+    let same : c.loan.inside.pass.table_id ≡ c.self.inside.table.shared.table_id = left
+    ∙ (c.requires.table ∙ sym own) in
+    let less = has_word c.loan.inside.pass.table_id c.self.inside.table.shared.table_id c.loan.inside.seat same
+    c.self.invariant c.loan.invariant.within in
+    let within : c.loan.inside.seat < c.self.inside.table.shared.table_id.slots = subst
+    (λ (t : TableId). c.loan.inside.seat < t.slots) same c.loan.invariant.within in
+    let site = sym (ap (λ (s : LendingView g.row.C.Denot). s.site) c.self.view_is) in
+    let seat = sym (ap (λ (l : LoanView g.row.T.Denot g.row.C.Denot). l.seat) c.loan.view_is) in
+    let here = subst (λ (d : g.row.C.Denot). g.P.LendRule.resident d c.loan.inside.seat c.args.value) site
+    (subst (λ (i : ℕ). g.P.LendRule.resident c.args.self.now.site i c.args.value) seat c.requires.resident) in
+    let taken = sym (ap (λ (l : LoanView g.row.T.Denot g.row.C.Denot). l.taken) c.loan.view_is)
+    ∙ ap (λ (v : Known g.row.T.Denot g.row.C.Denot). v.taken) c.loan.invariant.knows in
+    let on = subst (λ (d : g.row.C.Denot). g.P.LendRule.goes d c.loan.invariant.value c.args.value) site
+    (c.requires.goes c.loan.invariant.value taken) in (
+      c.exchange.ensures.0 ∙ same,
+      less,
+      gives_value g.P.LendRule.resident g.P.LendRule.goes c.self.inside.table.shared.key
+          c.self.inside.table.shared.table_id.slots c.exchange.new.seat.id c.loan.inside.seat c.loan.inside.turn
+          (2 * c.loan.inside.turn + 3) c.exchange.new.seat.me c.loan.invariant.value c.args.value
+          c.exchange.new.seat.me.0.visits within (omega arith)
+          (loan_still c.exchange.new.seat.me c.loan.inside.pass.me c.loan.inside.seat c.loan.inside.turn
+          c.loan.invariant.value (Some c.args.value) c.exchange.ensures.3 c.loan.invariant.knows)
+          (puts c.exchange.new.seat.me c.loan.inside.pass.me c.loan.inside.seat
+          (Some c.args.value) c.loan.invariant.left c.exchange.ensures.3 c.loan.invariant.has) here on,
+    )

@@ -1,0 +1,5 @@
+pub mod Answered
+pub mod Borrowed
+pub mod OwnActs
+pub mod Sending
+pub mod Sizes

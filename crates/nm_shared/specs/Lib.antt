@@ -1,0 +1,3 @@
+pub mod OwnActs
+pub mod Sharing
+pub mod Sizes
