@@ -219,7 +219,7 @@ def leads_to(place):
 PUBLIC = r"(pub(?:\(\w+\))? )?(?:unsafe )?"
 FUNCTION = re.compile(rf'^( *){PUBLIC}(?:extern "C" )?fn (\w+)', re.M)
 OWNER = re.compile(
-    rf"^{PUBLIC}(impl|struct|enum|trait)\b(?:<[^>]*>)? ?(?:[\w:<>', ]+ for )?(\w+)", re.M)
+    rf"^{PUBLIC}(impl|struct|enum|trait)\b(?:<(?:[^<>]|<[^<>]*>)*>)? ?(?:[\w:<>', ]+ for )?(\w+)", re.M)
 CLAUSE = re.compile(r"((?:\s*//[^\n]*\n)*)\s*(requires|ensures)(?: (\w+))? \{")
 ENDS = re.compile(r"\n\s*(?=requires|ensures|//|\{)| (?=\{)|;")
 

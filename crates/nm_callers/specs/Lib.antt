@@ -12,3 +12,4 @@ pub mod Blame
 pub mod AnsweredAlone
 pub mod Returning
 pub mod Arenas
+pub mod AnyThread

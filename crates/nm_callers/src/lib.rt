@@ -4,6 +4,7 @@
 #![tactic(auto)]
 
 mod alone;
+mod any_thread;
 mod arena;
 mod beside;
 mod coming_back;
@@ -42,6 +43,8 @@ pub use alone::next_alone;
 pub use alone::pop_alone;
 pub use alone::pop_first_alone;
 pub use alone::remove_beside_pending;
+pub use any_thread::insert_then_find_shared;
+pub use any_thread::remove_in_two_threads;
 pub use arena::read_object;
 pub use arena::reset_returned;
 pub use beside::delete_beside;
