@@ -24,8 +24,8 @@ class Fault(Exception):
 
 
 class Full(Fault):
-    """An add found no free nodes: the keys take all of them, or no others were freed within the
-    `timeout_ms` of the set's `Options`. Nothing has changed."""
+    """An add to a set, or an insert into a map, found no free nodes: the keys take all of them, or
+    no others were freed within the `timeout_ms` of its `Options`. Nothing has changed."""
 
     outcome = c.FULL
 

@@ -1,6 +1,6 @@
 //! The faults that calls return.
 
-use crate::ffi::Outcome;
+use crate::ffi::{full_words, Filled, Fullness, Outcome};
 use crate::numbers::Numbers;
 use crate::MOST_KEY;
 use std::fmt;
@@ -27,8 +27,11 @@ pub enum Fault {
     /// An insert found no nodes for its key: the keys take all of them, or no others were freed
     /// within the [`timeout_ms`](crate::Options::timeout_ms) of the set.
     Full(Full),
+    /// An insert into a [`Map`](crate::Map) found no nodes for its key: the keys take all of them,
+    /// or no others became free within the [`timeout_ms`](crate::Options::timeout_ms) of the map.
+    MapFull(Full),
     /// No nodes were free for the key of a [`try_insert`](crate::Worker::try_insert), which waits
-    /// for none, or became free within the time of an insert into a [`Map`](crate::Map).
+    /// for none.
     NoNodes,
     /// Other threads interfered with each try, or the call has none. Of the call nothing remains
     /// but help given to others; call again.
@@ -49,9 +52,10 @@ pub enum Fault {
     /// These workers are pinned, so that the set gets no new size.
     PinnedWorkers(Numbers),
     /// Within the time of the call each worker was in a call, or attached and pinned; for an
-    /// `attach`: in a call or attached. It makes no difference which threads have attached them.
+    /// `attach`: in a call or attached. It makes no difference which threads have attached them. For
+    /// the `attach` of a map: each was attached, or other threads were attaching workers meanwhile.
     NoWorker {
-        /// How many workers the set has.
+        /// How many workers the set or the map has.
         workers: u32,
     },
     /// Other threads were in calls by these workers, and did not end them within the time of this
@@ -70,11 +74,12 @@ pub enum Fault {
     Other(i32),
 }
 
-/// How full a set was when an insert found no nodes for its key, in the numbers that
-/// [`len`](crate::Set::len) and [`waiting`](crate::Set::waiting) return.
+/// How full a set or a map was when an insert found no nodes for its key, in the numbers that
+/// [`len`](crate::Set::len) and [`waiting`](crate::Set::waiting) of a set return. Of a map, `waiting`
+/// is what its keys leave.
 #[derive(Clone, Copy, Debug, Default, PartialEq, Eq, Hash)]
 pub struct Full {
-    /// The number of nodes for which the set has room.
+    /// The number of nodes for which it has room.
     pub nodes: u64,
     /// How many keys it had; n keys take 2 n + 5 nodes.
     pub keys: u64,
@@ -129,35 +134,38 @@ fn grouped(number: u64) -> String {
     text
 }
 
+impl Full {
+    /// Returns what it says of a set or a map, in the words of the library.
+    fn words(&self, what: Filled) -> String {
+        let fullness = Fullness {
+            nodes: self.nodes,
+            keys: self.keys,
+            waiting: self.waiting,
+            free: 0,
+            unasked: self.unasked.mask(),
+            behind: self.behind.mask(),
+            hindering: self.hindering.mask(),
+        };
+        full_words(what, &fullness)
+    }
+}
+
+impl From<Fullness> for Full {
+    fn from(fullness: Fullness) -> Full {
+        Full {
+            nodes: fullness.nodes,
+            keys: fullness.keys,
+            waiting: fullness.waiting,
+            unasked: Numbers::of(fullness.unasked),
+            behind: Numbers::of(fullness.behind),
+            hindering: Numbers::of(fullness.hindering),
+        }
+    }
+}
+
 impl fmt::Display for Full {
     fn fmt(&self, f: &mut fmt::Formatter<'_>) -> fmt::Result {
-        write!(
-            f,
-            "the set is full: its {} keys take {} of its {} nodes, and {} wait to be freed",
-            grouped(self.keys),
-            grouped(self.keys.saturating_mul(2).saturating_add(5)),
-            grouped(self.nodes),
-            grouped(self.waiting)
-        )?;
-        if !self.behind.is_empty() {
-            let behind = self.behind.are();
-            write!(f, "; {behind} in their way, by a pin or in a call")?;
-        }
-        if !self.unasked.is_empty() {
-            let unasked = self.unasked.are();
-            write!(
-                f,
-                "; {unasked} in a call, so what waits there is counted as last seen"
-            )?;
-        }
-        if !self.hindering.is_empty() {
-            let hindering = self.hindering.are();
-            write!(
-                f,
-                "; the set cannot grow while {hindering} pinned or in a call"
-            )?;
-        }
-        Ok(())
+        f.write_str(&self.words(Filled::Set))
     }
 }
 
@@ -180,11 +188,11 @@ impl fmt::Display for Fault {
                 )
             }
             Fault::Full(full) => return full.fmt(f),
+            Fault::MapFull(full) => return f.write_str(&full.words(Filled::Map)),
             Fault::NoWorker { workers } => {
                 return write!(
                     f,
-                    "no worker is free: the set has {workers} (64 at most), and each is attached \
-                     or in a call"
+                    "no worker is free: each of the {workers} (64 at most) is attached or in a call"
                 )
             }
             Fault::InUse(numbers) => {
@@ -200,7 +208,9 @@ impl fmt::Display for Fault {
             }
             Fault::Other(number) => return write!(f, "the library returned outcome {number}"),
             Fault::NoMemory => "memory was refused",
-            Fault::NoNodes => "no nodes are free for the new key: collect and call again",
+            Fault::NoNodes => {
+                "no nodes are free for the new key: call `insert`, which waits for nodes, or `collect`"
+            }
             Fault::Busy => "other threads interfered with each try: call again, or give more tries",
             Fault::Contention => {
                 "other threads interfered with each try of each round: call again, or raise the \

@@ -16,7 +16,7 @@
 
 pub(crate) mod map;
 
-use std::ffi::c_int;
+use std::ffi::{c_char, c_int};
 use std::panic::{RefUnwindSafe, UnwindSafe};
 use std::ptr::{null_mut, NonNull};
 
@@ -71,6 +71,26 @@ pub(crate) struct Fullness {
     pub unasked: u64,
     pub behind: u64,
     pub hindering: u64,
+}
+
+/// What is full.
+#[derive(Clone, Copy)]
+pub(crate) enum Filled {
+    Set,
+    Map,
+}
+
+/// Returns what a fullness says after an insert that found no nodes.
+pub(crate) fn full_words(what: Filled, fullness: &Fullness) -> String {
+    let mut text = [0_u8; 640];
+    let words = match what {
+        Filled::Set => nm_full_words,
+        Filled::Map => nm_map_full_words,
+    };
+    // SAFETY: both places are borrowed for this call, and the text has this size.
+    unsafe { words(fullness, text.as_mut_ptr().cast(), text.len()) };
+    let end = text.iter().position(|&byte| byte == 0);
+    String::from_utf8_lossy(&text[..end.unwrap_or(text.len())]).into_owned()
 }
 
 /// One wait of `nm_pool_again`, all zero before it begins: `nm_pool_wait`.
@@ -236,6 +256,12 @@ extern "C" {
     fn nm_pool_try_remove(pool: *mut RawPool, worker: u32, key: u64, tries: u32, ms: u32) -> c_int;
     fn nm_pool_size(pool: *mut RawPool, keys: *mut u64) -> c_int;
     fn nm_pool_fullness(pool: *mut RawPool, fullness: *mut Fullness) -> c_int;
+    fn nm_full_words(fullness: *const Fullness, text: *mut c_char, size: usize) -> *const c_char;
+    fn nm_map_full_words(
+        fullness: *const Fullness,
+        text: *mut c_char,
+        size: usize,
+    ) -> *const c_char;
     fn nm_pool_collect(pool: *mut RawPool, freed: *mut u64) -> c_int;
     fn nm_pool_reserve(pool: *mut RawPool, keys: u64, ms: u32, missing: *mut u64) -> c_int;
     fn nm_pool_shrink_to_fit(pool: *mut RawPool, ms: u32, missing: *mut u64) -> c_int;

@@ -15,6 +15,7 @@ const NO: Outcome = 0;
 const NODES: Outcome = -6;
 const WORKERS: Outcome = -7;
 const BUSY: Outcome = -9;
+const FULL: Outcome = -10;
 const PENDING: Outcome = -12;
 const NO_WORKER: Outcome = -23;
 
@@ -178,7 +179,7 @@ impl<V> Map<V> {
     /// Makes a map of these keys and values, like [`Map::with_options`]. Of several values for one
     /// key it keeps the last one.
     ///
-    /// Errors: `Nodes`, `Workers`, `NoMemory`; `Key`, `NoNodes`: then all values are dropped.
+    /// Errors: `Nodes`, `Workers`, `NoMemory`; `Key`, `MapFull`: then all values are dropped.
     ///
     /// ```
     /// # fn main() -> Result<(), nm_set::Fault> {
@@ -202,8 +203,9 @@ impl<V> Map<V> {
         }
     }
 
-    /// Attaches a worker to this thread, the least number first. While each worker is attached it
-    /// waits, for the [`timeout_ms`](Options::timeout_ms) of the options at most.
+    /// Attaches a worker to this thread, the least number first. While each worker is attached, or
+    /// another thread attaches one, it waits, for the [`timeout_ms`](Options::timeout_ms) of the
+    /// options at most.
     ///
     /// Errors: `NoWorker`, `NoMemory`.
     pub fn attach(&self) -> Result<MapWorker<'_, V>, Fault> {
@@ -274,11 +276,10 @@ impl<'a, V> MapWorker<'a, V> {
     ///
     /// If no nodes are free, it drops the values that came back, by this worker and by those that
     /// are not attached. Then it waits for nodes, for the [`timeout_ms`](Options::timeout_ms) of
-    /// the options at most. If another thread is stopped while it attaches a worker, this takes
-    /// some tenths of a second more.
+    /// the options at most. If the keys take all nodes and no node waits, it returns at once.
     ///
-    /// Errors: `Present`. `Fault` with `Key`, `NoNodes` (no nodes became free in that time),
-    /// `Contention`, `NoMemory`, `Pinned`.
+    /// Errors: `Present`. `Fault` with `Key`, `MapFull` (no nodes became free), `Contention`,
+    /// `NoMemory`, `Pinned`.
     pub fn insert(&mut self, key: u64, value: V) -> Result<(), InsertError<V>> {
         let key = match checked(key) {
             Ok(key) => key,
@@ -287,6 +288,10 @@ impl<'a, V> MapWorker<'a, V> {
         match self.handle.insert(key, Box::new(value)) {
             (_, None) => Ok(()),
             (NO, Some(value)) => Err(InsertError::Present(*value)),
+            (FULL, Some(value)) => {
+                let full = Fault::MapFull(self.handle.fullness().into());
+                Err(InsertError::Fault(full, *value))
+            }
             (outcome, Some(value)) => Err(InsertError::Fault(
                 managed(outcome).err().unwrap_or(Fault::Other(outcome)),
                 *value,

@@ -1,6 +1,6 @@
 //! The place of a call: the library's pool, and the number of a worker there or any worker.
 
-use crate::fault::{answer, Fault, Full};
+use crate::fault::{answer, Fault};
 use crate::ffi::{
     Block, CallOptions, Change, Fullness, Lookup, Order, Outcome, Pool, ReportHandle, ANY, GROWS,
 };
@@ -92,19 +92,8 @@ impl Shared {
     }
 
     fn full(&self) -> Fault {
-        self.fullness().map_or_else(
-            |fault| fault,
-            |fullness| {
-                Fault::Full(Full {
-                    nodes: fullness.nodes,
-                    keys: fullness.keys,
-                    waiting: fullness.waiting,
-                    unasked: Numbers::of(fullness.unasked),
-                    behind: Numbers::of(fullness.behind),
-                    hindering: Numbers::of(fullness.hindering),
-                })
-            },
-        )
+        self.fullness()
+            .map_or_else(|fault| fault, |fullness| Fault::Full(fullness.into()))
     }
 
     pub fn no_worker(&self) -> Fault {

@@ -204,8 +204,7 @@ fn a_set_shows_its_first_keys_and_never_waits_to_do_so() {
     set.insert(10).unwrap();
     assert_eq!(format!("{set:?}"), "{0, 1, 2, 3, 4, 5, 6, 7, 8, 9, ..}");
     let worker = set.attach().unwrap();
-    let text = "Set(no worker is free: the set has 1 (64 at most), and each is attached or in a \
-                call)";
+    let text = "Set(no worker is free: each of the 1 (64 at most) is attached or in a call)";
     assert_eq!(
         (format!("{set:?}"), format!("{worker:?}")),
         (text.into(), "Worker { number: 0, .. }".into())
