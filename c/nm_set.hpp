@@ -559,16 +559,14 @@ public:
     }
 
     // Removes the least keys that are below a bound, one by one and at most `room`, and returns
-    // them. It waits for each key like `pop_first`. It throws a fault only if it has removed no
-    // key.
+    // them. SIZE_MAX is allowed: it takes memory for the keys that it returns. It waits for each key
+    // like `pop_first`. It throws a fault only if it has removed no key.
     std::vector<std::uint64_t> pop_first_many(Key below, std::size_t room) {
-        std::vector<std::uint64_t> popped(room);
-        std::size_t count = 0;
-        done([&](const detail::Place &to) {
-            return nm_pool_pop_first_many(to.pool, to.worker, below, popped.data(), room, &count,
-                                          to.timeout_ms);
-        });
-        popped.resize(count);
+        std::vector<std::uint64_t> popped;
+        nm_outcome outcome = NM_YES;
+        while (outcome == NM_YES && popped.size() < room)
+            outcome = pop_block(below, std::min(room - popped.size(), most_popped), popped);
+        if (outcome < 0 && popped.empty()) detail::fail_at(self().place(), outcome, 0);
         return popped;
     }
 
@@ -681,11 +679,43 @@ private:
         }, key);
     }
 
-    // Changes keys by a call of the pool, and appends its answers.
+    static constexpr std::size_t most_popped = 512;  // for how many keys it takes memory at a time
+
+    // Removes the least keys that are below a bound, at most `room`, and appends them. Returns
+    // NM_YES if they are so many, NM_NO if they are fewer, or an error, after which it has removed
+    // none.
+    nm_outcome pop_block(std::uint64_t below, std::size_t room,
+                         std::vector<std::uint64_t> &popped) {
+        std::size_t had = popped.size(), count = 0;
+        try {
+            popped.resize(had + room);
+        } catch (const std::bad_alloc &) {
+            return NM_NO_MEMORY;
+        }
+        nm_outcome outcome = ask([&](const detail::Place &to) {
+            return nm_pool_pop_first_many(to.pool, to.worker, below, &popped[had], room, &count,
+                                          to.timeout_ms);
+        });
+        popped.resize(had + count);
+        return outcome < 0 ? outcome : count == room ? NM_YES : NM_NO;
+    }
+
+    // Makes room for more answers, and for twice as many as before if there was too little.
+    static void reserve_answers(std::vector<bool> &answers, std::size_t count) {
+        std::size_t needed = answers.size() + count;
+        if (needed > answers.capacity()) answers.reserve(std::max(needed, 2 * answers.capacity()));
+    }
+
+    // Changes keys by a call of the pool, and appends its answers. All memory is taken before the
+    // first key is changed.
     template <typename Call>
     void change_many(Call call, const std::vector<std::uint64_t> &wanted,
                      std::vector<bool> &answers) {
-        std::vector<unsigned char> bytes(wanted.size());
+        std::vector<unsigned char> bytes;
+        detail::in_memory([&] {
+            bytes.resize(wanted.size());
+            reserve_answers(answers, wanted.size());
+        });
         std::size_t count = 0;
         nm_outcome outcome = ask([&](const detail::Place &to) {
             return call(to.pool, to.worker, wanted.data(), wanted.size(), bytes.data(), &count,

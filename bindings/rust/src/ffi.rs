@@ -493,16 +493,18 @@ impl Pool {
         unsafe { nm_pool_contains_many(self.0.as_ptr(), worker, first, count, ms) }
     }
 
-    /// Inserts or removes several keys. Returns the outcome, and 1 or 0 for each key that it
-    /// changed.
+    /// Inserts or removes several keys, and writes 1 or 0 to the answer of each. Returns the
+    /// outcome, and how many have their answers.
     pub(crate) fn change_many(
         &self,
         worker: u32,
         change: Change,
         keys: &[u64],
+        answers: &mut [u8],
         timeout_ms: u32,
-    ) -> (Outcome, Vec<u8>) {
-        let (mut answers, mut done) = (vec![0; keys.len()], 0);
+    ) -> (Outcome, usize) {
+        assert_eq!(keys.len(), answers.len());
+        let mut done = 0;
         let call = match change {
             Change::Insert => nm_pool_insert_many,
             Change::Remove => nm_pool_remove_many,
@@ -521,8 +523,7 @@ impl Pool {
                 timeout_ms,
             )
         };
-        answers.truncate(done);
-        (outcome, answers)
+        (outcome, done)
     }
 
     /// Looks up several keys by an attached worker, with a number of tries.

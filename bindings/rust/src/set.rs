@@ -262,7 +262,8 @@ impl Set {
     }
 
     /// Removes the least keys that are below a bound, one by one and at most `room`, and returns
-    /// them. It waits for each key. It returns a fault only if it has removed no key.
+    /// them. `usize::MAX` is allowed: it takes memory for the keys that it returns. It waits for each
+    /// key. It returns a fault only if it has removed no key.
     pub fn pop_first_many(&self, below: u64, room: usize) -> Result<Vec<u64>, Fault> {
         self.place().pop_first_many(below, room)
     }

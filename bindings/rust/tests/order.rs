@@ -211,6 +211,18 @@ fn a_set_shows_its_first_keys_and_never_waits_to_do_so() {
     );
 }
 
+/// The room for a pop of several keys may be any number: it takes memory for the keys alone.
+#[test]
+fn several_keys_are_popped_with_any_room() {
+    let set: Set = (0..1_300).collect();
+    let mut worker = set.attach().unwrap();
+    let below: Vec<u64> = (0..1_200).collect();
+    assert_eq!(worker.pop_first_many(1_200, 1 << 46).unwrap(), below);
+    assert_eq!(set.pop_first_many(1_300, 99).unwrap().len(), 99);
+    assert_eq!(set.pop_first_many(u64::MAX, usize::MAX), Ok(vec![1_299]));
+    assert_eq!(set.pop_first_many(u64::MAX, usize::MAX), Ok(vec![]));
+}
+
 #[test]
 fn how_full_a_set_is_counts_what_waits() {
     let set = Set::with_nodes(64).unwrap();
