@@ -1199,7 +1199,8 @@ public:
 
     // ---- a key, with nothing thrown ----
     // These make the managed calls of nm_set.h, with the bounds of the options. They wait for no
-    // worker and for no nodes. NM_NO_WORKER: each worker is in a call or pinned. If another thread
+    // worker and for no nodes. If their thread is cancelled in them, asynchronously, the process
+    // ends, because they are noexcept. NM_NO_WORKER: each worker is in a call or pinned. If another thread
     // is stopped while it makes the first call by a worker, they take some tenths of a second.
 
     // Inserts the key; returns NM_YES if it was absent, and else NM_NO. Errors: NM_FULL: no nodes

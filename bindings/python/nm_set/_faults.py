@@ -2,6 +2,7 @@
 
 from __future__ import annotations
 
+import reprlib
 from collections.abc import Sequence
 from ctypes import c_void_p, create_string_buffer
 
@@ -167,6 +168,14 @@ def key_fault(key: int) -> Fault:
     return fault(c.KEY, f"the key {shown(key)} is not 0 to {MOST_KEY:,} (2^64 - 4)")
 
 
+def value_fault(value: object, key: int) -> Fault:
+    """Returns the exception of a value of another type that has this number in place of a key."""
+    text = "of 64 bits the three greatest values are none"
+    if not MOST_KEY < key < 2**64:
+        text = f"its mapping returns {shown(key)}, and keys are 0 to {MOST_KEY:,} (2^64 - 4)"
+    return fault(c.KEY, f"the value {reprlib.repr(value)} is no key: {text}")
+
+
 def closed() -> Fault:
     """Returns the exception of a call of a closed set."""
     return fault(c.CLOSED, "the set is closed")
@@ -189,10 +198,10 @@ def fault_at(outcome: int, pool: c_void_p, worker: int) -> Fault:
     return fault(outcome)
 
 
-def shortened(keys: Sequence[int], count: int) -> str:
+def shortened(keys: Sequence[object], count: int) -> str:
     """Returns keys as `repr` shows them: the first ones, and how many there are if there are
     more."""
-    first = ", ".join(map(str, keys[:SHOWN]))
+    first = ", ".join(map(repr, keys[:SHOWN]))
     return f"[{first}]" if len(keys) <= SHOWN else f"[{first}, ...], {count} keys"
 
 

@@ -2,6 +2,7 @@
 
 use crate::ffi::{full_words, Filled, Fullness, Outcome};
 use crate::numbers::Numbers;
+use crate::shown::Shown;
 use crate::MOST_KEY;
 use std::fmt;
 
@@ -11,6 +12,9 @@ use std::fmt;
 pub enum Fault {
     /// This key is above 2^64 - 4 ([`MOST_KEY`](crate::MOST_KEY)).
     Key(u64),
+    /// This value of a [`SetOf`](crate::SetOf) is no key: it is one of the three greatest values of a
+    /// type with 64 bits, or its key is above 2^64 - 4.
+    Value(Shown),
     /// This number of nodes is not 7 to 268,435,456.
     Nodes(u64),
     /// This number of workers is not 1 to 64.
@@ -174,6 +178,13 @@ impl fmt::Display for Fault {
         f.write_str(match *self {
             Fault::Key(key) => {
                 return write!(f, "the key {key} is above {} (2^64 - 4)", grouped(MOST_KEY))
+            }
+            Fault::Value(value) => {
+                return write!(
+                    f,
+                    "the value {value} is no key: of a type with 64 bits the three greatest values \
+                     are none"
+                )
             }
             Fault::Nodes(nodes) => {
                 return write!(f, "the number of nodes is not 7 to 268,435,456: {nodes}")
