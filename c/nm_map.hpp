@@ -211,7 +211,8 @@ inline bool answered_by_map(nm_outcome outcome, std::uint64_t key = 0) {
     fail(NM_UNFINISHED, [=] {
         return "the key " + std::to_string(key) +
                " will be removed by this call and no other, but its value is not known, because "
-               "other threads interfered with each try of each round";
+               "other threads interfered with each try of each round: the key is found until the "
+               "next call by this worker";
     });
 }
 
@@ -504,7 +505,8 @@ public:
     // Removes a key; returns whether it was present. Its object is freed later, when no guard can
     // return it, by the thread whose call finds that: by an `insert`, a `remove`, a `reclaim` or
     // the end of a worker, or by the end of the map. NM_UNFINISHED: the key will be removed by this
-    // call and no other, and the next call by this worker goes on with it.
+    // call and no other. Until the next call by this worker it is found, and an insert of it returns
+    // false. So remove it again: after false it is gone.
     bool remove(Key key) {
         std::uint64_t unused = 0;
         return detail::answered_by_map(removed_with_value(key, unused), key);

@@ -524,7 +524,8 @@ public:
     bool insert(Key key) { return done(nm_pool_insert, key); }
 
     // Removes the key; returns whether it was present. NM_UNFINISHED: the key will be removed by
-    // this call and no other, and the next call by this worker goes on with it.
+    // this call and no other. Until the next call by the same worker it is found, and an insert of
+    // it returns false. So remove it again: after false it is gone.
     bool remove(Key key) { return done(nm_pool_remove, key); }
 
     // Returns whether the set has the key.

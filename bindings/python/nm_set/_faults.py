@@ -46,7 +46,8 @@ class Contention(Fault):
 
 class Unfinished(Fault):
     """A discard has begun, and its bound was reached before it was finished. The key will be
-    removed by this discard and no other."""
+    removed by this discard and no other. Until the next call by the same worker it is found, and an
+    add of it returns False. So discard it again: after False it is gone."""
 
     outcome = c.UNFINISHED
 
@@ -106,7 +107,8 @@ _TEXTS = {
     c.BUSY: "other threads interfered with each try of each round: call again, or raise the rounds"
     " of the options",
     c.FULL: "no nodes are free for the new key",
-    c.UNFINISHED: "the discard has begun and is not finished: the key will be removed",
+    c.UNFINISHED: "the discard is not finished: the key is found until the next call by its worker,"
+    " so discard it again",
     c.PINNED: "the worker is pinned: unpin it first",
     c.NOT_PINNED: "the worker is not pinned",
     c.ATTACHED: "a worker is attached to a thread",

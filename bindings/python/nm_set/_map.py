@@ -432,8 +432,9 @@ class Map(MutableMapping, Generic[V]):  # type: ignore[type-arg]
         again in between. No call passes over a key that was in the map during the whole call.
 
         Raises `Unfinished` if the bound of the call is reached after it has begun to remove a key.
-        No other call removes that key. Its object is not returned, and the map refers to it, and
-        `len` counts its key, until the map is closed."""
+        No other call removes that key, which is found until the next call by the same worker. Its
+        object is not returned, and the map refers to it, and `len` counts its key, until the map is
+        closed."""
         bound = NO_BOUND if below is None else bound_of(below)
         return self._popped(c.quick.nm_map_pop_first_below, bound)
 
@@ -456,7 +457,8 @@ class Map(MutableMapping, Generic[V]):  # type: ignore[type-arg]
         key, token = c_uint64(), c_uint64()
         outcome = pop(worker.handle, bound, self._words, key, token)
         if outcome == c.UNFINISHED:
-            text = "will be removed by this call and no other, but its object is not known"
+            text = "will be removed by this call and no other, but its object is not known: the"
+            text += " key is found until the next call by its worker"
             raise fault(outcome, f"the key {key.value} {text}")
         if outcome < 0:
             raise self._fault(outcome)

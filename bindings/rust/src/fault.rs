@@ -45,7 +45,8 @@ pub enum Fault {
     Contention,
     /// A remove has begun, and its bound was reached before it was finished. The key will be
     /// removed by this remove and no other. It is pending until the worker's next managed call, or
-    /// [`try_finish`](crate::Worker::try_finish), has finished the remove.
+    /// [`try_finish`](crate::Worker::try_finish), has finished the remove. Until then it is found, and
+    /// an insert of it returns false. So remove it again: after false it is gone.
     Unfinished,
     /// An earlier remove has begun and is not finished, so that only
     /// [`try_finish`](crate::Worker::try_finish) and the managed calls go on.
@@ -228,7 +229,8 @@ impl fmt::Display for Fault {
                  rounds of the options"
             }
             Fault::Unfinished => {
-                "the remove has begun and is not finished: the key will be removed"
+                "the remove is not finished: the key is found until the next call by its worker, \
+                 so remove it again"
             }
             Fault::Pending => "an earlier remove has begun and is not finished: finish it first",
             Fault::Pinned => "the worker is pinned, and the guard of its pin was forgotten",

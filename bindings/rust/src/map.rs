@@ -326,7 +326,8 @@ impl<'a, V> MapWorker<'a, V> {
     /// returns a reference to it.
     ///
     /// Errors: `Key`, `Contention`, `NoMemory`, `Pinned`. `Unfinished`: the key will be removed by
-    /// this call and no other, and the worker's next call goes on with it.
+    /// this call and no other. It is found until this worker's next call. So remove it again: after
+    /// false it is gone.
     pub fn remove(&mut self, key: u64) -> Result<bool, Fault> {
         let key = checked(key)?;
         managed(self.handle.remove(key))

@@ -155,7 +155,8 @@ impl Set {
 
     /// Removes a key; returns true if it was present.
     ///
-    /// Errors: `Key`, `NoMemory`, `Unfinished` (the key will be removed by this call and no other).
+    /// Errors: `Key`, `NoMemory`. `Unfinished`: the key will be removed by this call and no other. It
+    /// is found until the next call by the same worker. So remove it again: after false it is gone.
     pub fn remove(&self, key: u64) -> Result<bool, Fault> {
         let key = checked(key)?;
         self.place().remove(key)
