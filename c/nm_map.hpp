@@ -28,8 +28,9 @@
 // atomics of its own. This header informs ThreadSanitizer of both orders: insert before get, and
 // the end of a guard before the object is freed.
 //
-// The library is proved. What this header and nm_map.h add to it is tested by c/map_objects.cpp,
-// c/map_order.cpp, c/map_soak.cpp and c/refused_map.cpp, and not proved. In a forked child each
+// The core, which is the functions of nm_set.h, is proved. What this header and nm_map.h add to it
+// is tested by c/map_objects.cpp, c/map_order.cpp, c/map_soak.cpp and c/refused_map.cpp, and not
+// proved. In a forked child each
 // call throws NM_FORKED, and the ends of a map, a worker and a guard do nothing: so no object of
 // the parent is freed there.
 #ifndef NM_MAP_HPP

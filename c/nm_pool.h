@@ -10,8 +10,8 @@
  *     nm_drop(&report);
  *     nm_pool_free(pool);
  *
- * The library is proved. The pool is code in C around it: c/pool.c and the tests of each language
- * test it, and no proof covers it.
+ * The core, which is the functions of nm_set.h, is proved. The pool is code in C around it: c/pool.c
+ * and the tests of each language test it, and no proof covers it.
  *
  * **A worker for a call.** A call by NM_ANY takes a worker that no thread uses, first the one that
  * this thread used last. If there is none, it borrows a worker that is attached to a thread, in no

@@ -215,8 +215,9 @@ nm_outcome nm_set_version(uint32_t *major, uint32_t *minor, uint32_t *patch);
  * These return NM_CLOSED if the handle is closed, and NM_KIND if it owns something else. */
 
 /* Makes the empty set, in a radix tree with room for 7 to 268,435,456 nodes, for 1 to 64 workers.
- * No call walks past 66 nodes, in whatever order keys come. Returns NM_DONE, and the handle owns
- * the set. Errors: NM_OPEN, NM_NODES, NM_WORKERS, NM_NO_MEMORY.
+ * No walk goes over more than 66 edges, in whatever order keys come. (A call that lost a try walks
+ * again.) Returns NM_DONE, and the handle owns the set. Errors: NM_OPEN, NM_NODES, NM_WORKERS,
+ * NM_NO_MEMORY.
  *
  * How many nodes: a program that only inserts n keys needs 2 n + 5. A removed node is free again
  * only after two advances of the epoch, and it waits while a thread is stopped inside a call. So
@@ -229,7 +230,7 @@ nm_outcome nm_set_version(uint32_t *major, uint32_t *minor, uint32_t *patch);
  * queues of removed nodes take memory as they grow, and give it back: after each call those of all
  * workers take at most 24.25 bytes for each node that waits, and 7,712 for each worker. With
  * GLIBC_TUNABLES=glibc.malloc.hugetlb=1 in the environment of a program the nodes are in huge
- * pages: from a million keys on look-ups then took 0.65 to 0.99 of the time. */
+ * pages: with a million keys look-ups then took 0.63 to 0.80 of the time (bench/README.md). */
 nm_outcome nm_set_new(nm_handle *set, uint32_t nodes, uint32_t workers);
 
 /* Makes the empty set in the tree of Natarajan and Mittal, in which keys that come in order make

@@ -13,9 +13,9 @@
 // What a thread wrote before it inserted a key is visible to each thread that finds or removes that
 // key: so a key may hand over a payload. This header informs ThreadSanitizer of it.
 //
-// The library is proved. What is added to it is tested by `c/check`, and not proved: the pool of
-// nm_pool.h, which finds a worker for a call, waits and counts the keys; and in this header the
-// calls that are made of several calls.
+// The core, which is the functions of nm_set.h, is proved. What is added to it is tested by
+// `c/check`, and not proved: the pool of nm_pool.h, which finds a worker for a call, waits, counts
+// the keys and lets the set grow; and in this header the calls that are made of several calls.
 #ifndef NM_SET_HPP
 #define NM_SET_HPP
 
@@ -130,9 +130,9 @@ private:
     nm_outcome outcome_;
 };
 
-// The shape of a set's tree. `radix`: no call passes more than 66 nodes, in whatever order the keys
-// come. `unbalanced`: the tree of Natarajan and Mittal, in which keys that come in order make one
-// long path.
+// The shape of a set's tree. `radix`: no walk goes over more than 66 edges, in whatever order the
+// keys come. `unbalanced`: the tree of Natarajan and Mittal, in which keys that come in order make
+// one long path.
 enum class Shape { radix, unbalanced };
 
 // How a set is made, and the bounds of its calls.

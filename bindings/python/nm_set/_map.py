@@ -95,7 +95,7 @@ os.register_at_fork(after_in_child=_forget_all)
 
 
 class Map(MutableMapping, Generic[V]):  # type: ignore[type-arg]
-    """A concurrent ordered map from the integers 0 to 2^64 - 4 to objects, without locks.
+    """A concurrent ordered map from the integers 0 to 2^64 - 4 to objects.
 
     Any thread may call it. Each call uses one of the map's workers that is in no other call. If
     each is in a call, the call waits for at most the `timeout_ms` of `Options`, and then raises

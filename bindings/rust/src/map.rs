@@ -22,13 +22,13 @@ const NO_WORKER: Outcome = -23;
 /// In place of the number of a worker: none.
 const NOBODY: u32 = u32::MAX;
 
-/// A concurrent ordered map from the integers 0 to 2^64 - 4 to values of a type, without locks.
+/// A concurrent ordered map from the integers 0 to 2^64 - 4 to values of a type.
 ///
 /// Threads share it by reference, and each attaches a [`MapWorker`] of its own. A reader gets a
 /// reference to a value under a [`Guard`], and by a second worker it goes over values in order and
-/// pops them ([`MapWorker::under`]). A removed value is dropped exactly once: when no guard is left
-/// that could have returned it, by whichever worker finds that, or at the drop of the map. So
-/// threads share a map if `V: Send + Sync`.
+/// pops them ([`MapWorker::under`]). A removed value is dropped when no guard is left that could have
+/// returned it, by whichever worker finds that, or at the drop of the map, and never twice. So threads
+/// share a map if `V: Send + Sync`.
 ///
 /// ```
 /// # fn main() -> Result<(), Box<dyn std::error::Error>> {
