@@ -147,6 +147,19 @@ void many_keys_have_answers() {
     CHECK(told.outcome == NM_KEY && again.size() == 6 && small.contains(2u));
 }
 
+// The key of a remove that is unfinished is found, and an insert of it returns false. One more
+// managed call by its worker finishes it, and so does a remove of the key by another one.
+void a_key_is_gone_after_one_more_call() {
+    nm::Set set(1024, {3});
+    nm::Worker worker = set.attach(), other = set.attach();
+    for (bool is_own : {true, false}) {
+        CHECK(worker.insert(5u) && worker.try_remove(5u, 1) == NM_UNFINISHED);
+        CHECK(other.contains(5u) && !other.insert(5u) && set.contains(5u) && !set.insert(5u));
+        CHECK(is_own ? !worker.contains(7u) : !other.remove(5u));
+        CHECK(!other.contains(5u) && other.insert(5u) && worker.contains(5u) && set.remove(5u));
+    }
+}
+
 // A remove that is unfinished counts as soon as it has begun, and never again: by a worker, and by
 // a call of the set, which finishes it before it gives the worker back.
 void unfinished_removes_count_once() {
@@ -341,6 +354,7 @@ int main() {
     sets_are_made_of_keys();
     sizes_are_counted();
     many_keys_have_answers();
+    a_key_is_gone_after_one_more_call();
     unfinished_removes_count_once();
     borrowed_workers_have_nothing_pending();
     borrowers_say_what_is_pending();

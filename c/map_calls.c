@@ -6,6 +6,8 @@
 
 #include <pthread.h>
 #include <stdio.h>
+#include <string.h>
+#include <threads.h>
 #include <time.h>
 
 enum { KEYS = 300, NONE = 1000 };
@@ -23,7 +25,7 @@ static void give_back(void *context, uint64_t value) {
 }
 
 static nm_outcome put_for(nm_handle *map, nm_handle *worker, uint64_t key, uint32_t timeout_ms) {
-    return nm_map_put(map, worker, key, NONE + key, &nm_default_options, give_back, &total,
+    return nm_map_put(map, worker, key, NONE + key, &nm_default_options, NULL, give_back, &total,
                       timeout_ms);
 }
 
@@ -69,6 +71,9 @@ static uint64_t now_ms(void) {
     CHECK(timespec_get(&time, TIME_UTC) == TIME_UTC);
     return (uint64_t)time.tv_sec * 1000 + (uint64_t)time.tv_nsec / 1000000;
 }
+
+/* The time that a processor has spent on this process. */
+static uint64_t spent_ms(void) { return (uint64_t)clock() / (CLOCKS_PER_SEC / 1000); }
 
 static void a_map_collects_when_an_eighth_of_its_nodes_wait(void) {
     CHECK(nm_map_collect_after(7, 1) == 8 && nm_map_collect_after(1024, 64) == 8);
@@ -147,6 +152,84 @@ static void a_put_takes_back_from_returned_workers(void) {
     CHECK(nm_map_take_back(&worker, give_back, &total, NULL) == NM_DONE && times[5] == 1);
     total = times[5] = 0;
     CHECK(nm_drop(&worker) == NM_DONE);
+    end(&map);
+}
+
+/* Puts a key, and counts it, within twenty seconds at most. */
+static nm_outcome put_counted(nm_handle *worker, nm_map_counts *counts, uint64_t key) {
+    nm_outcome outcome = nm_map_put(NULL, worker, key, NONE + key, &nm_default_options, counts,
+                                    give_back, &total, 20000);
+    nm_map_count_insert(counts, 0, outcome);
+    return outcome;
+}
+
+/* The keys of a full map take all nodes, and no node waits. Then a put waits for nothing. */
+static void a_put_into_a_full_map_returns_at_once(void) {
+    nm_handle map, worker = NM_CLOSED_HANDLE;
+    nm_map_counts *counts;
+    for (uint32_t nodes = 9; nodes <= 10; nodes++) {
+        make(&map, nodes, 2);
+        CHECK(nm_map_counts_new(&counts, nodes, 2) == NM_DONE);
+        CHECK(nm_map_attach(&map, &worker) == NM_DONE);
+        CHECK(put_counted(&worker, counts, 0) == NM_YES);
+        CHECK(put_counted(&worker, counts, 1) == NM_YES);
+        uint64_t begin = now_ms();
+        CHECK(put_counted(&worker, counts, 2) == NM_FULL && now_ms() - begin < 10000);
+        CHECK(put_counted(&worker, counts, 1) == NM_NO && total == 0);
+        remove_key(&worker, 0);
+        nm_map_count_remove(counts, 0, NM_YES);
+        CHECK(put_counted(&worker, counts, 2) == NM_YES);
+        CHECK(nm_drop(&worker) == NM_DONE && nm_map_drain(&map, give_back, &total, 0) == NM_DONE);
+        nm_map_counts_free(counts);
+        each_once(3);
+        end(&map);
+    }
+}
+
+/* What a full map says of itself: nodes wait in pairs, and one may be left. */
+static void a_full_map_says_its_numbers(void) {
+    static const char *const all = "the map is full: its 2 keys take 9 of its 10 nodes, and 0 wait "
+                                   "to be freed";
+    char text[640];
+    nm_fullness fullness;
+    nm_map_fullness(10, 2, 3, &fullness);
+    CHECK(fullness.waiting == 0 && fullness.free == 1 && fullness.behind == 0);
+    CHECK(strcmp(nm_map_full_words(&fullness, text, sizeof text), all) == 0);
+    CHECK(strlen(nm_map_full_words(&fullness, text, 12)) == 11);
+    nm_map_fullness(65536, 1200, NM_NOBODY, &fullness);
+    CHECK(fullness.waiting == 63130 && fullness.free == 1 && fullness.behind == 0);
+    nm_map_fullness(65536, 1200, 3, &fullness);
+    CHECK(strcmp(nm_map_full_words(&fullness, text, sizeof text),
+                 "the map is full: its 1,200 keys take 2,405 of its 65,536 nodes, and 63,130 wait "
+                 "to be freed; worker 3 is in their way, by a pin or in a call") == 0);
+    nm_map_fullness(7, UINT32_MAX, 3, &fullness);
+    CHECK(fullness.waiting == 0 && fullness.free == 0);
+    CHECK(nm_map_is_brimful(10, 2) && nm_map_is_brimful(9, 2) && !nm_map_is_brimful(11, 2));
+}
+
+/* What a thread leaves that was stopped in the middle of an attach, and then goes on. */
+static void *go_on(void *handle) {
+    static const struct timespec some = {0, 100000000};
+    CHECK(thrd_sleep(&some, NULL) == 0);
+    __atomic_store_n(&((nm_handle *)handle)->in_use, 0, __ATOMIC_SEQ_CST);
+    return NULL;
+}
+
+/* An attach sleeps while another thread attaches a worker, and goes on after it. If that takes
+ * longer than its time, it reports that there was no worker. */
+static void an_attach_waits_for_another_one(void) {
+    nm_handle map, worker = NM_CLOSED_HANDLE;
+    pthread_t other;
+    make(&map, 64, 2);
+    for (uint32_t timeout_ms = 0; timeout_ms <= 400; timeout_ms += 400) {
+        __atomic_store_n(&map.in_use, 1, __ATOMIC_SEQ_CST);
+        uint64_t begin = now_ms(), spent = spent_ms();
+        CHECK(nm_map_wait_attach(&map, &worker, timeout_ms) == NM_NO_WORKER);
+        CHECK(now_ms() - begin + 1 >= timeout_ms && spent_ms() - spent <= timeout_ms / 2 + 20);
+    }
+    CHECK(pthread_create(&other, NULL, go_on, &map) == 0);
+    CHECK(nm_map_wait_attach(&map, &worker, 20000) == NM_DONE);
+    CHECK(pthread_join(other, NULL) == 0 && nm_drop(&worker) == NM_DONE);
     end(&map);
 }
 
@@ -281,8 +364,8 @@ static void *change(void *given) {
     part *self = given;
     for (uint64_t call = 0; call < CALLS; call++) {
         uint64_t key = call % FEW;
-        nm_outcome outcome = nm_map_put(NULL, &self->worker, key, key, &nm_default_options, count,
-                                        &self->returned, 1000);
+        nm_outcome outcome = nm_map_put(NULL, &self->worker, key, key, &nm_default_options, NULL,
+                                        count, &self->returned, 1000);
         CHECK(outcome == NM_YES || outcome == NM_NO || outcome == NM_BUSY);
         self->inserted += outcome == NM_YES;
         remove_once(self, call * 7 % FEW, call % 3 == 0);
@@ -335,6 +418,9 @@ int main(void) {
     a_worker_is_tended_when_enough_nodes_wait();
     a_put_waits_for_nodes();
     a_put_takes_back_from_returned_workers();
+    a_put_into_a_full_map_returns_at_once();
+    a_full_map_says_its_numbers();
+    an_attach_waits_for_another_one();
     a_hold_is_a_pin();
     a_drain_hands_over_all_that_is_left();
     a_drain_goes_on_after_an_attached_worker();

@@ -5,6 +5,8 @@
 #include "nm_map.hpp"
 #include "thrown.hpp"
 
+#include <atomic>
+#include <chrono>
 #include <cstdio>
 #include <functional>
 #include <random>
@@ -144,10 +146,48 @@ void a_refused_insert_leaves_the_object() {
     CHECK(worker.remove(5u));
     Thrown full = fault_of([&] { worker.insert(6u, std::move(object)); });
     CHECK(full.outcome == NM_FULL && object->is_of(6));
-    CHECK(full.text == "the map is full: no two of its 7 nodes are free, and 2 wait with this "
-                       "worker; held back by a guard or a call of worker 1");
+    CHECK(full.text == "the map is full: its 0 keys take 5 of its 7 nodes, and 2 wait to be freed; "
+                       "worker 1 is in their way, by a pin or in a call");
     guard.unpin();
     CHECK(worker.insert(6u, std::move(object)) && object == nullptr && Canary::alive() == 1);
+}
+
+// The keys of a full map take all nodes, and no node waits. Then an insert waits for nothing.
+void a_full_map_is_reported_at_once() {
+    nm::MapOptions options;
+    options.timeout_ms = 20'000;
+    Objects map(100, options);
+    Objects::Worker worker = map.attach();
+    for (std::uint64_t key = 0; key < 47; key++) CHECK(worker.emplace(key, key));
+    auto begin = std::chrono::steady_clock::now();
+    Thrown full = fault_of([&] { worker.emplace(47u, 47u); });
+    CHECK(std::chrono::steady_clock::now() - begin < std::chrono::seconds(10));
+    CHECK(full.outcome == NM_FULL && Canary::alive() == 47);
+    CHECK(full.text == "the map is full: its 47 keys take 99 of its 100 nodes, and 0 wait to be "
+                       "freed");
+    CHECK(worker.remove(5u) && worker.emplace(47u, 47u) && map.size() == 47);
+}
+
+// An atomic of 8 bytes is an object, because it cannot be copied.
+void atomics_are_objects() {
+    using Number = std::atomic<std::uint64_t>;
+    struct Two {
+        std::atomic<std::uint32_t> one, other;
+        Two(std::uint32_t from, std::uint32_t to) : one(from), other(to) {}
+    };
+    nm::Map<Number> map{64, 2};
+    auto worker = map.attach(), reader = map.attach();
+    CHECK(worker.emplace(5u, 50u) && !worker.emplace(5u, 60u));
+    CHECK(worker.insert(6u, std::make_unique<Number>(60)));
+    {
+        auto guard = reader.pin();
+        CHECK(++*guard.get(5u) == 51 && guard.get(7u) == nullptr);
+        CHECK(worker.under(guard).pop_first()->value->load() == 51);
+    }
+    CHECK(reader.pin().get(6u)->load() == 60);
+    nm::Map<Two> pairs{64, 1};
+    auto one = pairs.attach();
+    CHECK(one.emplace(5u, 1u, 2u) && one.pin().get(5u)->other == 2);
 }
 
 void a_null_object_is_refused() {
@@ -187,7 +227,8 @@ void wrong_sizes_and_workers_are_refused() {
     CHECK(map.nodes() == 64 && map.capacity() == 29 && map.workers() == 1);
     Objects::Worker worker = map.attach();
     CHECK(fault_of([&] { (void)map.attach(std::chrono::milliseconds(5)); }).text ==
-          "each of the 1 workers of the map (64 at most) is attached");
+          "each of the 1 workers of the map (64 at most) is attached, or other threads were "
+          "attaching workers for all of the timeout");
     Objects::Worker moved = std::move(worker);
     CHECK(!worker.is_open() && thrown([&] { worker.remove(5u); }) == NM_CLOSED);
     CHECK(moved.emplace(5u, 5u) && moved.number() == 0);
@@ -358,6 +399,8 @@ int main() {
     an_object_of_a_derived_class_is_freed_by_its_base();
     objects_may_be_constant();
     a_refused_insert_leaves_the_object();
+    a_full_map_is_reported_at_once();
+    atomics_are_objects();
     a_null_object_is_refused();
     nodes_of_a_returned_worker_are_freed();
     wrong_sizes_and_workers_are_refused();

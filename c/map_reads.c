@@ -163,9 +163,9 @@ static void several_keys_are_looked_up(void) {
 
 static void keys_are_counted(void) {
     nm_map_counts *counts = NULL;
-    CHECK(nm_map_counts_new(&counts, 0) == NM_WORKERS);
-    CHECK(nm_map_counts_new(&counts, 65) == NM_WORKERS);
-    CHECK(nm_map_counts_new(&counts, 2) == NM_DONE && nm_map_counts_keys(counts) == 0);
+    CHECK(nm_map_counts_new(&counts, 64, 0) == NM_WORKERS);
+    CHECK(nm_map_counts_new(&counts, 64, 65) == NM_WORKERS);
+    CHECK(nm_map_counts_new(&counts, 64, 2) == NM_DONE && nm_map_counts_keys(counts) == 0);
     nm_map_count_insert(counts, 0, NM_YES);
     nm_map_count_insert(counts, 1, NM_YES);
     nm_map_count_insert(counts, 1, NM_YES);
@@ -188,10 +188,10 @@ static void keys_are_counted(void) {
 static void a_child_is_known(void) {
     nm_map_counts *counts = NULL, *own = NULL;
     int status = 0;
-    CHECK(nm_map_counts_new(&counts, 1) == NM_DONE && !nm_map_is_forked(counts));
+    CHECK(nm_map_counts_new(&counts, 64, 1) == NM_DONE && !nm_map_is_forked(counts));
     pid_t child = fork();
     if (child == 0) {
-        int is_known = nm_map_is_forked(counts) && nm_map_counts_new(&own, 1) == NM_DONE &&
+        int is_known = nm_map_is_forked(counts) && nm_map_counts_new(&own, 64, 1) == NM_DONE &&
                        !nm_map_is_forked(own);
         nm_map_counts_free(counts); /* which does nothing */
         nm_map_counts_free(own);

@@ -10,7 +10,7 @@
 // It is there for integers, enums, std::chrono durations and time points, `nm::Bits`, and pairs of
 // these that have 64 bits together at most. A specialization of `nm::KeyOf` adds a type. Three keys
 // are no keys, 2^64 - 3 and above: so of a type with 64 bits the three greatest values cannot be
-// inserted (NM_KEY), such as INT64_MAX - 2.
+// inserted, such as INT64_MAX - 2: NM_KEY, with the value in the text.
 //
 // The mappings are tested by `c/check`, and not proved. At compile time each mapping is checked for
 // some values: they ascend as their keys do, and each comes back.
@@ -170,6 +170,54 @@ struct KeyOf<std::pair<First, Second>,
                                               sample(true, false), sample(true, true)};
 };
 
+namespace detail {
+
+// Returns a value as the text of a fault has it: what is made of numbers by these. Of a type of the
+// program's own it has the number of the key.
+template <typename T>
+std::string shown(const T &value);
+
+template <typename Rep, typename Period>
+std::string shown(const std::chrono::duration<Rep, Period> &value) {
+    return std::to_string(value.count());
+}
+
+template <typename Clock, typename Span>
+std::string shown(const std::chrono::time_point<Clock, Span> &value) {
+    return shown(value.time_since_epoch());
+}
+
+template <typename First, typename Second>
+std::string shown(const std::pair<First, Second> &value) {
+    return "(" + shown(value.first) + ", " + shown(value.second) + ")";
+}
+
+template <typename T>
+std::string shown(const T &value) {
+    if constexpr (is_number<T>)
+        return std::to_string(value);
+    else if constexpr (std::is_enum_v<T>)
+        return std::to_string(static_cast<std::underlying_type_t<T>>(value));
+    else if constexpr (std::is_convertible_v<T, std::uint64_t>)
+        return std::to_string(static_cast<std::uint64_t>(value));
+    else
+        return "with the key " + std::to_string(KeyOf<T>::key(value));
+}
+
+// Returns the key of a value. Throws NM_KEY if it has none.
+template <typename T>
+std::uint64_t checked_key(const T &value) {
+    std::uint64_t key = KeyOf<T>::key(value);
+    if (key > most_key)
+        fail(NM_KEY, [&] {
+            return "the value " + shown(value) + " is no key: of a type with 64 bits the three "
+                   "greatest values are none";
+        });
+    return key;
+}
+
+}  // namespace detail
+
 // The calls of a set and of a worker for values of a type. Each makes the call of the same name of
 // nm_set.hpp for the key of the value, and throws what that one throws.
 template <typename Of, typename T>
@@ -218,8 +266,8 @@ public:
     using iterator = IteratorOf<Iterator<Of>>;
     using reverse_iterator = IteratorOf<Iterator<Of, Order::descending>>;
 
-    bool insert(const T &value) { return of_.insert(Map::key(value)); }
-    bool remove(const T &value) { return of_.remove(Map::key(value)); }
+    bool insert(const T &value) { return of_.insert(detail::checked_key(value)); }
+    bool remove(const T &value) { return of_.remove(detail::checked_key(value)); }
     [[nodiscard]] bool contains(const T &value) const {
         std::uint64_t key = Map::key(value);
         return key <= most_key && of_.contains(key);

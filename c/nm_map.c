@@ -2,6 +2,7 @@
 #include "nm_map.h"
 #include "nm_wait.h"
 
+#include <sched.h>
 #include <stdalign.h>
 #include <stdatomic.h>
 #include <stdbool.h>
@@ -11,6 +12,8 @@
 enum {
     ROOM = 64,     /* for how many values, and how many keys, one call of the library has room */
     SCANNED = 512, /* how many keys a count reads in one call */
+    LOOKS = 256,   /* how often an attach looks at the handle of a map in use before it yields */
+    YIELDS = 4,    /* how often it yields before it sleeps or gives up */
     LINE = 64,     /* the bytes of a cache line */
     WORKERS = 64   /* the most workers of a map */
 };
@@ -22,11 +25,36 @@ uint32_t nm_map_collect_after(uint32_t nodes, uint32_t workers) {
     return after < 8 ? 8 : after < 64 ? (uint32_t)after : 64;
 }
 
+/* Attaches the worker of a number, or any with NM_ANY, if no other call has the handle of the map
+ * at this moment: else NM_IN_USE. It takes the handle by the exchange that each call of the library
+ * makes. So the library never looks for long at a handle that a preempted thread has. */
+static nm_outcome attach_alone(nm_handle *map, nm_handle *worker, uint32_t number) {
+    if (__atomic_exchange_n(&map->in_use, 1, __ATOMIC_SEQ_CST) != 0) return NM_IN_USE;
+    nm_handle own = {map->at, 0};
+    nm_outcome outcome =
+        number == NM_ANY ? nm_map_attach(&own, worker) : nm_map_worker(&own, worker, number);
+    map->at = own.at;
+    __atomic_store_n(&map->in_use, 0, __ATOMIC_SEQ_CST);
+    return outcome;
+}
+
+/* Does the same, and looks again while other calls have the handle, for some microseconds. */
+static nm_outcome attach_soon(nm_handle *map, nm_handle *worker, uint32_t number) {
+    nm_outcome outcome = NM_IN_USE;
+    for (int look = 0; outcome == NM_IN_USE && look < LOOKS + YIELDS; look++) {
+        if (look >= LOOKS) (void)sched_yield();
+        outcome = attach_alone(map, worker, number);
+    }
+    return outcome;
+}
+
 nm_outcome nm_map_wait_attach(nm_handle *map, nm_handle *worker, uint32_t timeout_ms) {
     nm_wait wait = {0, 0};
-    nm_outcome outcome = nm_map_attach(map, worker);
-    while ((outcome == NM_NO_WORKER || outcome == NM_IN_USE) && nm_wait_on(&wait, timeout_ms))
-        outcome = nm_map_attach(map, worker);
+    nm_outcome outcome;
+    do {
+        outcome = attach_soon(map, worker, NM_ANY);
+        if (outcome == NM_IN_USE) outcome = NM_NO_WORKER;
+    } while (outcome == NM_NO_WORKER && nm_wait_on(&wait, timeout_ms));
     return outcome;
 }
 
@@ -192,13 +220,13 @@ struct tally {
 };
 
 struct nm_map_counts {
-    alignas(LINE) uint32_t workers;
+    alignas(LINE) uint32_t nodes, workers;
     unsigned long forks;
     void *block; /* what malloc returned */
     struct tally of[];
 };
 
-nm_outcome nm_map_counts_new(nm_map_counts **counts, uint32_t workers) {
+nm_outcome nm_map_counts_new(nm_map_counts **counts, uint32_t nodes, uint32_t workers) {
     if (workers < 1 || workers > WORKERS) return NM_WORKERS;
     size_t size = sizeof(nm_map_counts) + workers * sizeof(struct tally);
     char *block = malloc(size + LINE);
@@ -206,6 +234,7 @@ nm_outcome nm_map_counts_new(nm_map_counts **counts, uint32_t workers) {
     nm_map_counts *made = (nm_map_counts *)(block + (LINE - (uintptr_t)block % LINE));
     memset(made, 0, size);
     nm_host_count_forks();
+    made->nodes = nodes;
     made->workers = workers;
     made->forks = atomic_load(&nm_host_forks);
     made->block = block;
@@ -246,6 +275,23 @@ uint64_t nm_map_counts_keys(const nm_map_counts *counts) {
     return total > INT64_MAX ? 0 : total;
 }
 
+/* ---- how full it is ---- */
+
+int nm_map_is_brimful(uint64_t nodes, uint64_t keys) { return 2 * keys + 7 > nodes; }
+
+void nm_map_fullness(uint64_t nodes, uint64_t keys, uint32_t behind, nm_fullness *fullness) {
+    uint64_t taken = 2 * keys + 5, rest = taken < nodes ? nodes - taken : 0;
+    *fullness = (nm_fullness){.nodes = nodes, .keys = keys, .waiting = rest - rest % 2};
+    fullness->free = rest % 2;
+    if (fullness->waiting != 0 && behind < WORKERS) fullness->behind = (uint64_t)1 << behind;
+}
+
+const char *nm_map_full_words(const nm_fullness *fullness, char *text, size_t size) {
+    char *what = strstr(nm_full_words(fullness, text, size), "set is full");
+    if (what != NULL) memcpy(what, "map", 3);
+    return text;
+}
+
 /* ---- values that come back ---- */
 
 /* Takes back at most ROOM values, and writes how many. */
@@ -281,33 +327,44 @@ nm_outcome nm_map_tend(nm_handle *worker, const nm_options *options, nm_map_rele
 static nm_outcome take_back_of(nm_handle *map, uint32_t number, nm_map_release release,
                                void *context) {
     nm_handle worker = NM_CLOSED_HANDLE;
-    nm_outcome outcome = nm_map_worker(map, &worker, number);
+    nm_outcome outcome = attach_soon(map, &worker, number);
     if (outcome < 0) return outcome;
     outcome = nm_map_take_back(&worker, release, context, NULL);
     (void)nm_drop(&worker);
     return outcome;
 }
 
-/* Takes back what waits with each worker that is not attached. */
-static void take_back_of_all(nm_handle *map, nm_map_release release, void *context) {
+/* Takes back what waits with each worker that is not attached. Returns false if another call had
+ * the handle of the map: then it has not asked all workers. */
+static bool has_asked_all(nm_handle *map, nm_map_release release, void *context) {
     nm_outcome outcome = NM_DONE;
     for (uint32_t number = 0; outcome >= 0 || outcome == NM_ATTACHED; number++)
         outcome = take_back_of(map, number, release, context);
+    return outcome != NM_IN_USE;
+}
+
+static bool is_brimful(const nm_map_counts *counts) {
+    return counts != NULL && nm_map_is_brimful(counts->nodes, nm_map_counts_keys(counts));
 }
 
 nm_outcome nm_map_put(nm_handle *map, nm_handle *worker, uint64_t key, uint64_t value,
-                      const nm_options *options, nm_map_release release, void *context,
-                      uint32_t timeout_ms) {
+                      const nm_options *options, const nm_map_counts *counts,
+                      nm_map_release release, void *context, uint32_t timeout_ms) {
     nm_wait wait = {0, 0};
     nm_outcome outcome = nm_map_tend(worker, options, release, context);
     if (outcome < 0) return outcome;
     outcome = nm_map_insert(worker, key, value, options);
-    if (outcome == NM_FULL && map != NULL) take_back_of_all(map, release, context);
-    while (outcome == NM_FULL) {
+    if (outcome != NM_FULL) return outcome;
+    bool was_brimful = is_brimful(counts), is_asked = map == NULL;
+    do {
+        if (!is_asked && !was_brimful) is_asked = has_asked_all(map, release, context);
         (void)nm_map_take_back(worker, release, context, NULL);
         outcome = nm_map_insert(worker, key, value, options);
-        if (outcome == NM_FULL && !nm_wait_on(&wait, timeout_ms)) break;
-    }
+        if (outcome != NM_FULL) return outcome;
+        bool is_still = was_brimful;
+        was_brimful = is_brimful(counts);
+        if (is_still && was_brimful) return outcome;
+    } while (nm_wait_on(&wait, timeout_ms));
     return outcome;
 }
 

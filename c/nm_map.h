@@ -6,7 +6,7 @@
  *
  *     static void give_back(void *context, uint64_t value) { free((void *)(uintptr_t)value); }
  *
- *     nm_map_put(&map, &worker, 5, (uint64_t)(uintptr_t)object, &nm_default_options,
+ *     nm_map_put(&map, &worker, 5, (uint64_t)(uintptr_t)object, &nm_default_options, NULL,
  *                give_back, NULL, 1000);               NM_YES: the map has the key and the object
  *     nm_map_hold(&worker, &nm_default_options, &epoch);    pins the worker
  *     nm_map_get_pinned(&worker, 5, &value);           the object exists until the unpin
@@ -20,8 +20,8 @@
  * Proved, of nm_set.h: each leaf that is freed hands out its value, and no leaf is freed twice. A
  * leaf is freed after all workers have unpinned that were pinned when it was cut off. So a reader
  * may use an object from a get under a pin until the unpin. Without the caller's pin an object may
- * be freed at any time after the get. The program that removes a key does not free the object itself, because others may
- * be reading it.
+ * be freed at any time after the get. The program that removes a key does not free the object
+ * itself, because others may be reading it.
  *
  * The function `release` is called between two calls of the library, by the thread whose call found
  * the values. It may make calls by any worker, including this one. It does not leave by longjmp or
@@ -30,11 +30,14 @@
 #ifndef NM_MAP_H
 #define NM_MAP_H
 
-#include "nm_set.h"
+#include "nm_pool.h"
 
 #ifdef __cplusplus
 extern "C" {
 #endif
+
+/* How many keys each worker of a map has inserted and not removed: see nm_map_counts_new. */
+typedef struct nm_map_counts nm_map_counts;
 
 /* Takes a value that came back. */
 typedef void (*nm_map_release)(void *context, uint64_t value);
@@ -44,8 +47,12 @@ typedef void (*nm_map_release)(void *context, uint64_t value);
  * each has 8. */
 uint32_t nm_map_collect_after(uint32_t nodes, uint32_t workers);
 
-/* Makes nm_map_attach, and repeats it after NM_NO_WORKER and NM_IN_USE, for at most timeout_ms
- * milliseconds. In between it sleeps, like nm_wait_attach of nm_wait.h. */
+/* Attaches a worker like nm_map_attach. While there is none it repeats this, for at most timeout_ms
+ * milliseconds, and sleeps in between like nm_wait_attach of nm_wait.h. While another thread
+ * attaches a worker by the handle of the map it yields and sleeps too, and never spins for longer
+ * than some microseconds. Returns NM_DONE. Errors: NM_NO_WORKER: until the end of that time each
+ * worker was attached, or other threads had the handle. NM_CLOSED, NM_KIND, NM_OPEN, NM_CLOSING,
+ * NM_NO_MEMORY. */
 nm_outcome nm_map_wait_attach(nm_handle *map, nm_handle *worker, uint32_t timeout_ms);
 
 /* Pins the worker like nm_map_pin, but finishes a remove that is pending first, and repeats a pin
@@ -72,15 +79,16 @@ nm_outcome nm_map_tend(nm_handle *worker, const nm_options *options, nm_map_rele
  *
  * Nodes that wait with another worker are freed by that worker alone. So if `map` is not NULL, the
  * first repetition also takes back what waits with each worker that is not attached. For this it
- * attaches these workers, one after the other. If another thread is stopped while it takes a worker
- * by the same handle, this takes some tenths of a second (nm_map_worker).
+ * attaches these workers, one after the other.
  *
  * Returns NM_YES, or NM_NO if the map has the key, which keeps its value. Errors: NM_FULL: no nodes
- * became free in that time. The others are those of nm_map_insert. After NM_NO and an error the map
+ * became free in that time; or, at once, the keys take all nodes and none waits. It knows the
+ * latter by `counts`, in which the program counts each insert and remove of the map. With NULL it
+ * waits in that case too. The others are those of nm_map_insert. After NM_NO and an error the map
  * does not have the value. */
 nm_outcome nm_map_put(nm_handle *map, nm_handle *worker, uint64_t key, uint64_t value,
-                      const nm_options *options, nm_map_release release, void *context,
-                      uint32_t timeout_ms);
+                      const nm_options *options, const nm_map_counts *counts,
+                      nm_map_release release, void *context, uint32_t timeout_ms);
 
 /* ---- calls that read, and are repeated ----
  * Each finishes a remove that is pending first, and repeats a call that lost each of its tries, at
@@ -135,12 +143,10 @@ nm_outcome nm_map_get_many(nm_handle *worker, nm_map_lookup *lookups, size_t cou
  * The library does not count the keys of a map, and does not know of forks. A program that owns a
  * map may do both by these. Several threads may call them at the same time. */
 
-/* One count for each worker of a map, in a cache line of its own, and the process that made it. */
-typedef struct nm_map_counts nm_map_counts;
-
-/* Makes the counts for 1 to 64 workers, all 0. Returns NM_DONE and writes them. Errors: NM_WORKERS,
- * NM_NO_MEMORY. */
-nm_outcome nm_map_counts_new(nm_map_counts **counts, uint32_t workers);
+/* Makes the counts of a map with that many nodes and 1 to 64 workers: one for each worker, in a
+ * cache line of its own, all 0. Returns NM_DONE and writes them. Errors: NM_WORKERS, NM_NO_MEMORY.
+ */
+nm_outcome nm_map_counts_new(nm_map_counts **counts, uint32_t nodes, uint32_t workers);
 
 /* Frees the counts; NULL is allowed. In a forked child it does nothing. */
 void nm_map_counts_free(nm_map_counts *counts);
@@ -158,6 +164,20 @@ uint64_t nm_map_counts_keys(const nm_map_counts *counts);
 /* Returns 1 if this process was forked after the counts were made, and else 0. A forked child must
  * call no other function for the map, and end none of its objects: they are the parent's. */
 int nm_map_is_forked(const nm_map_counts *counts);
+
+/* ---- how full it is ---- */
+
+/* Returns 1 if so many keys leave no two nodes free, even if none waits, and else 0. */
+int nm_map_is_brimful(uint64_t nodes, uint64_t keys);
+
+/* Writes how full a map is whose insert has returned NM_FULL: all nodes that its keys do not take
+ * wait to be freed, except one if their number is odd. `behind` is the worker that nm_map_take_back
+ * wrote, or NM_NOBODY. It is exact if no other call is in progress. */
+void nm_map_fullness(uint64_t nodes, uint64_t keys, uint32_t behind, nm_fullness *fullness);
+
+/* Writes what such a fullness says, like nm_full_words: "the map is full: its 47 keys take 99 of
+ * its 100 nodes, and 0 wait to be freed". */
+const char *nm_map_full_words(const nm_fullness *fullness, char *text, size_t size);
 
 /* ---- the end ---- */
 

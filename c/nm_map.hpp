@@ -9,10 +9,10 @@
 //     }
 //     worker.remove(5u);                       // true; the text is freed when nobody can read it
 //
-// A T of at most 8 bytes that can be copied by memcpy, like a number, is stored in place. Then all
-// calls of a worker return copies. A map holds objects of every other T by `std::unique_ptr<T>`,
-// and frees each of them exactly once: after its key was removed, when no guard is left that could
-// have returned it; or at the end of the map.
+// A T of at most 8 bytes that can be copied, and by memcpy, like a number, is stored in place. Then
+// all calls of a worker return copies. A map holds objects of every other T, such as atomics, by
+// `std::unique_ptr<T>`. It frees none of them twice: it frees each after its key was removed, when
+// no guard is left that could have returned it; or at the end of the map.
 //
 // A worker that has a guard makes no other call. So calls that go over several keys, and pops,
 // return objects by a second worker, under the guard of the first one:
@@ -28,8 +28,9 @@
 // atomics of its own. This header informs ThreadSanitizer of both orders: insert before get, and
 // the end of a guard before the object is freed.
 //
-// The library is proved. What this header and nm_map.h add to it is tested by c/map_objects.cpp,
-// c/map_order.cpp, c/map_soak.cpp and c/refused_map.cpp, and not proved. In a forked child each
+// The core, which is the functions of nm_set.h, is proved. What this header and nm_map.h add to it
+// is tested by c/map_objects.cpp, c/map_order.cpp, c/map_soak.cpp and c/refused_map.cpp, and not
+// proved. In a forked child each
 // call throws NM_FORKED, and the ends of a map, a worker and a guard do nothing: so no object of
 // the parent is freed there.
 #ifndef NM_MAP_HPP
@@ -69,9 +70,11 @@ struct MapEntry {
 
 namespace detail {
 
-// Whether a map stores values of a type in place.
+// Whether a map stores values of a type in place. An atomic can be copied by memcpy, but it must be
+// changed where it is: a copy constructor is what it lacks.
 template <typename T>
-inline constexpr bool is_in_place = std::is_trivially_copyable_v<T> && sizeof(T) <= 8;
+inline constexpr bool is_in_place =
+    std::is_trivially_copyable_v<T> && std::is_copy_constructible_v<T> && sizeof(T) <= 8;
 
 template <typename T>
 std::uint64_t word_of(const T &value) noexcept {
@@ -143,7 +146,7 @@ public:
           workers_(options.workers), timeout_ms_(options.timeout_ms), end_(end) {
         options_ = {options.tries, options.rounds,
                     options.collect_after.value_or(nm_map_collect_after(nodes_, workers_))};
-        nm_outcome outcome = nm_map_counts_new(&counts_, workers_);
+        nm_outcome outcome = nm_map_counts_new(&counts_, nodes_, workers_);
         if (outcome == NM_DONE) outcome = nm_map_new(&handle_, nodes_, workers_);
         if (outcome == NM_DONE) return;
         nm_map_counts_free(counts_);
@@ -209,17 +212,9 @@ inline bool answered_by_map(nm_outcome outcome, std::uint64_t key = 0) {
     fail(NM_UNFINISHED, [=] {
         return "the key " + std::to_string(key) +
                " will be removed by this call and no other, but its value is not known, because "
-               "other threads interfered with each try of each round";
+               "other threads interfered with each try of each round: the key is found until the "
+               "next call by this worker";
     });
-}
-
-// Returns the text of NM_FULL, with what is known.
-inline std::string full_text(std::uint32_t nodes, std::uint64_t waiting,
-                             std::optional<std::uint32_t> behind) {
-    std::string text = "the map is full: no two of its " + grouped(nodes) +
-                       " nodes are free, and " + grouped(waiting) + " wait with this worker";
-    if (behind) text += "; held back by a guard or a call of worker " + std::to_string(*behind);
-    return text;
 }
 
 }  // namespace detail
@@ -462,9 +457,8 @@ public:
     // Inserts a key with an object; returns whether the key was absent. Like
     // `std::map::try_emplace`, it takes the object only if it inserts it: after false, or a fault,
     // `object` has it as before. If no nodes are free, it frees what came back, and waits for
-    // nodes, for `timeout_ms` of the options at most: NM_FULL, with the numbers in the text. If
-    // another thread is stopped while it attaches a worker, this takes some tenths of a second
-    // more.
+    // nodes, for `timeout_ms` of the options at most. Then it throws NM_FULL, with the numbers in
+    // the text. If the keys take all nodes and no node waits, it throws NM_FULL at once.
     template <typename U, std::enable_if_t<std::is_convertible_v<U *, T *>, int> = 0>
     bool insert(Key key, std::unique_ptr<U> &&object) {
         static_assert(!detail::is_in_place<T>, "a T of at most 8 bytes is inserted by its value");
@@ -512,7 +506,8 @@ public:
     // Removes a key; returns whether it was present. Its object is freed later, when no guard can
     // return it, by the thread whose call finds that: by an `insert`, a `remove`, a `reclaim` or
     // the end of a worker, or by the end of the map. NM_UNFINISHED: the key will be removed by this
-    // call and no other, and the next call by this worker goes on with it.
+    // call and no other. Until the next call by this worker it is found, and an insert of it returns
+    // false. So remove it again: after false it is gone.
     bool remove(Key key) {
         std::uint64_t unused = 0;
         return detail::answered_by_map(removed_with_value(key, unused), key);
@@ -716,7 +711,8 @@ private:
     bool put(std::uint64_t key, std::uint64_t word) {
         nm_outcome outcome = ask([&](nm_handle *it) {
             return nm_map_put(place_->handle(), it, key, word, place_->options(),
-                              detail::MapPlace::release, place_.get(), place_->timeout_ms());
+                              place_->counts(), detail::MapPlace::release, place_.get(),
+                              place_->timeout_ms());
         });
         if (outcome == NM_FULL) fail_full();
         bool inserted = detail::answered_by_map(outcome, key);
@@ -733,9 +729,13 @@ private:
     }
 
     [[noreturn]] void fail_full() {
-        std::optional<std::uint32_t> behind = reclaim().behind;
-        std::uint64_t left = waiting();
-        detail::fail(NM_FULL, [&] { return detail::full_text(place_->nodes(), left, behind); });
+        std::uint32_t behind = reclaim().behind.value_or(NM_NOBODY);
+        nm_fullness full{};
+        nm_map_fullness(place_->nodes(), nm_map_counts_keys(place_->counts()), behind, &full);
+        detail::fail(NM_FULL, [&] {
+            char text[640];
+            return std::string(nm_map_full_words(&full, text, sizeof text));
+        });
     }
 
     template <typename... Args>
@@ -883,9 +883,9 @@ public:
     Map(Map &&from) noexcept = default;
     Map &operator=(Map &&from) noexcept = default;
 
-    // Attaches a worker to this thread, the least number first. While each worker is attached it
-    // waits, for `most` at most, and then throws NM_NO_WORKER. If no time is given, it waits for
-    // `timeout_ms` of the options.
+    // Attaches a worker to this thread, the least number first. While each worker is attached, or
+    // another thread attaches one, it waits, for `most` at most, and then throws NM_NO_WORKER. If no
+    // time is given, it waits for `timeout_ms` of the options. It also throws NM_NO_MEMORY.
     [[nodiscard]] Worker attach(std::chrono::milliseconds most) {
         check_open();
         Worker taken;
@@ -894,7 +894,8 @@ public:
         if (outcome == NM_NO_WORKER)
             detail::fail(outcome, [&] {
                 return "each of the " + std::to_string(workers()) +
-                       " workers of the map (64 at most) is attached";
+                       " workers of the map (64 at most) is attached, or other threads were "
+                       "attaching workers for all of the timeout";
             });
         detail::answered_by_map(outcome);
         (void)nm_map_number(&taken.handle_, &taken.number_);

@@ -10,8 +10,8 @@
  *     nm_drop(&report);
  *     nm_pool_free(pool);
  *
- * The library is proved. The pool is code in C around it: c/pool.c and the tests of each language
- * test it, and no proof covers it.
+ * The core, which is the functions of nm_set.h, is proved. The pool is code in C around it: c/pool.c
+ * and the tests of each language test it, and no proof covers it.
  *
  * **A worker for a call.** A call by NM_ANY takes a worker that no thread uses, first the one that
  * this thread used last. If there is none, it borrows a worker that is attached to a thread, in no
@@ -152,11 +152,12 @@ nm_outcome nm_pool_contains(nm_pool *pool, uint32_t worker, uint64_t key, uint32
 nm_outcome nm_pool_insert(nm_pool *pool, uint32_t worker, uint64_t key, uint32_t timeout_ms);
 
 /* Removes a key; returns NM_YES if it was present, and else NM_NO. NM_UNFINISHED: the key will be
- * removed by this call and no other. */
+ * removed by this call and no other. Until the next call by the same worker it is found, and an
+ * insert of it returns NM_NO. So remove it again: after NM_NO it is gone. */
 nm_outcome nm_pool_remove(nm_pool *pool, uint32_t worker, uint64_t key, uint32_t timeout_ms);
 
 /* Removes the least key and writes it to taken: NM_YES, or NM_UNFINISHED (the key will be removed
- * by this call and no other). NM_NO if the set is empty. */
+ * by this call and no other, as after nm_pool_remove). NM_NO if the set is empty. */
 nm_outcome nm_pool_pop_first(nm_pool *pool, uint32_t worker, uint64_t *taken, uint32_t timeout_ms);
 
 /* Removes the greatest key and writes it, in the same way. */

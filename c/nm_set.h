@@ -93,7 +93,7 @@ typedef enum nm_outcome {
                              and call again */
     NM_UNFINISHED = -11,  /* the leaf with the key is flagged and not known to be cut off: the key
                              will be removed, and is pending until nm_worker_finish or a managed
-                             call finishes it */
+                             call by this worker finishes it. Until then it is found */
     NM_PENDING = -12,     /* a key is pending, so that only nm_worker_finish or a managed call goes
                              on */
     NM_PINNED = -13,      /* the caller has pinned the worker, and has not unpinned it */
@@ -129,7 +129,8 @@ static inline const char *nm_outcome_text(nm_outcome outcome) {
     case NM_NO_MEMORY: return "memory was refused";
     case NM_BUSY: return "other threads interfered with each try: call again, or give more tries";
     case NM_FULL: return "no nodes are free for the new key: advance, collect and call again";
-    case NM_UNFINISHED: return "the remove has begun and is not finished: the key will be removed";
+    case NM_UNFINISHED:
+        return "the remove is not finished: the key is found until the next call by this worker";
     case NM_PENDING: return "an earlier remove is not finished: finish it first";
     case NM_PINNED: return "the worker is pinned: unpin it first";
     case NM_NOT_PINNED: return "the worker is not pinned";
@@ -214,8 +215,9 @@ nm_outcome nm_set_version(uint32_t *major, uint32_t *minor, uint32_t *patch);
  * These return NM_CLOSED if the handle is closed, and NM_KIND if it owns something else. */
 
 /* Makes the empty set, in a radix tree with room for 7 to 268,435,456 nodes, for 1 to 64 workers.
- * No call walks past 66 nodes, in whatever order keys come. Returns NM_DONE, and the handle owns
- * the set. Errors: NM_OPEN, NM_NODES, NM_WORKERS, NM_NO_MEMORY.
+ * No walk goes over more than 66 edges, in whatever order keys come. (A call that lost a try walks
+ * again.) Returns NM_DONE, and the handle owns the set. Errors: NM_OPEN, NM_NODES, NM_WORKERS,
+ * NM_NO_MEMORY.
  *
  * How many nodes: a program that only inserts n keys needs 2 n + 5. A removed node is free again
  * only after two advances of the epoch, and it waits while a thread is stopped inside a call. So
@@ -228,7 +230,7 @@ nm_outcome nm_set_version(uint32_t *major, uint32_t *minor, uint32_t *patch);
  * queues of removed nodes take memory as they grow, and give it back: after each call those of all
  * workers take at most 24.25 bytes for each node that waits, and 7,712 for each worker. With
  * GLIBC_TUNABLES=glibc.malloc.hugetlb=1 in the environment of a program the nodes are in huge
- * pages: from a million keys on look-ups then took 0.65 to 0.99 of the time. */
+ * pages: with a million keys look-ups then took 0.63 to 0.80 of the time (bench/README.md). */
 nm_outcome nm_set_new(nm_handle *set, uint32_t nodes, uint32_t workers);
 
 /* Makes the empty set in the tree of Natarajan and Mittal, in which keys that come in order make
@@ -293,8 +295,9 @@ nm_outcome nm_worker_contains(nm_handle *worker, uint64_t key, const nm_options 
 nm_outcome nm_worker_insert(nm_handle *worker, uint64_t key, const nm_options *options);
 
 /* Removes a key; returns NM_YES if it was present, and else NM_NO. Errors: NM_UNFINISHED: the key
- * will be removed by this call and no other, and is pending; the next managed call finishes it
- * first. NM_KEY, NM_BUSY, NM_PENDING, NM_PINNED, NM_NO_MEMORY. */
+ * will be removed by this call and no other, and is pending. Until then it is found, and an insert
+ * of it returns NM_NO. So make one more managed call by this worker, which finishes the remove
+ * first: after its answer the key is gone. NM_KEY, NM_BUSY, NM_PENDING, NM_PINNED, NM_NO_MEMORY. */
 nm_outcome nm_worker_remove(nm_handle *worker, uint64_t key, const nm_options *options);
 
 /* Removes the least key of the set and writes it to taken: NM_YES; NM_NO if the set is empty. This
@@ -302,9 +305,9 @@ nm_outcome nm_worker_remove(nm_handle *worker, uint64_t key, const nm_options *o
  * the set did not have it; after NM_NO there was one for each key. The moments of two keys may
  * differ. So no two such calls take one key, and none passes over a key that was in the set during
  * the whole call. NM_UNFINISHED: taken is written too. The key will be removed by this call and no
- * other, and it is pending: the next managed call finishes the remove first. NM_BUSY: in each round
- * other workers removed the key that was found. NM_PENDING, NM_PINNED, NM_NO_MEMORY. After any
- * other outcome than NM_YES and NM_UNFINISHED, taken is not written. */
+ * other, and it is pending, as after nm_worker_remove. NM_BUSY: in each round other workers removed
+ * the key that was found. NM_PENDING, NM_PINNED, NM_NO_MEMORY. After any other outcome than NM_YES
+ * and NM_UNFINISHED, taken is not written. */
 nm_outcome nm_worker_pop_first(nm_handle *worker, const nm_options *options, uint64_t *taken);
 
 /* Removes the greatest key of the set and writes it, in the same way. */
@@ -384,8 +387,8 @@ nm_outcome nm_worker_try_insert(nm_handle *worker, uint64_t key, uint32_t tries)
  * Errors: NM_KEY, NM_BUSY, NM_UNFINISHED, NM_PENDING, NM_PINNED, NM_NO_MEMORY. */
 nm_outcome nm_worker_try_remove(nm_handle *worker, uint64_t key, uint32_t tries);
 
-/* Goes on with the remove that is pending. Returns NM_YES if it is finished now, and NM_NO if none
- * is pending. Errors: NM_UNFINISHED: the key is still pending. */
+/* Goes on with the remove that is pending. Returns NM_YES if it is finished now: the key is gone.
+ * NM_NO if none is pending. Errors: NM_UNFINISHED: the key is still pending, and is found. */
 nm_outcome nm_worker_finish(nm_handle *worker, uint32_t tries);
 
 /* ---- a worker, on the epoch ----
@@ -541,8 +544,8 @@ nm_outcome nm_map_get_or_insert(nm_handle *worker, uint64_t key, uint64_t value,
 /* Removes a key. Returns NM_YES if it was present, and writes the value that it had, or NM_NO. The
  * value comes back by nm_map_reclaim too: until then other workers may read it. Errors:
  * NM_UNFINISHED: value is written too. The key will be removed by this call and no other, and it is
- * pending; the next managed call finishes the remove first. NM_KEY, NM_BUSY, NM_PENDING, NM_PINNED,
- * NM_NO_MEMORY. After any other outcome than NM_YES and NM_UNFINISHED, value is not written. */
+ * pending, as after nm_worker_remove. NM_KEY, NM_BUSY, NM_PENDING, NM_PINNED, NM_NO_MEMORY. After any
+ * other outcome than NM_YES and NM_UNFINISHED, value is not written. */
 nm_outcome nm_map_remove(nm_handle *worker, uint64_t key, const nm_options *options,
                          uint64_t *value);
 

@@ -13,9 +13,9 @@
 // What a thread wrote before it inserted a key is visible to each thread that finds or removes that
 // key: so a key may hand over a payload. This header informs ThreadSanitizer of it.
 //
-// The library is proved. What is added to it is tested by `c/check`, and not proved: the pool of
-// nm_pool.h, which finds a worker for a call, waits and counts the keys; and in this header the
-// calls that are made of several calls.
+// The core, which is the functions of nm_set.h, is proved. What is added to it is tested by
+// `c/check`, and not proved: the pool of nm_pool.h, which finds a worker for a call, waits, counts
+// the keys and lets the set grow; and in this header the calls that are made of several calls.
 #ifndef NM_SET_HPP
 #define NM_SET_HPP
 
@@ -130,9 +130,9 @@ private:
     nm_outcome outcome_;
 };
 
-// The shape of a set's tree. `radix`: no call passes more than 66 nodes, in whatever order the keys
-// come. `unbalanced`: the tree of Natarajan and Mittal, in which keys that come in order make one
-// long path.
+// The shape of a set's tree. `radix`: no walk goes over more than 66 edges, in whatever order the
+// keys come. `unbalanced`: the tree of Natarajan and Mittal, in which keys that come in order make
+// one long path.
 enum class Shape { radix, unbalanced };
 
 // How a set is made, and the bounds of its calls.
@@ -525,7 +525,8 @@ public:
     bool insert(Key key) { return done(nm_pool_insert, key); }
 
     // Removes the key; returns whether it was present. NM_UNFINISHED: the key will be removed by
-    // this call and no other, and the next call by this worker goes on with it.
+    // this call and no other. Until the next call by the same worker it is found, and an insert of
+    // it returns false. So remove it again: after false it is gone.
     bool remove(Key key) { return done(nm_pool_remove, key); }
 
     // Returns whether the set has the key.
@@ -560,16 +561,14 @@ public:
     }
 
     // Removes the least keys that are below a bound, one by one and at most `room`, and returns
-    // them. It waits for each key like `pop_first`. It throws a fault only if it has removed no
-    // key.
+    // them. SIZE_MAX is allowed: it takes memory for the keys that it returns. It waits for each key
+    // like `pop_first`. It throws a fault only if it has removed no key.
     std::vector<std::uint64_t> pop_first_many(Key below, std::size_t room) {
-        std::vector<std::uint64_t> popped(room);
-        std::size_t count = 0;
-        done([&](const detail::Place &to) {
-            return nm_pool_pop_first_many(to.pool, to.worker, below, popped.data(), room, &count,
-                                          to.timeout_ms);
-        });
-        popped.resize(count);
+        std::vector<std::uint64_t> popped;
+        nm_outcome outcome = NM_YES;
+        while (outcome == NM_YES && popped.size() < room)
+            outcome = pop_block(below, std::min(room - popped.size(), most_popped), popped);
+        if (outcome < 0 && popped.empty()) detail::fail_at(self().place(), outcome, 0);
         return popped;
     }
 
@@ -682,11 +681,43 @@ private:
         }, key);
     }
 
-    // Changes keys by a call of the pool, and appends its answers.
+    static constexpr std::size_t most_popped = 512;  // for how many keys it takes memory at a time
+
+    // Removes the least keys that are below a bound, at most `room`, and appends them. Returns
+    // NM_YES if they are so many, NM_NO if they are fewer, or an error, after which it has removed
+    // none.
+    nm_outcome pop_block(std::uint64_t below, std::size_t room,
+                         std::vector<std::uint64_t> &popped) {
+        std::size_t had = popped.size(), count = 0;
+        try {
+            popped.resize(had + room);
+        } catch (const std::bad_alloc &) {
+            return NM_NO_MEMORY;
+        }
+        nm_outcome outcome = ask([&](const detail::Place &to) {
+            return nm_pool_pop_first_many(to.pool, to.worker, below, &popped[had], room, &count,
+                                          to.timeout_ms);
+        });
+        popped.resize(had + count);
+        return outcome < 0 ? outcome : count == room ? NM_YES : NM_NO;
+    }
+
+    // Makes room for more answers, and for twice as many as before if there was too little.
+    static void reserve_answers(std::vector<bool> &answers, std::size_t count) {
+        std::size_t needed = answers.size() + count;
+        if (needed > answers.capacity()) answers.reserve(std::max(needed, 2 * answers.capacity()));
+    }
+
+    // Changes keys by a call of the pool, and appends its answers. All memory is taken before the
+    // first key is changed.
     template <typename Call>
     void change_many(Call call, const std::vector<std::uint64_t> &wanted,
                      std::vector<bool> &answers) {
-        std::vector<unsigned char> bytes(wanted.size());
+        std::vector<unsigned char> bytes;
+        detail::in_memory([&] {
+            bytes.resize(wanted.size());
+            reserve_answers(answers, wanted.size());
+        });
         std::size_t count = 0;
         nm_outcome outcome = ask([&](const detail::Place &to) {
             return call(to.pool, to.worker, wanted.data(), wanted.size(), bytes.data(), &count,
@@ -1170,7 +1201,8 @@ public:
 
     // ---- a key, with nothing thrown ----
     // These make the managed calls of nm_set.h, with the bounds of the options. They wait for no
-    // worker and for no nodes. NM_NO_WORKER: each worker is in a call or pinned. If another thread
+    // worker and for no nodes. If their thread is cancelled in them, asynchronously, the process
+    // ends, because they are noexcept. NM_NO_WORKER: each worker is in a call or pinned. If another thread
     // is stopped while it makes the first call by a worker, they take some tenths of a second.
 
     // Inserts the key; returns NM_YES if it was absent, and else NM_NO. Errors: NM_FULL: no nodes

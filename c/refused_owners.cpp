@@ -2,6 +2,7 @@
 // refusal. If any one allocation is refused, it writes the same text: refused_owners.out.
 #include "thrown.hpp"
 
+#include <algorithm>
 #include <cstdio>
 
 namespace {
@@ -42,6 +43,31 @@ bool is_full() {
     return false;
 }
 
+// Removes all keys and inserts them again, by calls for several keys. A refusal loses no key, and
+// no answer: if answers were lost, keys that are inserted again would be present.
+void change_several() {
+    nm::Set set = at_last([] { return unbalanced_set(4'096, workers); });
+    constexpr std::uint64_t many = 1'200;
+    for (std::uint64_t key = 0; key < many; key++) CHECK(at_last([&] { return set.insert(key); }));
+    std::vector<std::uint64_t> popped, rest;
+    std::vector<bool> answers;
+    at_last([&] { nm::detail::in_memory([&] { popped.reserve(many), rest.reserve(many); }); });
+    while (popped.size() < many) {
+        auto some = at_last([&] { return set.pop_first_many(UINT64_MAX, SIZE_MAX); });
+        popped.insert(popped.end(), some.begin(), some.end());
+    }
+    CHECK(set.size() == 0 && popped.front() == 0 && popped.back() == many - 1);
+    while (answers.size() < many) {
+        rest.assign(popped.begin() + static_cast<std::ptrdiff_t>(answers.size()), popped.end());
+        try {
+            set.insert_many(rest, answers);
+        } catch (const nm::Fault &fault) {
+            CHECK(fault.outcome() == NM_NO_MEMORY);
+        }
+    }
+    CHECK(std::count(answers.begin(), answers.end(), true) == many && set.size() == many);
+}
+
 }  // namespace
 
 int main() {
@@ -55,6 +81,7 @@ int main() {
     }
     worker.close();
     CHECK(is_full());
+    change_several();
     const nm::Report report = at_last([&] { return set.close(); });
     CHECK(!set.is_open() && at_last([&] { return report.keys(); }).size() == keys);
     nm::Slots slots = report.slots();

@@ -21,7 +21,21 @@ struct Release {
     }
 };
 
+struct Id {
+    std::uint64_t number;
+    friend constexpr bool operator<(Id one, Id other) { return one.number < other.number; }
+    friend constexpr bool operator==(Id one, Id other) { return one.number == other.number; }
+};
+
 }  // namespace
+
+template <>
+struct nm::KeyOf<Id> {
+    static constexpr unsigned bits = 64;
+    static constexpr std::uint64_t key(Id id) noexcept { return id.number; }
+    static constexpr Id value(std::uint64_t key) noexcept { return {key}; }
+    static constexpr std::array<Id, 2> samples{Id{0}, Id{UINT64_MAX}};
+};
 
 // A type of the program's own.
 template <>
@@ -67,6 +81,30 @@ void answers_like(std::initializer_list<T> values) {
     CHECK(set.close().size() == peer.size() - 3);
 }
 
+// The text of a refusal names the value that the program wrote.
+template <typename T>
+void is_refused(const T &value, const std::string &text) {
+    nm::SetOf<T> set;
+    Thrown refused = fault_of([&] { set.insert(value); });
+    CHECK(refused.outcome == NM_KEY && refused.text == "the value " + text + " is no key: of a type "
+                                       "with 64 bits the three greatest values are none");
+    CHECK(fault_of([&] { set.attach().remove(value); }).text == refused.text);
+}
+
+void refused_values_are_named() {
+    enum class Wide : std::uint64_t {};
+    using Span = std::chrono::nanoseconds;
+    is_refused(INT64_MAX - 2, "9223372036854775805");
+    is_refused(UINT64_MAX, "18446744073709551615");
+    is_refused(Wide(UINT64_MAX), "18446744073709551615");
+    is_refused(Span::max(), "9223372036854775807");
+    is_refused(std::chrono::time_point<std::chrono::system_clock, Span>::max(),
+               "9223372036854775807");
+    is_refused(std::pair<std::int32_t, nm::Bits<32>>(INT32_MAX, UINT32_MAX),
+               "(2147483647, 4294967295)");
+    is_refused(Id{UINT64_MAX}, "with the key 18446744073709551615");
+}
+
 void values_that_are_no_keys() {
     nm::SetOf<std::int64_t> set;
     CHECK(set.insert({INT64_MIN, -5, 5, INT64_MAX - 3}) == 4);
@@ -97,5 +135,6 @@ int main() {
         {at, at + Seconds(1), at - Seconds(5), at - Seconds(500), at + Seconds(9)});
     answers_like<Release>({{1, 2}, {1, 0}, {0, 9}, {7, 0}, {1, 1}});
     values_that_are_no_keys();
+    refused_values_are_named();
     std::puts("a set of values answers like std::set");
 }

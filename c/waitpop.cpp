@@ -37,6 +37,11 @@ void bounds_are_kept() {
     CHECK(set.pop_last(40u) == 40 && !set.wait_pop(20u, milliseconds(20)));
     CHECK(set.pop_first_many(30u, 5) == std::vector<std::uint64_t>{20});
     CHECK(set.pop_first_many(31u, 0).empty() && set.pop_first_many(31u, 5).size() == 1);
+    CHECK(set.pop_first_many(UINT64_MAX, SIZE_MAX).empty());
+    for (std::uint64_t key = 0; key < 1'300; key++) CHECK(set.insert(key));
+    std::vector<std::uint64_t> all = set.pop_first_many(1'200u, std::size_t{1} << 46);
+    CHECK(all.size() == 1'200 && all.front() == 0 && all.back() == 1'199 && set.size() == 100);
+    CHECK(set.pop_first_many(UINT64_MAX, 99).size() == 99 && set.pop_first() == 1'299u);
     for (std::uint64_t round = 0; round < 500; round++) {
         std::optional<std::uint64_t> lesser;
         std::thread small([&] { lesser = set.wait_pop(100u, long_time); });

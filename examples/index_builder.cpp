@@ -2,8 +2,9 @@
 // documents of a term while they load.
 //
 // A key is the term in the high bits and the document in the low bits. So the documents of a term
-// are one range of keys. Each loader attaches a worker of its own, because it makes many calls. A
-// set has a fixed number of nodes: a key that is only inserted takes two, and the set itself five.
+// are one range of keys. Each loader attaches a worker of its own, because it makes many calls. The
+// set gets a number of nodes, so that it need not grow: a key that is only inserted takes two, and
+// the set itself five.
 #include <nm_set.hpp>
 
 #include <algorithm>

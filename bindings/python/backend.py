@@ -118,12 +118,24 @@ def _library_name() -> str:
     return f"libnm_set.so.{f'0.{minor}' if major == '0' else major}"
 
 
-def _tag(files: list[str]) -> str:
-    """For which Pythons and machines a wheel with these compiled files is."""
+def _platform(files: list[Path]) -> str:
+    """For which machines these compiled files are. Those for Linux run with the greatest version of
+    glibc that they name, and later ones: each names the versions whose symbols it needs."""
     platform = re.sub(r"[-.]", "_", sysconfig.get_platform())
+    texts = [path.read_bytes() for path in files]
+    named = [found for text in texts for found in re.findall(rb"\0GLIBC_(\d+)\.(\d+)", text)]
+    if not named or not platform.startswith("linux_"):
+        return platform
+    major, minor = max((int(major), int(minor)) for major, minor in named)
+    return f"manylinux_{major}_{minor}_{platform[len('linux_'):]}"
+
+
+def _tag(files: list[Path]) -> str:
+    """For which Pythons and machines a wheel with these compiled files is."""
     if not files:
         return "py3-none-any"
-    if _native_name() not in files:
+    platform = _platform(files)
+    if _native_name() not in [path.name for path in files]:
         return f"py3-none-{platform}"
     python = "cp" + "".join(map(str, LIMITED if _is_limited() else sys.version_info[:2]))
     return f"{python}-{'abi3' if _is_limited() else python}-{platform}"
@@ -238,7 +250,8 @@ def build_wheel(
     with tempfile.TemporaryDirectory() as room:
         made = _compiled(Path(room))
         files.update({f"nm_set/{path.name}": path.read_bytes() for path in made})
-    return _write(wheel_directory, files, _tag([path.name for path in made]))
+        tag = _tag(made)
+    return _write(wheel_directory, files, tag)
 
 
 def build_editable(

@@ -1,4 +1,4 @@
-"""A concurrent ordered set of integers, without locks, over the proved library libnm_set.
+"""A concurrent ordered set and map of integers, over the library libnm_set, whose core is proved.
 
     import nm_set
 

@@ -2,6 +2,7 @@
 
 from __future__ import annotations
 
+import reprlib
 from collections.abc import Sequence
 from ctypes import c_void_p, create_string_buffer
 
@@ -24,8 +25,8 @@ class Fault(Exception):
 
 
 class Full(Fault):
-    """An add found no free nodes: the keys take all of them, or no others were freed within the
-    `timeout_ms` of the set's `Options`. Nothing has changed."""
+    """An add to a set, or an insert into a map, found no free nodes: the keys take all of them, or
+    no others were freed within the `timeout_ms` of its `Options`. Nothing has changed."""
 
     outcome = c.FULL
 
@@ -45,7 +46,8 @@ class Contention(Fault):
 
 class Unfinished(Fault):
     """A discard has begun, and its bound was reached before it was finished. The key will be
-    removed by this discard and no other."""
+    removed by this discard and no other. Until the next call by the same worker it is found, and an
+    add of it returns False. So discard it again: after False it is gone."""
 
     outcome = c.UNFINISHED
 
@@ -105,7 +107,8 @@ _TEXTS = {
     c.BUSY: "other threads interfered with each try of each round: call again, or raise the rounds"
     " of the options",
     c.FULL: "no nodes are free for the new key",
-    c.UNFINISHED: "the discard has begun and is not finished: the key will be removed",
+    c.UNFINISHED: "the discard is not finished: the key is found until the next call by its worker,"
+    " so discard it again",
     c.PINNED: "the worker is pinned: unpin it first",
     c.NOT_PINNED: "the worker is not pinned",
     c.ATTACHED: "a worker is attached to a thread",
@@ -167,6 +170,14 @@ def key_fault(key: int) -> Fault:
     return fault(c.KEY, f"the key {shown(key)} is not 0 to {MOST_KEY:,} (2^64 - 4)")
 
 
+def value_fault(value: object, key: int) -> Fault:
+    """Returns the exception of a value of another type that has this number in place of a key."""
+    text = "of 64 bits the three greatest values are none"
+    if not MOST_KEY < key < 2**64:
+        text = f"its mapping returns {shown(key)}, and keys are 0 to {MOST_KEY:,} (2^64 - 4)"
+    return fault(c.KEY, f"the value {reprlib.repr(value)} is no key: {text}")
+
+
 def closed() -> Fault:
     """Returns the exception of a call of a closed set."""
     return fault(c.CLOSED, "the set is closed")
@@ -189,10 +200,10 @@ def fault_at(outcome: int, pool: c_void_p, worker: int) -> Fault:
     return fault(outcome)
 
 
-def shortened(keys: Sequence[int], count: int) -> str:
+def shortened(keys: Sequence[object], count: int) -> str:
     """Returns keys as `repr` shows them: the first ones, and how many there are if there are
     more."""
-    first = ", ".join(map(str, keys[:SHOWN]))
+    first = ", ".join(map(repr, keys[:SHOWN]))
     return f"[{first}]" if len(keys) <= SHOWN else f"[{first}, ...], {count} keys"
 
 

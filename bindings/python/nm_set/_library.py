@@ -162,7 +162,7 @@ FUNCTIONS: dict[str, list[Any]] = {
     "nm_worker_observe": [_H, c_uint32, _U64, _U64],
     "nm_map_new": [_H, c_uint32, c_uint32],
     "nm_map_close": [_H],
-    "nm_map_attach": [_H, _H],
+    "nm_map_wait_attach": [_H, _H, c_uint32],
     "nm_map_insert": [_H, c_uint64, c_uint64, _OPTIONS],
     "nm_map_remove": [_H, c_uint64, _OPTIONS, _U64],
     "nm_map_pop_first_below": [_H, c_uint64, _OPTIONS, _U64, _U64],
@@ -183,6 +183,9 @@ FUNCTIONS: dict[str, list[Any]] = {
     "nm_map_count": [_H, c_uint64, c_uint64, _U64, _OPTIONS],
     "nm_map_queue_len": [_H, _U64],
     "nm_map_collect_after": [c_uint32, c_uint32],
+    "nm_map_is_brimful": [c_uint64, c_uint64],
+    "nm_map_fullness": [c_uint64, c_uint64, c_uint32, POINTER(FullnessWords)],
+    "nm_map_full_words": [POINTER(FullnessWords), c_char_p, c_size_t],
     "nm_report_slots": [_H, _U32, _U32],
     "nm_report_keys": [_H, _U64],
     "nm_report_key": [_H, c_uint64, _U64],
@@ -201,6 +204,8 @@ _RESULTS: dict[str, Any] = {
     "nm_full_words": c_char_p,
     "nm_mask_words": c_char_p,
     "nm_map_collect_after": c_uint32,
+    "nm_map_fullness": None,
+    "nm_map_full_words": c_char_p,
 }
 
 # In place of the number of a worker: any worker, and none. In place of `collect_after`: an eighth of

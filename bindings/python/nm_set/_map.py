@@ -31,7 +31,7 @@ from collections import deque
 from collections.abc import Callable, ItemsView, Iterable, Iterator, MutableMapping, ValuesView
 from collections.abc import Mapping as AbstractMapping
 from contextlib import suppress
-from ctypes import c_size_t, c_uint32, c_uint64
+from ctypes import c_size_t, c_uint32, c_uint64, create_string_buffer
 from functools import partial
 from types import TracebackType
 from typing import Any, Generic, Optional, SupportsIndex, TypeVar, Union, overload
@@ -54,11 +54,13 @@ _MISSING: Any = object()
 
 class _Worker:
     """A worker of a map, which is in one call or idle. If it is lost, because an exception came
-    between two steps, the end of this object returns it to the map."""
+    between two steps, the end of this object returns it to the map. `returned` has the tokens that
+    came back during its call, and `behind` the worker that held others back."""
 
     def __init__(self) -> None:
         self.handle, self.owner = c.Handle(), Owner()
-        self.values, self.count = (c_uint64 * _ROOM)(), c_uint64()
+        self.values, self.count, self.behind = (c_uint64 * _ROOM)(), c_uint64(), c_uint32()
+        self.returned: list[int] = []
         drop_with(self.owner, self.handle)
 
 
@@ -93,7 +95,7 @@ os.register_at_fork(after_in_child=_forget_all)
 
 
 class Map(MutableMapping, Generic[V]):  # type: ignore[type-arg]
-    """A concurrent ordered map from the integers 0 to 2^64 - 4 to objects, without locks.
+    """A concurrent ordered map from the integers 0 to 2^64 - 4 to objects.
 
     Any thread may call it. Each call uses one of the map's workers that is in no other call. If
     each is in a call, the call waits for at most the `timeout_ms` of `Options`, and then raises
@@ -144,6 +146,7 @@ class Map(MutableMapping, Generic[V]):  # type: ignore[type-arg]
         self._tokens = itertools.count()
         self._read: dict[int, V] = {}
         self._left: dict[int, V] = {}
+        self._new: set[int] = set()  # the tokens of inserts that have not ended
         self._idle: deque[_Worker] = deque()
         self._closer, self._is_open, self._process = threading.RLock(), True, os.getpid()
         self._handle, self._owner = c.Handle(), Owner()
@@ -171,55 +174,59 @@ class Map(MutableMapping, Generic[V]):  # type: ignore[type-arg]
             with suppress(IndexError):
                 return self._idle.pop()
             worker = _Worker()
-            outcome = c.quick.nm_map_attach(self._handle, worker.handle)
+            outcome = c.quick.nm_map_wait_attach(self._handle, worker.handle, 0)
             if outcome == c.DONE:
                 return worker
             wait = wait or _Wait(self._seconds)
-            if outcome not in (c.NO_WORKER, c.IN_USE) or not wait.goes_on():
+            if outcome != c.NO_WORKER or not wait.goes_on():
                 raise self._fault(outcome)
             self._check_open()
 
     def _fault(self, outcome: int) -> Fault:
         """Returns the exception of an outcome below 0."""
-        keys = len(self._left)
-        texts = {
-            c.NO_WORKER: f"each of the {self._workers} workers of the map is in a call",
-            c.FULL: f"the map is full: no two of its {self._nodes:,} nodes are free; it has"
-            f" {keys:,} keys, which take {2 * keys + 5:,}, and the others wait to be freed",
-        }
         if outcome in (c.KIND, c.CLOSED, c.CLOSING):  # the map was closed meanwhile
             return fault(c.CLOSED, "the map is closed")
-        return fault(outcome, texts.get(outcome))
+        if outcome == c.NO_WORKER:
+            return fault(outcome, f"each of the {self._workers} workers of the map is in a call")
+        return fault(outcome)
+
+    def _full(self, worker: _Worker) -> Fault:
+        """Returns the exception of an insert by a worker that found no nodes."""
+        words, text = c.FullnessWords(), create_string_buffer(640)
+        c.quick.nm_map_fullness(self._nodes, self._keys(), worker.behind, words)
+        return fault(c.FULL, c.quick.nm_map_full_words(words, text, len(text)).decode())
 
     def _with_worker(self, call: Callable[[_Worker], T]) -> T:
-        """Makes a call by a worker, and takes back what came back by it."""
+        """Makes a call by a worker, and takes back what came back by it. The objects of that end
+        when the worker is idle again, because they may make calls of the map."""
         worker = self._take()
-        tokens: list[int] = []
         try:
             made = call(worker)
-            tokens = self._tend(worker)
+            self._tend(worker)
         finally:
+            tokens, worker.returned = worker.returned, []
             self._idle.append(worker)
-        self._release(tokens)
+            self._release(tokens)
         return made
 
     # ---- what comes back ----
 
-    def _taken_back(self, worker: _Worker) -> list[int]:
-        """Returns the tokens that came back by a worker."""
-        tokens: list[int] = []
-        count, behind = _ROOM, c_uint32()
+    def _take_back(self, worker: _Worker, tokens: list[int]) -> None:
+        """Appends the tokens that came back by a worker."""
+        count = _ROOM
         while count == _ROOM:
-            c.quick.nm_map_reclaim(worker.handle, worker.values, _ROOM, worker.count, behind)
+            c.quick.nm_map_reclaim(
+                worker.handle, worker.values, _ROOM, worker.count, worker.behind
+            )
             count = worker.count.value
             tokens += worker.values[:count]
-        return tokens
 
-    def _tend(self, worker: _Worker) -> list[int]:
-        """Returns the tokens that came back by a worker, if enough nodes wait with it."""
+    def _tend(self, worker: _Worker) -> None:
+        """Takes back the tokens that came back by a worker, if enough nodes wait with it."""
         waiting = c_uint64()
         c.quick.nm_map_queue_len(worker.handle, waiting)
-        return self._taken_back(worker) if waiting.value >= self._after else []
+        if waiting.value >= self._after:
+            self._take_back(worker, worker.returned)
 
     def _release(self, tokens: list[int]) -> None:
         """Ends the references to objects. This may run code of theirs, so the worker is idle
@@ -227,23 +234,22 @@ class Map(MutableMapping, Generic[V]):  # type: ignore[type-arg]
         for token in tokens:
             self._read.pop(token, None)
 
-    def _collected(self) -> list[int]:
-        """Returns the tokens that came back by all idle workers."""
-        tokens: list[int] = []
+    def _take_back_idle(self, tokens: list[int]) -> None:
+        """Appends the tokens that came back by all idle workers."""
         for _ in range(len(self._idle)):
             with suppress(IndexError):
                 worker = self._idle.popleft()
                 try:
-                    tokens += self._taken_back(worker)
+                    self._take_back(worker, tokens)
                 finally:
                     self._idle.append(worker)
-        return tokens
 
     def collect(self) -> int:
         """Ends the map's references to all objects that no call can return any more, and returns
         how many these are. It skips workers that are in a call, and waits for nothing."""
         self._check_open()
-        tokens = self._collected()
+        tokens: list[int] = []
+        self._take_back_idle(tokens)
         self._release(tokens)
         return len(tokens)
 
@@ -321,31 +327,45 @@ class Map(MutableMapping, Generic[V]):  # type: ignore[type-arg]
     def insert(self, key: SupportsIndex, value: V) -> bool:
         """Inserts a key with an object; returns True if the key was absent. Otherwise the key keeps
         its object. If no nodes are free it collects, and waits for at most the `timeout_ms` of
-        `Options`: `Full`."""
+        `Options`: `Full`. If the keys take all nodes and no node waits, it raises `Full` at
+        once."""
         number = _checked(key)
         return self._with_worker(lambda worker: self._inserted(worker, number, value))
 
     def _inserted(self, worker: _Worker, key: int, value: V) -> bool:
         token = next(self._tokens)
-        self._left[token] = self._read[token] = value  # before another call can find the token
-        outcome = c.quick.nm_map_insert(worker.handle, key, token, self._words)
-        if outcome == c.FULL:
-            outcome = self._inserted_later(worker, key, token)
-        if outcome != c.YES:
-            del self._left[token], self._read[token]
+        try:
+            self._new.add(token)
+            self._left[token] = self._read[token] = value  # before another call can find the token
+            outcome = c.quick.nm_map_insert(worker.handle, key, token, self._words)
+            if outcome == c.FULL:
+                outcome = self._inserted_later(worker, key, token)
+            if outcome != c.YES:
+                del self._left[token], self._read[token]
+        finally:
+            self._new.discard(token)
         if outcome < 0:
-            raise self._fault(outcome)
+            raise self._full(worker) if outcome == c.FULL else self._fault(outcome)
         return bool(outcome == c.YES)
 
     def _inserted_later(self, worker: _Worker, key: int, token: int) -> int:
-        """Repeats an insert that found no nodes, after collections; returns its outcome."""
-        wait, outcome = _Wait(self._seconds), c.FULL
-        while outcome == c.FULL:
-            self._release(self._taken_back(worker) + self._collected())
-            outcome = c.quick.nm_map_insert(worker.handle, key, token, self._words)
-            if outcome == c.FULL and not wait.goes_on():
-                break
-        return outcome
+        """Repeats an insert that found no nodes, after collections; returns its outcome. It ends
+        when the keys take all nodes before and after a repetition, because then no node waits."""
+        wait, was_brimful = _Wait(self._seconds), self._is_brimful()
+        while True:
+            self._take_back(worker, worker.returned)
+            self._take_back_idle(worker.returned)
+            outcome = int(c.quick.nm_map_insert(worker.handle, key, token, self._words))
+            is_still, was_brimful = was_brimful, self._is_brimful()
+            if outcome != c.FULL or (is_still and was_brimful) or not wait.goes_on():
+                return outcome
+
+    def _keys(self) -> int:
+        """Returns the number of keys, without those of inserts that have not ended."""
+        return max(len(self._left) - len(self._new), 0)
+
+    def _is_brimful(self) -> bool:
+        return bool(c.quick.nm_map_is_brimful(self._nodes, self._keys()))
 
     def __setitem__(self, key: SupportsIndex, value: V) -> None:
         """Inserts a key with an object. If the map has the key, this takes two steps: it removes
@@ -412,8 +432,9 @@ class Map(MutableMapping, Generic[V]):  # type: ignore[type-arg]
         again in between. No call passes over a key that was in the map during the whole call.
 
         Raises `Unfinished` if the bound of the call is reached after it has begun to remove a key.
-        No other call removes that key. Its object is not returned, and the map refers to it, and
-        `len` counts its key, until the map is closed."""
+        No other call removes that key, which is found until the next call by the same worker. Its
+        object is not returned, and the map refers to it, and `len` counts its key, until the map is
+        closed."""
         bound = NO_BOUND if below is None else bound_of(below)
         return self._popped(c.quick.nm_map_pop_first_below, bound)
 
@@ -436,7 +457,8 @@ class Map(MutableMapping, Generic[V]):  # type: ignore[type-arg]
         key, token = c_uint64(), c_uint64()
         outcome = pop(worker.handle, bound, self._words, key, token)
         if outcome == c.UNFINISHED:
-            text = "will be removed by this call and no other, but its object is not known"
+            text = "will be removed by this call and no other, but its object is not known: the"
+            text += " key is found until the next call by its worker"
             raise fault(outcome, f"the key {key.value} {text}")
         if outcome < 0:
             raise self._fault(outcome)
@@ -647,19 +669,18 @@ class Map(MutableMapping, Generic[V]):  # type: ignore[type-arg]
         """Ends the map, and its references to all objects. A closed map is unchanged. It waits for
         calls that other threads make at this moment, for ten seconds at most, and then raises
         `InUse`; then the map goes on. Calls that begin meanwhile raise `Closed`, and so does each
-        later call."""
+        later call. If an exception of a signal handler interrupts it, another close goes on."""
         with self._closer:
             if self._process != os.getpid():
                 raise fault(c.FORKED, "the map was made before this process was forked")
-            if self._handle.at is None:
-                return
-            self._is_open = False
-            outcome = self._ended()
-            if outcome < 0:
-                self._is_open = True
-                text = "calls of the map have not ended: close again"
-                raise fault(outcome, text if outcome == c.IN_USE else None)
-            c.exports.nm_drop(self._handle)
+            if self._handle.at is not None:
+                self._is_open = False
+                outcome = self._ended()
+                if outcome < 0:
+                    self._is_open = True
+                    text = "calls of the map have not ended: close again"
+                    raise fault(outcome, text if outcome == c.IN_USE else None)
+                c.exports.nm_drop(self._handle)
             self._read, self._left = {}, {}
 
     def _ended(self) -> int:
@@ -669,6 +690,8 @@ class Map(MutableMapping, Generic[V]):  # type: ignore[type-arg]
         while True:
             self._return_idle()
             outcome = int(c.exports.nm_map_close(self._handle))
+            if outcome == c.KIND:  # an earlier close was interrupted after it had ended the map
+                return c.DONE
             if outcome not in (c.ATTACHED, c.IN_USE):
                 return outcome
             if not wait.goes_on():

@@ -1,5 +1,5 @@
 /* The calls for keys in C: the calls that _calls.py makes by ctypes, with the same names and
- * meanings.
+ * meanings; and what gives up a pool or a worker when its owner ends.
  *
  * _library.py finds the library, and gives the addresses of its functions to `bind`. A call for one
  * key is first made without a wait, in which other threads of Python wait. A call for several keys,
@@ -31,6 +31,9 @@ typedef nm_outcome (*many_call)(nm_pool *, uint32_t, nm_lookup *, size_t, uint32
 typedef nm_outcome (*change_call)(nm_pool *, uint32_t, const uint64_t *, size_t, unsigned char *,
                                   size_t *, uint32_t);
 typedef nm_outcome (*size_call)(nm_pool *, uint64_t *);
+typedef nm_outcome (*drop_call)(nm_handle *);
+typedef nm_outcome (*detach_call)(nm_pool *, uint32_t *, uint32_t);
+typedef void (*free_call)(nm_pool *);
 
 static key_call contains_of, insert_of, remove_of;
 static pop_call pop_first_of, pop_last_of;
@@ -41,6 +44,9 @@ static count_call count_of;
 static many_call contains_many_of;
 static change_call insert_many_of, remove_many_of;
 static size_call size_of;
+static drop_call drop_of;
+static detach_call detach_of;
+static free_call free_of;
 
 /* The functions of _faults.py that make the exceptions. */
 static PyObject *fault_of, *key_fault_of;
@@ -635,16 +641,63 @@ static PyObject *answers(PyObject *module, PyObject *object) {
     return list;
 }
 
+/* ---- what is given up when its owner ends ---- */
+
+#define LONGEST 10000u /* milliseconds: how long the end of a worker waits for a call by it */
+
+static PyObject *parts_name; /* "parts" */
+
+/* Returns the address that a part of a lease is, which may be NULL. */
+static void *address_of(PyObject *parts, Py_ssize_t number) {
+    return PyLong_AsVoidPtr(PyTuple_GetItem(parts, number));
+}
+
+/* The callback of a lease (_leases.py), with the addresses of a handle, a pool and a worker, 0 for
+ * what there is not, and the set of all leases as its parts. It gives them up, and forgets the
+ * lease. It takes no memory, so that an owner may end while memory is refused. */
+static PyObject *give_up(PyObject *module, PyObject *lease) {
+    PyObject *parts = PyObject_GetAttr(lease, parts_name);
+    (void)module;
+    if (!parts) {
+        return NULL;
+    }
+    nm_handle *handle = address_of(parts, 0);
+    nm_pool **pool = address_of(parts, 1);
+    uint32_t *worker = address_of(parts, 2);
+    Py_BEGIN_ALLOW_THREADS
+    if (worker) {
+        (void)detach_of(*pool, worker, LONGEST);
+    } else if (pool) {
+        free_of(*pool);
+    }
+    if (handle) {
+        (void)drop_of(handle);
+    }
+    Py_END_ALLOW_THREADS
+    Py_INCREF(lease);
+    int is_forgotten = PySet_Discard(PyTuple_GetItem(parts, 3), lease) >= 0;
+    Py_DECREF(lease);
+    Py_DECREF(parts);
+    if (!is_forgotten) {
+        return NULL;
+    }
+    Py_RETURN_NONE;
+}
+
 /* Stores the addresses of the library's functions, and the functions that make the exceptions. */
 static PyObject *bind(PyObject *module, PyObject *args) {
     unsigned long long contains, insert, remove, pop_first, pop_last, next, prev;
     unsigned long long pop_first_below, pop_last_from, pop_first_many;
     unsigned long long scan, scan_back, count, many, insert_many, remove_many, size;
+    unsigned long long detach, free, drop;
     (void)module;
-    if (!PyArg_ParseTuple(args, "KKKKKKKKKKKKKKKKKOO", &contains, &insert, &remove, &pop_first,
+    parts_name = PyUnicode_InternFromString("parts");
+    if (!parts_name ||
+        !PyArg_ParseTuple(args, "KKKKKKKKKKKKKKKKKKKKOO", &contains, &insert, &remove, &pop_first,
                           &pop_last, &next, &prev, &pop_first_below, &pop_last_from,
                           &pop_first_many, &scan, &scan_back, &count, &many,
-                          &insert_many, &remove_many, &size, &fault_of, &key_fault_of)) {
+                          &insert_many, &remove_many, &size, &detach, &free, &drop, &fault_of,
+                          &key_fault_of)) {
         return NULL;
     }
     contains_of = (key_call)(uintptr_t)contains;
@@ -664,6 +717,9 @@ static PyObject *bind(PyObject *module, PyObject *args) {
     insert_many_of = (change_call)(uintptr_t)insert_many;
     remove_many_of = (change_call)(uintptr_t)remove_many;
     size_of = (size_call)(uintptr_t)size;
+    detach_of = (detach_call)(uintptr_t)detach;
+    free_of = (free_call)(uintptr_t)free;
+    drop_of = (drop_call)(uintptr_t)drop;
     Py_INCREF(fault_of);
     Py_INCREF(key_fault_of);
     Py_RETURN_NONE;
@@ -673,6 +729,7 @@ static PyMethodDef functions[] = {
     {"answers", answers, METH_O, NULL},
     {"bind", bind, METH_VARARGS, NULL},
     {"first_wrong", first_wrong, METH_VARARGS, NULL},
+    {"give_up", give_up, METH_O, NULL},
     {NULL, NULL, 0, NULL},
 };
 

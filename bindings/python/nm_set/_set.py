@@ -103,7 +103,7 @@ class Stamp:
 
 
 class Set(Keys):
-    """A concurrent ordered set of the integers 0 to 2^64 - 4, without locks.
+    """A concurrent ordered set of the integers 0 to 2^64 - 4.
 
     Any thread may call it. Each call uses one of the set's workers that no thread uses at that
     moment. If there is none, the call borrows the worker of a `Worker` that is in no call and not
@@ -115,8 +115,8 @@ class Set(Keys):
     discard that has begun is finished. If `collect_after` removed nodes wait with the worker, the
     call first advances the epoch and collects. `Options` bounds what a call may spend. If that is
     not enough the call raises `Contention`, or `Unfinished` for a discard that has begun. The
-    library does all of this, which is proved. A pool around it finds a worker for each call. It
-    also collects removed nodes that wait with other workers, and lets an add wait for them before
+    core (nm_set.h) does all of this, which is proved. A pool around it finds a worker for each call.
+    It also collects removed nodes that wait with other workers, and lets an add wait for them before
     it raises `Full`. This part is tested, not proved.
 
     A signal handler may make any call, including `close`, and may raise an exception in the middle
@@ -140,7 +140,7 @@ class Set(Keys):
         7 to 268,435,456, and never grow by themselves. n keys take 2 n + 5 nodes, and the removed
         nodes that wait to be freed take theirs.
 
-        With the shape "radix" no call passes more than 66 nodes, in whatever order the keys come.
+        With the shape "radix" no walk goes over more than 66 edges, in whatever order keys come.
         "unbalanced" is the tree of Natarajan and Mittal, in which ascending keys make one long
         path: then each call takes a step for each key of the set."""
         if isinstance(iterable, Iterable):

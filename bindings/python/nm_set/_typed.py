@@ -9,10 +9,11 @@ from __future__ import annotations
 import operator
 from collections.abc import Callable, Iterable, Iterator, MutableSet
 from dataclasses import dataclass
+from itertools import islice
 from types import TracebackType
 from typing import Any, Generic, Optional, SupportsIndex, TypeVar, Union
 
-from ._faults import MOST_KEY, OutOfRange, shown
+from ._faults import MOST_KEY, SHOWN, OutOfRange, shortened, shown, value_fault
 from ._set import Set, Worker
 
 T = TypeVar("T")
@@ -85,6 +86,14 @@ class _Values(MutableSet, Generic[T]):  # type: ignore[type-arg]
     def __init__(self, keys: Union[Set, Worker], mapping: Mapping[T]) -> None:
         self.keys, self._mapping = keys, mapping
 
+    def _key(self, value: T) -> int:
+        """Returns the key of a value. Raises `OutOfRange`, with the value in its text, if there is
+        none."""
+        key = operator.index(self._mapping.to_key(value))
+        if not 0 <= key <= MOST_KEY:
+            raise value_fault(value, key)
+        return key
+
     def _value(self, key: Optional[int]) -> Optional[T]:
         return None if key is None else self._mapping.from_key(key)
 
@@ -110,15 +119,15 @@ class _Values(MutableSet, Generic[T]):  # type: ignore[type-arg]
 
     def add(self, value: T) -> bool:  # type: ignore[override]
         """Adds a value; returns True if it was absent. See `Set.add`."""
-        return self.keys.add(self._mapping.to_key(value))
+        return self.keys.add(self._key(value))
 
     def discard(self, value: T) -> bool:  # type: ignore[override]
         """Removes a value; returns True if it was present."""
-        return value in self and self.keys.discard(self._mapping.to_key(value))
+        return value in self and self.keys.discard(self._key(value))
 
     def at_least(self, value: T) -> Optional[T]:
         """Returns the least value that is not below this one, or None if there is none."""
-        return self._value(self.keys.at_least(self._mapping.to_key(value)))
+        return self._value(self.keys.at_least(self._key(value)))
 
     def at_most(self, value: T) -> Optional[T]:
         """Returns the greatest value that is not above this one, or None if there is none."""
@@ -172,15 +181,22 @@ class _Values(MutableSet, Generic[T]):  # type: ignore[type-arg]
     def update(self, *others: Iterable[T]) -> None:
         """Adds the values of all others."""
         for other in others:
-            self.keys.add_many([self._mapping.to_key(value) for value in other])
+            self.keys.add_many([self._key(value) for value in other])
 
     @classmethod
     def _from_iterable(cls, it: Iterable[Any]) -> set[Any]:
         """Returns what the operators make: a set of Python."""
         return set(it)
 
+    def _is_open(self) -> bool:
+        return self.keys.is_open() if isinstance(self.keys, Worker) else not self.keys._is_closed()
+
     def __repr__(self) -> str:
-        return f"{type(self).__name__}({self.keys!r})"
+        """Shows the first ten values, and how many there are."""
+        if not self._is_open():
+            return f"{type(self).__name__}(closed)"
+        values = list(islice(self, SHOWN + 1))
+        return f"{type(self).__name__}({shortened(values, len(self))})"
 
     __hash__ = None  # type: ignore[assignment]
 
@@ -201,7 +217,8 @@ class SetOf(_Values[T]):
     def __init__(self, key: Mapping[T], iterable: Iterable[T] = (), **options: Any) -> None:
         """Makes the set of these values; `key` maps them to keys and back. The options are those of
         `Set`, such as `nodes`."""
-        super().__init__(Set(map(key.to_key, iterable), **options), key)
+        self._mapping = key
+        super().__init__(Set(map(self._key, iterable), **options), key)
 
     def attach(self, blocking: bool = True, timeout: float = -1) -> WorkerOf[T]:
         """Attaches a worker to this thread: see `Set.attach`."""

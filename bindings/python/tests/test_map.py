@@ -241,18 +241,77 @@ class Refusals(unittest.TestCase):
             self.assertEqual((found.nodes, found.capacity, found.workers), (64, 29, 1))
 
     def test_a_full_map_says_so_and_keeps_no_object(self) -> None:
-        with Map[Value](9, workers=1, options=Options(timeout_ms=20)) as found:
+        with Map[Value](9, workers=1, options=Options(timeout_ms=20_000)) as found:
             found[5], found[6] = Value(5), Value(6)
             value, begin = Value(7), time.monotonic()
-            with self.assertRaisesRegex(Full, "no two of its 9 nodes are free; it has 2 keys"):
+            with self.assertRaises(Full) as raised:
                 found.insert(7, value)
-            self.assertGreaterEqual(time.monotonic() - begin, 0.02)
+            self.assertLess(time.monotonic() - begin, 10)
+            text = "the map is full: its 2 keys take 9 of its 9 nodes, and 0 wait to be freed"
+            self.assertEqual(str(raised.exception), text)
             reference = weakref.ref(value)
             del value
             self.assertEqual((ended([reference]), len(found)), (1, 2))
             del found[5]
             found[7] = Value(7)  # it collects the nodes of 5
             self.assertEqual(sorted(found), [6, 7])
+
+    def test_an_insert_waits_for_nodes_that_a_pin_holds_back(self) -> None:
+        with Map[int](7, workers=2, options=Options(timeout_ms=20)) as found:
+            reader = found._take()
+            found[5] = 5
+            c.quick.nm_map_hold(reader.handle, found._words, c.c_uint64())
+            del found[5]
+            begin = time.monotonic()
+            with self.assertRaises(Full) as raised:
+                found[6] = 6
+            self.assertGreaterEqual(time.monotonic() - begin, 0.02)
+            text = "the map is full: its 0 keys take 5 of its 7 nodes, and 2 wait to be freed;"
+            text += " worker 0 is in their way, by a pin or in a call"
+            self.assertEqual(str(raised.exception), text)
+            c.quick.nm_map_unpin(reader.handle)
+            found[6] = 6
+            found._idle.append(reader)
+
+    def test_an_object_may_call_the_full_map_at_its_end(self) -> None:
+        """It ends by an insert into the full map, whose only worker is then in no call."""
+        ends: list[object] = []
+        options = Options(timeout_ms=200, collect_after=1_000)
+        with Map[Any](9, workers=1, options=options) as found:
+
+            class Caller:
+                def __del__(self) -> None:
+                    try:
+                        ends.append(found.get(7))
+                    except nm_set.Fault as error:
+                        ends.append(error)
+
+            found[5], found[6] = Caller(), Caller()
+            del found[5], found[6]
+            self.assertEqual(ends, [])
+            found[7] = "seven"
+            self.assertEqual(ends, ["seven", "seven"])
+
+    def test_a_close_that_was_interrupted_goes_on(self) -> None:
+        """An exception of a signal handler may come before, or after, each step of a close."""
+        drop = c.exports.nm_drop
+
+        def interrupt(handle: Any, is_after: bool) -> None:
+            if is_after:
+                drop(handle)
+            raise KeyboardInterrupt
+
+        for is_after in (False, True):
+            found = Map[Value](64, workers=1)
+            found[5] = Value(5)
+            reference = weakref.ref(found[5])
+            found._idle.clear()
+            with mock.patch.object(c.exports, "nm_drop", lambda it: interrupt(it, is_after)):
+                self.assertRaises(KeyboardInterrupt, found.close)
+            self.assertRaises(Closed, lambda: found.get(5))
+            found.close()
+            self.assertEqual(ended([reference]), 1)
+            found.close()
 
     def test_a_call_waits_for_a_worker(self) -> None:
         with Map[int](64, workers=1, options=Options(timeout_ms=20)) as found:

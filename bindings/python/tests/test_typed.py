@@ -66,6 +66,36 @@ class Typed(unittest.TestCase):
         with self.assertRaises(nm_set.Closed):
             numbers.add(2)
 
+    def test_values_are_shown_as_the_program_wrote_them(self) -> None:
+        with SetOf(signed(), [5, -7]) as numbers, SetOf(pairs(8, 8), [(2, 1)]) as two:
+            self.assertEqual((repr(numbers), repr(two)), ("SetOf([-7, 5])", "SetOf([(2, 1)])"))
+            with numbers.attach() as worker:
+                self.assertEqual(repr(worker), "WorkerOf([-7, 5])")
+            self.assertEqual(repr(worker), "WorkerOf(closed)")
+            numbers.update(range(10, 20))
+            shown = ", ".join(map(str, [-7, 5, *range(10, 18)]))
+            self.assertEqual(repr(numbers), f"SetOf([{shown}, ...], 12 keys)")
+        self.assertEqual(repr(numbers), "SetOf(closed)")
+        with SetOf(TIMES, [FIRST]) as times:
+            self.assertEqual(repr(times), f"SetOf([{FIRST!r}])")
+
+    def test_a_refused_value_is_named(self) -> None:
+        with SetOf(signed()) as numbers:
+            calls = [
+                lambda: numbers.add(2**63 - 1),
+                lambda: numbers.update([5, 2**63 - 1]),
+                lambda: SetOf(signed(), [2**63 - 1]),
+                lambda: numbers.at_least(2**63 - 1),
+            ]
+            text = "the value 9223372036854775807 is no key: of 64 bits the three greatest values"
+            for call in calls:
+                with self.assertRaisesRegex(nm_set.OutOfRange, text):
+                    call()
+            self.assertEqual(len(numbers), 0)
+        text = "the value -3 is no key: its mapping returns -3, and keys are 0 to "
+        with SetOf(Mapping(int, int)) as plain, self.assertRaisesRegex(nm_set.OutOfRange, text):
+            plain.add(-3)
+
     def test_values_that_are_no_keys_are_refused(self) -> None:
         with SetOf(signed(), [-5]) as numbers, SetOf(pairs(4, 4)) as two:
             for wrong in (2**63 - 1, 2**63, -(2**63) - 1):

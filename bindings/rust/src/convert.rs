@@ -76,21 +76,35 @@ impl<'a> IntoIterator for &'a Set {
     }
 }
 
+/// Writes the values of the first ten keys of a set, and two dots if there are more. It never waits
+/// for a worker: if each is attached, or the set is closed, it writes that, with the name of the
+/// type.
+pub(crate) fn show<T: fmt::Debug>(
+    set: &Set,
+    name: &str,
+    value_of: impl Fn(u64) -> T,
+    f: &mut fmt::Formatter<'_>,
+) -> fmt::Result {
+    let shown = set.try_attach().and_then(|mut worker| {
+        let keys = worker.iter().take(SHOWN + 1);
+        keys.map(|key| key.map(&value_of))
+            .collect::<Result<Vec<T>, Fault>>()
+    });
+    match shown {
+        Ok(values) if values.len() > SHOWN => f
+            .debug_set()
+            .entries(&values[..SHOWN])
+            .entry(&format_args!(".."))
+            .finish(),
+        Ok(values) => f.debug_set().entries(&values).finish(),
+        Err(fault) => write!(f, "{name}({fault})"),
+    }
+}
+
 impl fmt::Debug for Set {
     /// Writes the first ten keys, and two dots if there are more. It never waits for a worker: if
     /// each is attached, or the set is closed, it writes that.
     fn fmt(&self, f: &mut fmt::Formatter<'_>) -> fmt::Result {
-        let shown = self
-            .try_attach()
-            .and_then(|mut worker| worker.iter().take(SHOWN + 1).collect::<Result<Vec<_>, _>>());
-        match shown {
-            Ok(keys) if keys.len() > SHOWN => f
-                .debug_set()
-                .entries(&keys[..SHOWN])
-                .entry(&format_args!(".."))
-                .finish(),
-            Ok(keys) => f.debug_set().entries(&keys).finish(),
-            Err(fault) => write!(f, "Set({fault})"),
-        }
+        show(self, "Set", |key| key, f)
     }
 }

@@ -1,7 +1,8 @@
 //! The faults that calls return.
 
-use crate::ffi::Outcome;
+use crate::ffi::{full_words, Filled, Fullness, Outcome};
 use crate::numbers::Numbers;
+use crate::shown::Shown;
 use crate::MOST_KEY;
 use std::fmt;
 
@@ -11,6 +12,9 @@ use std::fmt;
 pub enum Fault {
     /// This key is above 2^64 - 4 ([`MOST_KEY`](crate::MOST_KEY)).
     Key(u64),
+    /// This value of a [`SetOf`](crate::SetOf) is no key: it is one of the three greatest values of a
+    /// type with 64 bits, or its key is above 2^64 - 4.
+    Value(Shown),
     /// This number of nodes is not 7 to 268,435,456.
     Nodes(u64),
     /// This number of workers is not 1 to 64.
@@ -27,8 +31,11 @@ pub enum Fault {
     /// An insert found no nodes for its key: the keys take all of them, or no others were freed
     /// within the [`timeout_ms`](crate::Options::timeout_ms) of the set.
     Full(Full),
+    /// An insert into a [`Map`](crate::Map) found no nodes for its key: the keys take all of them,
+    /// or no others became free within the [`timeout_ms`](crate::Options::timeout_ms) of the map.
+    MapFull(Full),
     /// No nodes were free for the key of a [`try_insert`](crate::Worker::try_insert), which waits
-    /// for none, or became free within the time of an insert into a [`Map`](crate::Map).
+    /// for none.
     NoNodes,
     /// Other threads interfered with each try, or the call has none. Of the call nothing remains
     /// but help given to others; call again.
@@ -38,7 +45,8 @@ pub enum Fault {
     Contention,
     /// A remove has begun, and its bound was reached before it was finished. The key will be
     /// removed by this remove and no other. It is pending until the worker's next managed call, or
-    /// [`try_finish`](crate::Worker::try_finish), has finished the remove.
+    /// [`try_finish`](crate::Worker::try_finish), has finished the remove. Until then it is found, and
+    /// an insert of it returns false. So remove it again: after false it is gone.
     Unfinished,
     /// An earlier remove has begun and is not finished, so that only
     /// [`try_finish`](crate::Worker::try_finish) and the managed calls go on.
@@ -49,9 +57,10 @@ pub enum Fault {
     /// These workers are pinned, so that the set gets no new size.
     PinnedWorkers(Numbers),
     /// Within the time of the call each worker was in a call, or attached and pinned; for an
-    /// `attach`: in a call or attached. It makes no difference which threads have attached them.
+    /// `attach`: in a call or attached. It makes no difference which threads have attached them. For
+    /// the `attach` of a map: each was attached, or other threads were attaching workers meanwhile.
     NoWorker {
-        /// How many workers the set has.
+        /// How many workers the set or the map has.
         workers: u32,
     },
     /// Other threads were in calls by these workers, and did not end them within the time of this
@@ -70,11 +79,12 @@ pub enum Fault {
     Other(i32),
 }
 
-/// How full a set was when an insert found no nodes for its key, in the numbers that
-/// [`len`](crate::Set::len) and [`waiting`](crate::Set::waiting) return.
+/// How full a set or a map was when an insert found no nodes for its key, in the numbers that
+/// [`len`](crate::Set::len) and [`waiting`](crate::Set::waiting) of a set return. Of a map, `waiting`
+/// is what its keys leave.
 #[derive(Clone, Copy, Debug, Default, PartialEq, Eq, Hash)]
 pub struct Full {
-    /// The number of nodes for which the set has room.
+    /// The number of nodes for which it has room.
     pub nodes: u64,
     /// How many keys it had; n keys take 2 n + 5 nodes.
     pub keys: u64,
@@ -129,35 +139,38 @@ fn grouped(number: u64) -> String {
     text
 }
 
+impl Full {
+    /// Returns what it says of a set or a map, in the words of the library.
+    fn words(&self, what: Filled) -> String {
+        let fullness = Fullness {
+            nodes: self.nodes,
+            keys: self.keys,
+            waiting: self.waiting,
+            free: 0,
+            unasked: self.unasked.mask(),
+            behind: self.behind.mask(),
+            hindering: self.hindering.mask(),
+        };
+        full_words(what, &fullness)
+    }
+}
+
+impl From<Fullness> for Full {
+    fn from(fullness: Fullness) -> Full {
+        Full {
+            nodes: fullness.nodes,
+            keys: fullness.keys,
+            waiting: fullness.waiting,
+            unasked: Numbers::of(fullness.unasked),
+            behind: Numbers::of(fullness.behind),
+            hindering: Numbers::of(fullness.hindering),
+        }
+    }
+}
+
 impl fmt::Display for Full {
     fn fmt(&self, f: &mut fmt::Formatter<'_>) -> fmt::Result {
-        write!(
-            f,
-            "the set is full: its {} keys take {} of its {} nodes, and {} wait to be freed",
-            grouped(self.keys),
-            grouped(self.keys.saturating_mul(2).saturating_add(5)),
-            grouped(self.nodes),
-            grouped(self.waiting)
-        )?;
-        if !self.behind.is_empty() {
-            let behind = self.behind.are();
-            write!(f, "; {behind} in their way, by a pin or in a call")?;
-        }
-        if !self.unasked.is_empty() {
-            let unasked = self.unasked.are();
-            write!(
-                f,
-                "; {unasked} in a call, so what waits there is counted as last seen"
-            )?;
-        }
-        if !self.hindering.is_empty() {
-            let hindering = self.hindering.are();
-            write!(
-                f,
-                "; the set cannot grow while {hindering} pinned or in a call"
-            )?;
-        }
-        Ok(())
+        f.write_str(&self.words(Filled::Set))
     }
 }
 
@@ -166,6 +179,13 @@ impl fmt::Display for Fault {
         f.write_str(match *self {
             Fault::Key(key) => {
                 return write!(f, "the key {key} is above {} (2^64 - 4)", grouped(MOST_KEY))
+            }
+            Fault::Value(value) => {
+                return write!(
+                    f,
+                    "the value {value} is no key: of a type with 64 bits the three greatest values \
+                     are none"
+                )
             }
             Fault::Nodes(nodes) => {
                 return write!(f, "the number of nodes is not 7 to 268,435,456: {nodes}")
@@ -180,11 +200,11 @@ impl fmt::Display for Fault {
                 )
             }
             Fault::Full(full) => return full.fmt(f),
+            Fault::MapFull(full) => return f.write_str(&full.words(Filled::Map)),
             Fault::NoWorker { workers } => {
                 return write!(
                     f,
-                    "no worker is free: the set has {workers} (64 at most), and each is attached \
-                     or in a call"
+                    "no worker is free: each of the {workers} (64 at most) is attached or in a call"
                 )
             }
             Fault::InUse(numbers) => {
@@ -200,14 +220,17 @@ impl fmt::Display for Fault {
             }
             Fault::Other(number) => return write!(f, "the library returned outcome {number}"),
             Fault::NoMemory => "memory was refused",
-            Fault::NoNodes => "no nodes are free for the new key: collect and call again",
+            Fault::NoNodes => {
+                "no nodes are free for the new key: call `insert`, which waits for nodes, or `collect`"
+            }
             Fault::Busy => "other threads interfered with each try: call again, or give more tries",
             Fault::Contention => {
                 "other threads interfered with each try of each round: call again, or raise the \
                  rounds of the options"
             }
             Fault::Unfinished => {
-                "the remove has begun and is not finished: the key will be removed"
+                "the remove is not finished: the key is found until the next call by its worker, \
+                 so remove it again"
             }
             Fault::Pending => "an earlier remove has begun and is not finished: finish it first",
             Fault::Pinned => "the worker is pinned, and the guard of its pin was forgotten",

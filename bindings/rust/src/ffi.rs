@@ -16,7 +16,7 @@
 
 pub(crate) mod map;
 
-use std::ffi::c_int;
+use std::ffi::{c_char, c_int};
 use std::panic::{RefUnwindSafe, UnwindSafe};
 use std::ptr::{null_mut, NonNull};
 
@@ -71,6 +71,26 @@ pub(crate) struct Fullness {
     pub unasked: u64,
     pub behind: u64,
     pub hindering: u64,
+}
+
+/// What is full.
+#[derive(Clone, Copy)]
+pub(crate) enum Filled {
+    Set,
+    Map,
+}
+
+/// Returns what a fullness says after an insert that found no nodes.
+pub(crate) fn full_words(what: Filled, fullness: &Fullness) -> String {
+    let mut text = [0_u8; 640];
+    let words = match what {
+        Filled::Set => nm_full_words,
+        Filled::Map => nm_map_full_words,
+    };
+    // SAFETY: both places are borrowed for this call, and the text has this size.
+    unsafe { words(fullness, text.as_mut_ptr().cast(), text.len()) };
+    let end = text.iter().position(|&byte| byte == 0);
+    String::from_utf8_lossy(&text[..end.unwrap_or(text.len())]).into_owned()
 }
 
 /// One wait of `nm_pool_again`, all zero before it begins: `nm_pool_wait`.
@@ -236,6 +256,12 @@ extern "C" {
     fn nm_pool_try_remove(pool: *mut RawPool, worker: u32, key: u64, tries: u32, ms: u32) -> c_int;
     fn nm_pool_size(pool: *mut RawPool, keys: *mut u64) -> c_int;
     fn nm_pool_fullness(pool: *mut RawPool, fullness: *mut Fullness) -> c_int;
+    fn nm_full_words(fullness: *const Fullness, text: *mut c_char, size: usize) -> *const c_char;
+    fn nm_map_full_words(
+        fullness: *const Fullness,
+        text: *mut c_char,
+        size: usize,
+    ) -> *const c_char;
     fn nm_pool_collect(pool: *mut RawPool, freed: *mut u64) -> c_int;
     fn nm_pool_reserve(pool: *mut RawPool, keys: u64, ms: u32, missing: *mut u64) -> c_int;
     fn nm_pool_shrink_to_fit(pool: *mut RawPool, ms: u32, missing: *mut u64) -> c_int;
@@ -467,16 +493,18 @@ impl Pool {
         unsafe { nm_pool_contains_many(self.0.as_ptr(), worker, first, count, ms) }
     }
 
-    /// Inserts or removes several keys. Returns the outcome, and 1 or 0 for each key that it
-    /// changed.
+    /// Inserts or removes several keys, and writes 1 or 0 to the answer of each. Returns the
+    /// outcome, and how many have their answers.
     pub(crate) fn change_many(
         &self,
         worker: u32,
         change: Change,
         keys: &[u64],
+        answers: &mut [u8],
         timeout_ms: u32,
-    ) -> (Outcome, Vec<u8>) {
-        let (mut answers, mut done) = (vec![0; keys.len()], 0);
+    ) -> (Outcome, usize) {
+        assert_eq!(keys.len(), answers.len());
+        let mut done = 0;
         let call = match change {
             Change::Insert => nm_pool_insert_many,
             Change::Remove => nm_pool_remove_many,
@@ -495,8 +523,7 @@ impl Pool {
                 timeout_ms,
             )
         };
-        answers.truncate(done);
-        (outcome, answers)
+        (outcome, done)
     }
 
     /// Looks up several keys by an attached worker, with a number of tries.

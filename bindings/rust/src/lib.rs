@@ -13,6 +13,7 @@ mod order;
 mod place;
 mod report;
 mod set;
+mod shown;
 mod typed;
 mod worker;
 
@@ -26,6 +27,7 @@ pub use order::Range;
 pub use place::Advance;
 pub use report::Report;
 pub use set::Set;
+pub use shown::Shown;
 pub use typed::{Key, SetOf, Values, WorkerOf};
 pub use worker::{Behind, PinGuard, Stamp, Worker};
 

@@ -15,19 +15,20 @@ const NO: Outcome = 0;
 const NODES: Outcome = -6;
 const WORKERS: Outcome = -7;
 const BUSY: Outcome = -9;
+const FULL: Outcome = -10;
 const PENDING: Outcome = -12;
 const NO_WORKER: Outcome = -23;
 
 /// In place of the number of a worker: none.
 const NOBODY: u32 = u32::MAX;
 
-/// A concurrent ordered map from the integers 0 to 2^64 - 4 to values of a type, without locks.
+/// A concurrent ordered map from the integers 0 to 2^64 - 4 to values of a type.
 ///
 /// Threads share it by reference, and each attaches a [`MapWorker`] of its own. A reader gets a
 /// reference to a value under a [`Guard`], and by a second worker it goes over values in order and
-/// pops them ([`MapWorker::under`]). A removed value is dropped exactly once: when no guard is left
-/// that could have returned it, by whichever worker finds that, or at the drop of the map. So
-/// threads share a map if `V: Send + Sync`.
+/// pops them ([`MapWorker::under`]). A removed value is dropped when no guard is left that could have
+/// returned it, by whichever worker finds that, or at the drop of the map, and never twice. So threads
+/// share a map if `V: Send + Sync`.
 ///
 /// ```
 /// # fn main() -> Result<(), Box<dyn std::error::Error>> {
@@ -178,7 +179,7 @@ impl<V> Map<V> {
     /// Makes a map of these keys and values, like [`Map::with_options`]. Of several values for one
     /// key it keeps the last one.
     ///
-    /// Errors: `Nodes`, `Workers`, `NoMemory`; `Key`, `NoNodes`: then all values are dropped.
+    /// Errors: `Nodes`, `Workers`, `NoMemory`; `Key`, `MapFull`: then all values are dropped.
     ///
     /// ```
     /// # fn main() -> Result<(), nm_set::Fault> {
@@ -202,8 +203,9 @@ impl<V> Map<V> {
         }
     }
 
-    /// Attaches a worker to this thread, the least number first. While each worker is attached it
-    /// waits, for the [`timeout_ms`](Options::timeout_ms) of the options at most.
+    /// Attaches a worker to this thread, the least number first. While each worker is attached, or
+    /// another thread attaches one, it waits, for the [`timeout_ms`](Options::timeout_ms) of the
+    /// options at most.
     ///
     /// Errors: `NoWorker`, `NoMemory`.
     pub fn attach(&self) -> Result<MapWorker<'_, V>, Fault> {
@@ -274,11 +276,10 @@ impl<'a, V> MapWorker<'a, V> {
     ///
     /// If no nodes are free, it drops the values that came back, by this worker and by those that
     /// are not attached. Then it waits for nodes, for the [`timeout_ms`](Options::timeout_ms) of
-    /// the options at most. If another thread is stopped while it attaches a worker, this takes
-    /// some tenths of a second more.
+    /// the options at most. If the keys take all nodes and no node waits, it returns at once.
     ///
-    /// Errors: `Present`. `Fault` with `Key`, `NoNodes` (no nodes became free in that time),
-    /// `Contention`, `NoMemory`, `Pinned`.
+    /// Errors: `Present`. `Fault` with `Key`, `MapFull` (no nodes became free), `Contention`,
+    /// `NoMemory`, `Pinned`.
     pub fn insert(&mut self, key: u64, value: V) -> Result<(), InsertError<V>> {
         let key = match checked(key) {
             Ok(key) => key,
@@ -287,6 +288,10 @@ impl<'a, V> MapWorker<'a, V> {
         match self.handle.insert(key, Box::new(value)) {
             (_, None) => Ok(()),
             (NO, Some(value)) => Err(InsertError::Present(*value)),
+            (FULL, Some(value)) => {
+                let full = Fault::MapFull(self.handle.fullness().into());
+                Err(InsertError::Fault(full, *value))
+            }
             (outcome, Some(value)) => Err(InsertError::Fault(
                 managed(outcome).err().unwrap_or(Fault::Other(outcome)),
                 *value,
@@ -321,7 +326,8 @@ impl<'a, V> MapWorker<'a, V> {
     /// returns a reference to it.
     ///
     /// Errors: `Key`, `Contention`, `NoMemory`, `Pinned`. `Unfinished`: the key will be removed by
-    /// this call and no other, and the worker's next call goes on with it.
+    /// this call and no other. It is found until this worker's next call. So remove it again: after
+    /// false it is gone.
     pub fn remove(&mut self, key: u64) -> Result<bool, Fault> {
         let key = checked(key)?;
         managed(self.handle.remove(key))

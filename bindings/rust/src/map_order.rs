@@ -254,7 +254,8 @@ impl<'w, 'a, 'g, V> GuardedWorker<'w, 'a, 'g, V> {
     ///
     /// Errors: those of [`MapWorker::pop_first`]. `Unfinished`: the bound of the call was reached
     /// after it had begun to remove a key, which [`MapWorker::pending`] returns. This call removes
-    /// the key and no other does, and its value is not returned.
+    /// the key and no other does, and its value is not returned. The key is found until the next call
+    /// by this worker.
     pub fn pop_first(&mut self) -> Result<Option<(u64, &'g V)>, Fault> {
         self.pop_first_below(u64::MAX)
     }

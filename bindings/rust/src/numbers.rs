@@ -23,6 +23,11 @@ impl Numbers {
         Numbers(mask)
     }
 
+    /// Returns a bit for each number.
+    pub(crate) fn mask(self) -> u64 {
+        self.0
+    }
+
     /// Returns whether a number is one of these.
     pub fn contains(&self, number: u32) -> bool {
         number < u64::BITS && self.0 >> number & 1 == 1

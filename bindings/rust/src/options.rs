@@ -8,7 +8,7 @@ const AN_EIGHTH: u32 = u32::MAX;
 /// The shape of the tree.
 #[derive(Clone, Copy, Debug, Default, PartialEq, Eq)]
 pub enum Shape {
-    /// A radix tree: no call passes more than 66 nodes, in whatever order the keys come.
+    /// A radix tree: no walk goes over more than 66 edges, in whatever order the keys come.
     #[default]
     Radix = 0,
     /// The tree of Natarajan and Mittal, in which keys that come in order make one long path: then

@@ -1,6 +1,6 @@
 //! The place of a call: the library's pool, and the number of a worker there or any worker.
 
-use crate::fault::{answer, Fault, Full};
+use crate::fault::{answer, Fault};
 use crate::ffi::{
     Block, CallOptions, Change, Fullness, Lookup, Order, Outcome, Pool, ReportHandle, ANY, GROWS,
 };
@@ -25,6 +25,9 @@ const SPENT: Outcome = -17;
 
 /// How long a close, and the end of a worker, wait for other threads' calls, in milliseconds.
 const LONGEST: u32 = 10_000;
+
+/// For how many keys a pop of several keys takes memory at a time.
+const POPPED: usize = 512;
 
 /// What the clones of a set share.
 pub(crate) struct Shared {
@@ -92,19 +95,8 @@ impl Shared {
     }
 
     fn full(&self) -> Fault {
-        self.fullness().map_or_else(
-            |fault| fault,
-            |fullness| {
-                Fault::Full(Full {
-                    nodes: fullness.nodes,
-                    keys: fullness.keys,
-                    waiting: fullness.waiting,
-                    unasked: Numbers::of(fullness.unasked),
-                    behind: Numbers::of(fullness.behind),
-                    hindering: Numbers::of(fullness.hindering),
-                })
-            },
-        )
+        self.fullness()
+            .map_or_else(|fault| fault, |fullness| Fault::Full(fullness.into()))
     }
 
     pub fn no_worker(&self) -> Fault {
@@ -244,13 +236,31 @@ impl Place<'_> {
     }
 
     pub fn pop_first_many(&self, below: u64, room: usize) -> Result<Vec<u64>, Fault> {
-        let mut keys = vec![0; room];
+        let mut keys = Vec::new();
+        while keys.len() < room {
+            let most = POPPED.min(room - keys.len());
+            match self.pop_block(below, most, &mut keys) {
+                Err(fault) if keys.is_empty() => return Err(fault),
+                Ok(count) if count == most => {}
+                _ => break,
+            }
+        }
+        Ok(keys)
+    }
+
+    /// Removes the least keys that are below a bound, at most `room`, and appends them. Returns how
+    /// many they are, or a fault if it has removed none.
+    fn pop_block(&self, below: u64, room: usize, keys: &mut Vec<u64>) -> Result<usize, Fault> {
+        keys.try_reserve(room).map_err(|_| Fault::NoMemory)?;
+        let had = keys.len();
+        keys.resize(had + room, 0);
         let Shared {
             pool, timeout_ms, ..
         } = self.shared;
-        let (outcome, count) = pool.pop_first_many(self.worker, below, &mut keys, *timeout_ms);
-        keys.truncate(count);
-        self.answer(outcome).map(|_| keys)
+        let (outcome, count) =
+            pool.pop_first_many(self.worker, below, &mut keys[had..], *timeout_ms);
+        keys.truncate(had + count);
+        self.answer(outcome).map(|_| count)
     }
 
     pub fn wait_pop(&self, below: u64, timeout: Duration) -> Result<Option<u64>, Fault> {
@@ -291,8 +301,15 @@ impl Place<'_> {
         let Shared {
             pool, timeout_ms, ..
         } = self.shared;
-        let (outcome, bytes) = pool.change_many(self.worker, change, keys, *timeout_ms);
-        answers.extend(bytes.iter().map(|&byte| byte != 0));
+        let mut bytes = Vec::new();
+        // All memory is taken before the first key is changed.
+        bytes
+            .try_reserve_exact(keys.len())
+            .and_then(|()| answers.try_reserve(keys.len()))
+            .map_err(|_| Fault::NoMemory)?;
+        bytes.resize(keys.len(), 0);
+        let (outcome, done) = pool.change_many(self.worker, change, keys, &mut bytes, *timeout_ms);
+        answers.extend(bytes[..done].iter().map(|&byte| byte != 0));
         self.answer(outcome).map(drop)
     }
 

@@ -17,7 +17,7 @@ use std::time::Duration;
 /// The number of keys that one call looks up together.
 const TOGETHER: usize = 64;
 
-/// A concurrent ordered set of the integers 0 to [`MOST_KEY`], without locks, with the interface of
+/// A concurrent ordered set of the integers 0 to [`MOST_KEY`], with the interface of
 /// [`BTreeSet<u64>`](BTreeSet). A clone is the same set.
 ///
 /// Any thread may call it. Each call uses one of the set's workers that no thread uses at that
@@ -33,10 +33,10 @@ const TOGETHER: usize = 64;
 /// [`rounds`](Options::rounds) times, and a remove that has begun is finished. If
 /// [`collect_after`](Options::collect_after) removed nodes wait with the worker, the call first
 /// advances the epoch and collects. If that is not enough the call returns [`Fault::Contention`],
-/// or [`Fault::Unfinished`] for a remove that has begun. The library does all of this within a
-/// bound of steps, which is **proved**.
+/// or [`Fault::Unfinished`] for a remove that has begun. The core (`nm_set.h`) does all of this
+/// within a bound of steps, which is **proved**.
 ///
-/// A pool around the library finds a worker for each call. It lets an insert wait for removed nodes
+/// A pool around the core finds a worker for each call. It lets an insert wait for removed nodes
 /// to be freed, for at most [`timeout_ms`](Options::timeout_ms), before the insert returns
 /// [`Fault::Full`]. This part is **tested, not proved**.
 ///
@@ -155,7 +155,8 @@ impl Set {
 
     /// Removes a key; returns true if it was present.
     ///
-    /// Errors: `Key`, `NoMemory`, `Unfinished` (the key will be removed by this call and no other).
+    /// Errors: `Key`, `NoMemory`. `Unfinished`: the key will be removed by this call and no other. It
+    /// is found until the next call by the same worker. So remove it again: after false it is gone.
     pub fn remove(&self, key: u64) -> Result<bool, Fault> {
         let key = checked(key)?;
         self.place().remove(key)
@@ -262,7 +263,8 @@ impl Set {
     }
 
     /// Removes the least keys that are below a bound, one by one and at most `room`, and returns
-    /// them. It waits for each key. It returns a fault only if it has removed no key.
+    /// them. `usize::MAX` is allowed: it takes memory for the keys that it returns. It waits for each
+    /// key. It returns a fault only if it has removed no key.
     pub fn pop_first_many(&self, below: u64, room: usize) -> Result<Vec<u64>, Fault> {
         self.place().pop_first_many(below, room)
     }

@@ -1,10 +1,11 @@
 //! Sets whose keys are of another type than `u64`.
 
+use crate::convert::show;
 use crate::fault::Fault;
-use crate::key::checked;
 use crate::options::Options;
 use crate::order::Range;
 use crate::set::Set;
+use crate::shown::Shown;
 use crate::worker::Worker;
 use crate::MOST_KEY;
 use std::fmt;
@@ -16,7 +17,7 @@ use std::time::Duration;
 ///
 /// It is implemented for the integers of at most 64 bits, and for pairs of these that have 64 bits
 /// together at most. 2^64 - 3 and greater numbers are no keys ([`MOST_KEY`]): so of a type with 64
-/// bits the three greatest values return [`Fault::Key`].
+/// bits the three greatest values return [`Fault::Value`], with the value in its text.
 ///
 /// A type of the program's own, here the time of a task and its number:
 ///
@@ -56,6 +57,12 @@ pub trait Key: Copy + Ord {
 
     /// Returns the value of a key that `to_key` returned.
     fn from_key(key: u64) -> Self;
+
+    /// Writes the value for the text of [`Fault::Value`]. If a type does not say how, this writes the
+    /// number of its key.
+    fn write_to(self, to: &mut dyn fmt::Write) -> fmt::Result {
+        write!(to, "with the key {}", self.to_key())
+    }
 }
 
 macro_rules! unsigned {
@@ -67,6 +74,9 @@ macro_rules! unsigned {
             }
             fn from_key(key: u64) -> $type {
                 key as $type
+            }
+            fn write_to(self, to: &mut dyn fmt::Write) -> fmt::Result {
+                write!(to, "{self}")
             }
         }
     )*};
@@ -82,6 +92,9 @@ macro_rules! signed {
             }
             fn from_key(key: u64) -> $type {
                 (key as $unsigned ^ (1 << (<$type>::BITS - 1))) as $type
+            }
+            fn write_to(self, to: &mut dyn fmt::Write) -> fmt::Result {
+                write!(to, "{self}")
             }
         }
     )*};
@@ -109,13 +122,25 @@ impl<A: Key, B: Key> Key for (A, B) {
         let low = key & (u64::MAX >> (64 - B::BITS));
         (A::from_key(key >> B::BITS), B::from_key(low))
     }
+
+    fn write_to(self, to: &mut dyn fmt::Write) -> fmt::Result {
+        to.write_char('(')?;
+        self.0.write_to(to)?;
+        to.write_str(", ")?;
+        self.1.write_to(to)?;
+        to.write_char(')')
+    }
 }
 
-/// Returns the key of a value, or `Key` if it is none. A mapping whose bits do not fit does not
+/// Returns the key of a value, or `Value` if it has none. A mapping whose bits do not fit does not
 /// compile.
 fn key_of<K: Key>(value: K) -> Result<u64, Fault> {
     let _ = K::BITS;
-    checked(value.to_key())
+    let key = value.to_key();
+    if key > MOST_KEY {
+        return Err(Fault::Value(Shown::of(|to| value.write_to(to))));
+    }
+    Ok(key)
 }
 
 /// The bounds of the keys of a range of values.
@@ -289,8 +314,9 @@ impl<K: Key> SetOf<K> {
 }
 
 impl<K: Key + fmt::Debug> fmt::Debug for SetOf<K> {
+    /// Writes the first ten values, and two dots if there are more, like `Debug` of [`Set`].
     fn fmt(&self, f: &mut fmt::Formatter<'_>) -> fmt::Result {
-        write!(f, "SetOf({:?})", self.set)
+        show(&self.set, "SetOf", K::from_key, f)
     }
 }
 

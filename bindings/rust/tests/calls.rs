@@ -286,7 +286,7 @@ fn a_thread_that_has_all_workers_itself_gets_no_worker() {
         (set.try_attach().err(), set.attach().err()),
         (Some(own), Some(own))
     );
-    let text = "no worker is free: the set has 2 (64 at most), and each is attached or in a call";
+    let text = "no worker is free: each of the 2 (64 at most) is attached or in a call";
     assert_eq!(own.to_string(), text);
     let pins = (first.pin().unwrap(), second.pin().unwrap());
     assert_eq!((set.contains(5), set.insert(5)), (Err(own), Err(own)));

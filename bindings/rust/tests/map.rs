@@ -169,12 +169,33 @@ fn a_refused_insert_gives_the_value_back() {
     let begin = Instant::now();
     let error = worker.insert(6, counts.value(6)).unwrap_err();
     assert!(begin.elapsed() >= Duration::from_millis(20));
-    assert_eq!(error.fault(), Some(Fault::NoNodes));
-    assert!(error.to_string().contains("no nodes are free"), "{error}");
+    let text = "the map is full: its 0 keys take 5 of its 7 nodes, and 2 wait to be freed; \
+                worker 0 is in their way, by a pin or in a call";
+    assert_eq!(error.to_string(), text);
     let value = error.into_value();
     drop(guard);
     assert!(value.is_of(6) && worker.insert(6, value).is_ok());
     assert_eq!(counts.alive(), 1);
+}
+
+/// The keys of a full map take all nodes, and no node waits. Then an insert waits for nothing.
+#[test]
+fn a_full_map_is_reported_at_once() {
+    let map = Map::with_options(100, options(2, 20_000)).unwrap();
+    let mut worker = map.attach().unwrap();
+    worker.extend((0..47).map(|key| (key, key))).unwrap();
+    let begin = Instant::now();
+    let error = worker.insert(47, 47).unwrap_err();
+    assert!(begin.elapsed() < Duration::from_secs(10));
+    let Some(Fault::MapFull(full)) = error.fault() else {
+        panic!("{error}")
+    };
+    assert_eq!((full.nodes, full.keys, full.waiting), (100, 47, 0));
+    assert!(full.behind.is_empty());
+    let text = "the map is full: its 47 keys take 99 of its 100 nodes, and 0 wait to be freed";
+    assert_eq!((error.to_string().as_str(), error.into_value()), (text, 47));
+    assert_eq!(worker.remove(5), Ok(true));
+    worker.insert(47, 47).unwrap();
 }
 
 #[test]

@@ -201,7 +201,7 @@ fn maps_are_made_of_entries() {
         ..Options::default()
     };
     let full = Map::from_entries(9, few, (0..3).map(|key| (key, key)));
-    assert_eq!(full.err(), Some(Fault::NoNodes));
+    assert!(matches!(full.err(), Some(Fault::MapFull(full)) if full.keys == 2));
     let wrong = Map::from_entries(64, few, [(u64::MAX, 5)]);
     assert_eq!(wrong.err(), Some(Fault::Key(u64::MAX)));
 }
@@ -221,7 +221,7 @@ fn an_extend_that_is_refused_loses_nothing() {
         .map(|key| (key, Value::new(key, &dropped)))
         .into_iter();
     match worker.extend(entries.by_ref()) {
-        Err(InsertError::Fault(Fault::NoNodes, value)) => assert!(value.is_of(3)),
+        Err(InsertError::Fault(Fault::MapFull(_), value)) => assert!(value.is_of(3)),
         answer => panic!("{answer:?}"),
     }
     assert_eq!((entries.next().unwrap().0, map.len()), (4, Ok(2)));

@@ -204,12 +204,23 @@ fn a_set_shows_its_first_keys_and_never_waits_to_do_so() {
     set.insert(10).unwrap();
     assert_eq!(format!("{set:?}"), "{0, 1, 2, 3, 4, 5, 6, 7, 8, 9, ..}");
     let worker = set.attach().unwrap();
-    let text = "Set(no worker is free: the set has 1 (64 at most), and each is attached or in a \
-                call)";
+    let text = "Set(no worker is free: each of the 1 (64 at most) is attached or in a call)";
     assert_eq!(
         (format!("{set:?}"), format!("{worker:?}")),
         (text.into(), "Worker { number: 0, .. }".into())
     );
+}
+
+/// The room for a pop of several keys may be any number: it takes memory for the keys alone.
+#[test]
+fn several_keys_are_popped_with_any_room() {
+    let set: Set = (0..1_300).collect();
+    let mut worker = set.attach().unwrap();
+    let below: Vec<u64> = (0..1_200).collect();
+    assert_eq!(worker.pop_first_many(1_200, 1 << 46).unwrap(), below);
+    assert_eq!(set.pop_first_many(1_300, 99).unwrap().len(), 99);
+    assert_eq!(set.pop_first_many(u64::MAX, usize::MAX), Ok(vec![1_299]));
+    assert_eq!(set.pop_first_many(u64::MAX, usize::MAX), Ok(vec![]));
 }
 
 #[test]

@@ -228,8 +228,7 @@ fn an_attach_waits_for_another_thread_and_no_longer_than_its_timeout() {
         let (at_once, later, took) = result.join().unwrap();
         let none = Fault::NoWorker { workers: 1 };
         assert_eq!((at_once, later), (none, none));
-        let text =
-            "no worker is free: the set has 1 (64 at most), and each is attached or in a call";
+        let text = "no worker is free: each of the 1 (64 at most) is attached or in a call";
         assert_eq!(none.to_string(), text);
         assert!(took >= Duration::from_millis(30), "{took:?}");
         let guard = worker.pin().unwrap();

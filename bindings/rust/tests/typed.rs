@@ -78,11 +78,57 @@ fn each_value_of_a_small_type_keeps_its_order() {
     assert!(pairs.map(Key::to_key).eq(0..65_536));
 }
 
+/// A type of the program's own, whose values are shown by their keys in faults.
+#[derive(Clone, Copy, Debug, PartialEq, Eq, PartialOrd, Ord)]
+struct Own(u64);
+
+impl Key for Own {
+    const BITS: u32 = 64;
+    fn to_key(self) -> u64 {
+        self.0
+    }
+    fn from_key(key: u64) -> Own {
+        Own(key)
+    }
+}
+
+#[test]
+fn values_are_shown_as_the_program_wrote_them() {
+    let set = SetOf::<i64>::new().unwrap();
+    assert_eq!(format!("{set:?}"), "{}");
+    set.extend([5, -7]).unwrap();
+    assert_eq!(format!("{set:?}"), "{-7, 5}");
+    set.extend(10..20).unwrap();
+    let text = "{-7, 5, 10, 11, 12, 13, 14, 15, 16, 17, ..}";
+    assert_eq!(format!("{set:?}"), text);
+    set.close().unwrap();
+    assert_eq!(format!("{set:?}"), "SetOf(the set is closed)");
+    let own = SetOf::<Own>::new().unwrap();
+    own.insert(Own(7)).unwrap();
+    assert_eq!(format!("{own:?}"), "{Own(7)}");
+    let refused = own.insert(Own(u64::MAX)).unwrap_err().to_string();
+    assert!(
+        refused.starts_with("the value with the key 18446744073709551615 is no key"),
+        "{refused}"
+    );
+}
+
 #[test]
 fn values_that_are_no_keys_are_refused() {
     let set = SetOf::<i64>::new().unwrap();
     assert_eq!(set.extend([i64::MIN, -5, i64::MAX - 3]), Ok(3));
-    assert_eq!(set.insert(i64::MAX), Err(Fault::Key(u64::MAX)));
+    let refused = set.insert(i64::MAX).unwrap_err();
+    let text =
+        "the value 9223372036854775807 is no key: of a type with 64 bits the three greatest \
+                values are none";
+    assert_eq!(refused.to_string(), text);
+    assert!(matches!(refused, Fault::Value(value) if value.as_str() == i64::MAX.to_string()));
+    assert_eq!(set.attach().unwrap().contains(i64::MAX), Err(refused));
+    let pairs = SetOf::<(i32, u32)>::new().unwrap();
+    let refused = pairs.remove((i32::MAX, u32::MAX - 1)).unwrap_err();
+    assert!(refused
+        .to_string()
+        .starts_with("the value (2147483647, 4294967294) is no key"));
     assert_eq!(set.at_most(i64::MAX), Ok(Some(i64::MAX - 3)));
     assert_eq!(set.range(-5..=i64::MAX).count(), 2);
     assert_eq!(

@@ -20,7 +20,7 @@
 
 pub(crate) mod guarded;
 
-use super::{CallOptions, Order, Outcome, Word};
+use super::{CallOptions, Fullness, Order, Outcome, Word};
 use std::any::Any;
 use std::cell::UnsafeCell;
 use std::ffi::{c_int, c_void};
@@ -148,12 +148,13 @@ extern "C" {
         options: *const CallOptions,
     ) -> c_int;
     fn nm_map_get_many_pinned(worker: *mut Word, lookups: *mut Lookup, count: usize) -> c_int;
-    fn nm_map_counts_new(counts: *mut *mut RawCounts, workers: u32) -> c_int;
+    fn nm_map_counts_new(counts: *mut *mut RawCounts, nodes: u32, workers: u32) -> c_int;
     fn nm_map_counts_free(counts: *mut RawCounts);
     fn nm_map_count_insert(counts: *mut RawCounts, worker: u32, outcome: c_int);
     fn nm_map_count_remove(counts: *mut RawCounts, worker: u32, outcome: c_int);
     fn nm_map_counts_keys(counts: *const RawCounts) -> u64;
     fn nm_map_is_forked(counts: *const RawCounts) -> c_int;
+    fn nm_map_fullness(nodes: u64, keys: u64, behind: u32, fullness: *mut Fullness);
     fn nm_map_pending(worker: *mut Word, key: *mut u64) -> c_int;
     fn nm_map_number(worker: *mut Word, number: *mut u32) -> c_int;
     fn nm_map_queue_len(worker: *mut Word, nodes: *mut u64) -> c_int;
@@ -178,6 +179,7 @@ extern "C" {
         key: u64,
         value: u64,
         options: *const CallOptions,
+        counts: *const RawCounts,
         release: Release,
         context: *mut c_void,
         timeout_ms: u32,
@@ -255,10 +257,10 @@ unsafe impl Sync for Counts {}
 
 impl Counts {
     /// Makes the counts, or returns the outcome of an error.
-    fn new(workers: u32) -> Result<Counts, Outcome> {
+    fn new(nodes: u32, workers: u32) -> Result<Counts, Outcome> {
         let mut counts = null_mut();
         // SAFETY: the place is borrowed for this call.
-        let outcome = unsafe { nm_map_counts_new(&mut counts, workers) };
+        let outcome = unsafe { nm_map_counts_new(&mut counts, nodes, workers) };
         NonNull::new(counts).map(Counts).ok_or(outcome)
     }
 
@@ -296,6 +298,7 @@ impl Drop for Counts {
 pub(crate) struct MapHandle<V> {
     handle: UnsafeCell<Word>,
     counts: Counts,
+    nodes: u32,
     options: CallOptions,
     timeout_ms: u32,
     // A `V` goes in and out by shared references, so no lifetime in it may grow or shrink.
@@ -322,7 +325,8 @@ impl<V> MapHandle<V> {
     ) -> Result<MapHandle<V>, Outcome> {
         let map = MapHandle {
             handle: UnsafeCell::new(Word::closed()),
-            counts: Counts::new(workers)?,
+            counts: Counts::new(nodes, workers)?,
+            nodes,
             options,
             timeout_ms,
             of: PhantomData,
@@ -414,7 +418,8 @@ impl<V> WorkerHandle<'_, V> {
         let pointer = Box::into_raw(value);
         let mut taken = Taken::default();
         let (map, timeout_ms) = (self.map.handle.get(), self.map.timeout_ms);
-        // SAFETY: both handles exist, and `self` is borrowed. `release` gets boxes of this `V`.
+        // SAFETY: both handles and the counts exist, and `self` is borrowed. `release` gets boxes of
+        // this `V`.
         let outcome = taken.by(|context| {
             self.by(|worker, options| unsafe {
                 let word = pointer as usize as u64;
@@ -424,6 +429,7 @@ impl<V> WorkerHandle<'_, V> {
                     key,
                     word,
                     options,
+                    self.map.counts.0.as_ptr(),
                     release::<V>,
                     context,
                     timeout_ms,
@@ -435,6 +441,16 @@ impl<V> WorkerHandle<'_, V> {
         let left = (outcome != YES).then(|| unsafe { Box::from_raw(pointer) });
         taken.resume();
         (outcome, left)
+    }
+
+    /// Returns how full the map is, after an insert that found no nodes.
+    pub(crate) fn fullness(&mut self) -> Fullness {
+        let (_, _, behind) = self.reclaim();
+        let mut fullness = Fullness::default();
+        let (nodes, keys) = (self.map.nodes.into(), self.map.counts.keys());
+        // SAFETY: the place is borrowed for this call.
+        unsafe { nm_map_fullness(nodes, keys, behind, &mut fullness) };
+        fullness
     }
 
     /// Frees what came back if enough nodes wait, and removes a key by a call of C.
