@@ -38,8 +38,12 @@
 #define SOUGHT 64        /* how many keys a call for many looks up together */
 #define FIRST_NODES 20005     /* of a set that grows: room for 10,000 keys */
 #define MOST_NODES 268435456u /* the most nodes of a set */
-#define GROWTH 4         /* how many times the nodes a set has after it grew */
+#define STOP_MS 5        /* how long a change of the size keeps calls waiting for one in progress */
+#define REST 10000000u   /* nanoseconds until calls may be stopped again after a failed attempt */
+#define NODE 1000u       /* nanoseconds: how long an insert waits for each node that another makes */
 #define CROWDED 8        /* a set grows without a collection if its keys leave less than an eighth */
+#define BRIM 64          /* fewer nodes than that are left: then each insert collects */
+#define BRIM_INSERTS 64u /* a thread looks after each so many inserts whether they are */
 #define FINISHES 1000    /* how often a remove that is pending is continued before a new size */
 
 /* What uses a seat: nothing, a call by NM_ANY, or a thread that attached its worker. Or no call may
@@ -47,9 +51,8 @@
 enum use { FREE, CALL, LENT, CLOSED };
 
 /* OPEN: calls are made. SIZING: they wait until the set has its new size. CLOSING: they wait for
- * the end of a close. GATHERED: a close, or a change of the size, was refused memory after it had
- * taken all workers. ENDED: the report was given out. LEFT: the pool was given up, and attached
- * workers go on. */
+ * the end of a close. GATHERED: a close was refused memory after it had taken all workers. ENDED:
+ * the report was given out. LEFT: the pool was given up, and attached workers go on. */
 enum phase { OPEN, SIZING, CLOSING, GATHERED, ENDED, LEFT };
 
 /* What a call that returns NM_YES does to the number of keys. */
@@ -84,7 +87,12 @@ struct nm_pool {
     atomic_uint added;        /* changes when a key is inserted while a pop waits for one */
     alignas(LINE) nm_handle set;
     nm_handle closed;         /* the handle of each worker in a forked child */
-    atomic_bool is_closing;   /* whether a thread closes the set or changes its size */
+    atomic_bool is_closing;   /* whether a thread closes the set or moves its keys */
+    atomic_bool is_sizing;    /* whether a thread is at a new size; it alone uses the next line */
+    nm_handle spare;          /* the empty set that was made for a new size, before calls stop */
+    uint64_t spare_nodes;     /* its nodes, or 0 */
+    _Atomic uint64_t rest_end; /* when calls may be stopped again for a new size */
+    atomic_uint moved;        /* changes with each key that is moved to the set of a new size */
     atomic_uint references;   /* 1 until nm_pool_free, and 1 for each attached worker */
     atomic_uint inserts_at[PROCESSORS]; /* the inserts among them by the place of the processor */
     struct seat seats[];
@@ -178,20 +186,28 @@ static bool pause_until(nm_pool_wait *wait, uint32_t timeout_ms) {
     return true;
 }
 
-/* Waits while the set gets a new size, however long that takes; the wait ends later by as much.
- * Returns false at once if the set does not, or the caller waits for nothing. */
+static unsigned moved_of(const nm_pool *pool) { return atomic_load(&((nm_pool *)pool)->moved); }
+
+/* Waits while keys are moved to a set of a new size; the wait ends later by as much. Returns false
+ * if none was moved for timeout_ms: the thread that moves them was stopped. */
 static bool wait_for_size(const nm_pool *pool, nm_pool_wait *wait, uint32_t timeout_ms) {
-    if (timeout_ms == 0 || phase_of(pool) != SIZING) return false;
-    nm_pool_wait sleeps = {UINT64_MAX, 0, 0, 0};
+    nm_pool_wait sleeps = {0, 0, 0, 0};
     uint64_t begun = now();
-    while (phase_of(pool) == SIZING) (void)pause_until(&sleeps, timeout_ms);
+    unsigned moved = moved_of(pool);
+    while (phase_of(pool) == SIZING) {
+        if (pause_until(&sleeps, timeout_ms)) continue;
+        if (timeout_ms == 0 || moved == moved_of(pool)) return false;
+        moved = moved_of(pool);
+        sleeps.end = 0;
+    }
     if (wait->end != 0) wait->end += now() - begun;
     return true;
 }
 
 /* Pauses, or waits for the new size of the set. Returns false if the time is over. */
 static bool pause_at(const nm_pool *pool, nm_pool_wait *wait, uint32_t timeout_ms) {
-    return wait_for_size(pool, wait, timeout_ms) || pause_until(wait, timeout_ms);
+    return phase_of(pool) == SIZING ? wait_for_size(pool, wait, timeout_ms)
+                                    : pause_until(wait, timeout_ms);
 }
 
 /* Looks again at once some times, and then pauses. Returns false if the time is over. */
@@ -643,9 +659,9 @@ static nm_outcome insert(const nm_pool *pool, nm_handle *worker, const struct re
 }
 
 /* ---- a new size ----
- * A set gets a new size while no call is in it: all workers are taken, each between two calls. Then
- * the set is closed, and the keys of its report are inserted into a new set in their order. Each
- * worker that was open is attached again at its place. */
+ * First an empty set of the new size is made, while calls go on. Then no call is in the set for as
+ * long as its keys are copied: all workers are taken, each between two calls. Each worker that was
+ * open is attached in the new set, at its place. Whatever fails, the old set is there, unchanged. */
 
 /* Why a set gets a new size: an insert found it full, or a caller asks for room or for no more room
  * than needed. `number` is how often the size had changed before that insert, or the keys for which
@@ -655,7 +671,7 @@ struct wish {
     uint64_t number;
 };
 
-/* A set, or the report of one, and its workers, while no call has their handles. */
+/* A set and its workers, while no call has their handles. */
 struct held_set {
     nm_handle set;
     nm_handle workers[WORKERS];
@@ -667,6 +683,9 @@ struct change {
     uint64_t taken, open; /* a bit for each worker whose handle was taken, and if it was open */
     bool has_set;         /* whether the handle of the set was taken */
     struct held_set old, new;
+    uint64_t nodes;       /* of the new set */
+    uint64_t *keys;       /* of the old set, ascending */
+    uint64_t count;
 };
 
 static bool has(uint64_t mask, uint32_t number) { return (mask >> number & 1) != 0; }
@@ -704,16 +723,16 @@ static nm_outcome quiet(nm_handle *worker) {
     return NM_BUSY;
 }
 
-/* Takes the handles of all workers and that of the set. Returns NM_PINNED or NM_IN_USE and a bit
- * for each worker that prevents it; then the caller gives back what was taken. */
-static nm_outcome take_handles(struct change *change, nm_pool_wait *wait, uint32_t timeout_ms,
-                               uint64_t *missing) {
+/* Takes the handles of all workers and that of the set, within some milliseconds. Returns NM_PINNED
+ * or NM_IN_USE and a bit for each worker that prevents it. */
+static nm_outcome take_handles(struct change *change, uint32_t timeout_ms, uint64_t *missing) {
+    nm_pool_wait wait = {0, 0, 0, 0};
     nm_outcome outcome = NM_DONE;
     for (uint32_t number = 0; number < change->pool->count; number++) {
         nm_handle *worker = &change->old.workers[number];
         uint64_t bit = (uint64_t)1 << number;
         nm_outcome is_quiet = NM_IN_USE;
-        if (take_handle_soon(&change->pool->seats[number].handle, worker, wait, timeout_ms)) {
+        if (take_handle_soon(&change->pool->seats[number].handle, worker, &wait, timeout_ms)) {
             change->taken |= bit;
             change->open |= worker->at != NULL ? bit : 0;
             is_quiet = quiet(worker);
@@ -724,26 +743,21 @@ static nm_outcome take_handles(struct change *change, nm_pool_wait *wait, uint32
     }
     if (outcome != NM_DONE) return outcome;
     /* A thread that attaches a worker has this handle besides, and only for that moment. */
-    change->has_set = take_handle_soon(&change->pool->set, &change->old.set, wait, timeout_ms);
+    change->has_set = take_handle_soon(&change->pool->set, &change->old.set, &wait, timeout_ms);
     return change->has_set ? NM_DONE : NM_IN_USE;
 }
 
-/* Gives back the handles that were taken, with what the places of the old set have now. */
-static void give_handles(struct change *change) {
+/* Gives back the handles that were taken, with a set and its workers. */
+static void give_handles(const struct change *change, const struct held_set *with) {
     for (uint32_t number = 0; number < change->pool->count; number++)
         if (has(change->taken, number))
-            give_handle(&change->pool->seats[number].handle, &change->old.workers[number]);
-    if (change->has_set) give_handle(&change->pool->set, &change->old.set);
+            give_handle(&change->pool->seats[number].handle, &with->workers[number]);
+    if (change->has_set) give_handle(&change->pool->set, &with->set);
 }
 
-static void drop_workers(struct change *change, struct held_set *of) {
-    for (uint32_t number = 0; number < change->pool->count; number++)
-        (void)nm_drop(&of->workers[number]);
-}
-
-static void drop_new(struct change *change) {
-    drop_workers(change, &change->new);
-    (void)nm_drop(&change->new.set);
+static void drop_set(struct held_set *of) {
+    for (uint32_t number = 0; number < WORKERS; number++) (void)nm_drop(&of->workers[number]);
+    (void)nm_drop(&of->set);
 }
 
 static nm_outcome new_set(nm_handle *set, uint64_t nodes, uint32_t workers, uint32_t shape) {
@@ -751,143 +765,196 @@ static nm_outcome new_set(nm_handle *set, uint64_t nodes, uint32_t workers, uint
                                   : nm_set_new(set, (uint32_t)nodes, workers);
 }
 
-/* Makes the empty set with the workers that were open. After an error nothing is left of it. */
-static nm_outcome make_new(struct change *change, uint64_t nodes) {
+/* The nodes for that many keys, and for one more key for each worker. */
+static uint64_t nodes_that_fit(const nm_pool *pool, uint64_t keys) {
+    return 2 * (keys + pool->count) + 5;
+}
+
+static void count_moved(struct change *change) {
+    unsigned moved = atomic_load_explicit(&change->pool->moved, memory_order_relaxed);
+    atomic_store_explicit(&change->pool->moved, moved + 1, memory_order_relaxed);
+}
+
+/* Reads the keys of the old set by one of its workers. Beside no other call, no scan fails. */
+static nm_outcome read_keys(struct change *change, nm_handle *worker) {
+    size_t room = (size_t)nodes_of(change->pool) / 2;
+    uint64_t from = 0, some = 0;
+    nm_outcome outcome = NM_YES;
+    change->keys = malloc(room * sizeof *change->keys);
+    if (change->keys == NULL) return NM_NO_MEMORY;
+    while (outcome == NM_YES) {
+        outcome = nm_worker_scan(worker, from, UINT64_MAX, change->keys + change->count,
+                                 room - change->count, &some, &from, nm_default_options.tries);
+        if (outcome >= 0) change->count += some;
+        count_moved(change);
+    }
+    return outcome == NM_NO ? NM_DONE : outcome;
+}
+
+/* Attaches the workers of the new set that were open in the old one. If calls by several threads
+ * were not counted, the set that was made for a shrink is too small, and another one is made. */
+static nm_outcome open_new(struct change *change) {
     nm_pool *pool = change->pool;
-    nm_outcome outcome = new_set(&change->new.set, nodes, pool->count, pool->shape);
+    uint64_t nodes = nodes_that_fit(pool, change->count);
+    nm_outcome outcome = NM_DONE;
+    if (2 * change->count + 5 > change->nodes) {
+        change->nodes = nodes < nodes_of(pool) ? nodes : nodes_of(pool);
+        (void)nm_drop(&change->new.set);
+        outcome = new_set(&change->new.set, change->nodes, pool->count, pool->shape);
+    }
     for (uint32_t number = 0; outcome == NM_DONE && number < pool->count; number++)
         if (has(change->open, number))
             outcome = nm_set_worker(&change->new.set, &change->new.workers[number], number);
-    if (outcome != NM_DONE) drop_new(change);
     return outcome;
 }
 
-/* Inserts the keys of a report from one index to another, the middle one first, so that an
- * unbalanced tree has no long path. Returns NM_YES, or the outcome of the insert that failed. */
-static nm_outcome insert_halves(nm_handle *report, nm_handle *worker, uint64_t from,
+static nm_outcome insert_key(struct change *change, nm_handle *worker, uint64_t index) {
+    count_moved(change);
+    return nm_worker_insert(worker, change->keys[index], &nm_default_options);
+}
+
+/* Inserts the keys from one index to another, the middle one first, so that an unbalanced tree has
+ * no long path. Returns NM_YES, or the outcome of the insert that failed. */
+static nm_outcome insert_halves(struct change *change, nm_handle *worker, uint64_t from,
                                 uint64_t below) {
-    uint64_t key = 0, middle = from + (below - from) / 2;
+    uint64_t middle = from + (below - from) / 2;
     if (from == below) return NM_YES;
-    (void)nm_report_key(report, middle, &key);
-    nm_outcome outcome = nm_worker_insert(worker, key, &nm_default_options);
-    if (outcome == NM_YES) outcome = insert_halves(report, worker, from, middle);
-    return outcome == NM_YES ? insert_halves(report, worker, middle + 1, below) : outcome;
+    nm_outcome outcome = insert_key(change, worker, middle);
+    if (outcome == NM_YES) outcome = insert_halves(change, worker, from, middle);
+    return outcome == NM_YES ? insert_halves(change, worker, middle + 1, below) : outcome;
 }
 
-/* Inserts the keys of the report in their order. */
-static nm_outcome insert_in_order(nm_handle *report, nm_handle *worker, uint64_t count) {
+/* Inserts the keys in their order. */
+static nm_outcome insert_in_order(struct change *change, nm_handle *worker) {
     nm_outcome outcome = NM_YES;
-    for (uint64_t index = 0, key = 0; outcome == NM_YES && index < count; index++) {
-        (void)nm_report_key(report, index, &key);
-        outcome = nm_worker_insert(worker, key, &nm_default_options);
-    }
+    for (uint64_t index = 0; outcome == NM_YES && index < change->count; index++)
+        outcome = insert_key(change, worker, index);
     return outcome;
 }
 
-/* Inserts the keys of the report into the new set. If no worker was open, there are none. */
-static nm_outcome fill_new(struct change *change) {
-    uint64_t count = 0;
+/* Copies the keys of the old set to the new one. If no worker is open, it attaches the first one of
+ * both sets, and returns it. */
+static nm_outcome copy_keys(struct change *change) {
+    bool is_none_open = change->open == 0;
     uint32_t number = 0;
-    nm_outcome outcome = nm_report_keys(&change->old.set, &count);
-    if (outcome != NM_DONE || count == 0) return outcome;
+    nm_outcome outcome = NM_DONE;
+    if (is_none_open) outcome = nm_set_worker(&change->old.set, change->old.workers, 0);
+    if (is_none_open) change->open = 1;
     while (!has(change->open, number)) number++;
     nm_handle *worker = &change->new.workers[number];
-    outcome = change->pool->shape == NM_UNBALANCED
-                  ? insert_halves(&change->old.set, worker, 0, count)
-                  : insert_in_order(&change->old.set, worker, count);
+    if (outcome == NM_DONE) outcome = read_keys(change, &change->old.workers[number]);
+    if (outcome == NM_DONE) outcome = open_new(change);
+    if (outcome == NM_DONE)
+        outcome = change->pool->shape == NM_UNBALANCED
+                      ? insert_halves(change, worker, 0, change->count)
+                      : insert_in_order(change, worker);
+    if (is_none_open) (void)(nm_drop(change->old.workers), nm_drop(change->new.workers));
     return outcome == NM_YES ? NM_DONE : outcome;
 }
 
-/* Ends the old set, and moves its keys to the new one. If memory is refused, the new set is given
- * up for it, and the keys move to a set of the old size. NM_NO_MEMORY: the old set has ended, and
- * its handle has the report, or can be closed. */
-static nm_outcome move_keys(struct change *change, uint64_t nodes) {
-    drop_workers(change, &change->old);
-    nm_outcome outcome = nm_set_close(&change->old.set);
-    if (outcome == NM_NO_MEMORY) {
-        drop_new(change);
-        nodes = nodes_of(change->pool);
-        outcome = nm_set_close(&change->old.set);
-        if (outcome == NM_DONE) outcome = make_new(change, nodes);
-    }
-    if (outcome == NM_DONE) outcome = fill_new(change);
-    if (outcome == NM_DONE) atomic_store(&change->pool->nodes, nodes);
-    return outcome;
-}
-
-/* Puts a set of that size in place of the old one. If a set of the new size is refused, the old one
- * is unchanged. If memory is refused later, the phase is GATHERED, unless the old size was left. */
-static nm_outcome replace_set(struct change *change, uint64_t nodes) {
-    nm_outcome outcome = make_new(change, nodes);
-    if (outcome != NM_DONE) return outcome;
-    outcome = move_keys(change, nodes);
+/* Stops all calls, and moves the keys to the set that was made. */
+static nm_outcome change_size(nm_pool *pool, uint32_t timeout_ms, uint64_t *missing) {
+    struct change change = {.pool = pool, .nodes = pool->spare_nodes};
+    atomic_store(&pool->phase, SIZING);
+    nm_outcome outcome =
+        take_handles(&change, timeout_ms < STOP_MS ? timeout_ms : STOP_MS, missing);
     if (outcome == NM_DONE) {
-        (void)nm_drop(&change->old.set);
-        change->old = change->new;
-        atomic_fetch_add(&change->pool->sizes, 1);
-        return nodes_of(change->pool) == nodes ? NM_DONE : NM_NO_MEMORY;
+        change.new.set = pool->spare;
+        pool->spare = (nm_handle)NM_CLOSED_HANDLE;
+        pool->spare_nodes = 0;
+        outcome = copy_keys(&change);
     }
-    drop_new(change);
-    atomic_store(&change->pool->phase, GATHERED);
+    bool is_moved = outcome == NM_DONE;
+    if (is_moved) {
+        atomic_store(&pool->nodes, change.nodes);
+        atomic_fetch_add(&pool->sizes, 1);
+    }
+    give_handles(&change, is_moved ? &change.new : &change.old);
+    atomic_store(&pool->phase, OPEN);
+    drop_set(is_moved ? &change.old : &change.new);
+    free(change.keys);
+    atomic_store(&pool->hindering, *missing);
+    if (!is_moved) atomic_store(&pool->rest_end, now() + REST);
     return outcome;
 }
 
 /* Returns how many nodes the set gets: as many as it has if it stays, and 0 if there cannot be as
- * many. After a shrink there is room for one more key for each worker. */
+ * many. */
 static uint64_t nodes_for(nm_pool *pool, const struct wish *wish) {
-    uint64_t nodes = nodes_of(pool), least = 2 * (keys_of(pool) + pool->count) + 5;
+    uint64_t nodes = nodes_of(pool), wanted = nodes_that_fit(pool, keys_of(pool));
     switch (wish->kind) {
     case GROW:
         if (wish->number != atomic_load(&pool->sizes)) return nodes;
         if (nodes == MOST_NODES) return 0;
-        return nodes < MOST_NODES / GROWTH ? GROWTH * nodes : MOST_NODES;
+        wanted = nodes + nodes / 8 * 5;
+        return wanted < MOST_NODES ? wanted : MOST_NODES;
     case RESERVE:
         if (wish->number > (MOST_NODES - 5) / 2) return 0;
         return 2 * wish->number + 5 > nodes ? 2 * wish->number + 5 : nodes;
-    default: return least < nodes ? least : nodes;
+    default: return wanted < nodes ? wanted : nodes;
     }
 }
 
-/* Gives the set a new size, after the calls in progress. */
-static nm_outcome change_size(nm_pool *pool, const struct wish *wish, nm_pool_wait *wait,
-                              uint32_t timeout_ms, uint64_t *missing) {
-    struct change change = {.pool = pool};
-    atomic_store(&pool->phase, SIZING);
-    nm_outcome outcome = take_handles(&change, wait, timeout_ms, missing);
-    if (outcome == NM_DONE) {
-        uint64_t nodes = nodes_for(pool, wish);
-        if (nodes != nodes_of(pool)) outcome = nodes == 0 ? NM_NODES : replace_set(&change, nodes);
-    }
-    give_handles(&change);
-    if (phase_of(pool) == SIZING) atomic_store(&pool->phase, OPEN);
+/* Makes the empty set for a new size, unless an attempt that failed has left one. */
+static nm_outcome make_spare(nm_pool *pool, uint64_t nodes) {
+    if (pool->spare_nodes == nodes) return NM_DONE;
+    (void)nm_drop(&pool->spare);
+    nm_outcome outcome = new_set(&pool->spare, nodes, pool->count, pool->shape);
+    pool->spare_nodes = outcome == NM_DONE ? nodes : 0;
     return outcome;
 }
 
-/* Gives the set a new size, unless another thread closes it or changes its size until the wait is
- * over: NM_IN_USE. A thread that is cancelled meanwhile ends later. */
+/* Makes one attempt to give the set a new size. Returns NM_IN_USE without an attempt if another
+ * thread is at a new size or a close, and for some milliseconds after an attempt that failed.
+ * The wait ends later by the time that it takes to make a set. */
+static nm_outcome try_size(nm_pool *pool, const struct wish *wish, nm_pool_wait *wait,
+                           uint32_t timeout_ms, uint64_t *missing) {
+    uint64_t begun = now(), nodes = nodes_for(pool, wish);
+    if (is_ended(pool)) return NM_CLOSED;
+    if (nodes == nodes_of(pool)) return NM_DONE;
+    nm_outcome outcome = nodes == 0 ? NM_NODES : make_spare(pool, nodes);
+    if (wait->end != 0) wait->end += now() - begun;
+    if (outcome != NM_DONE) return outcome;
+    if (now() < atomic_load(&pool->rest_end) || atomic_exchange(&pool->is_closing, true)) {
+        *missing = atomic_load(&pool->hindering);
+        return NM_IN_USE;
+    }
+    outcome = phase_of(pool) == OPEN ? change_size(pool, timeout_ms, missing) : NM_CLOSED;
+    atomic_store(&pool->is_closing, false);
+    return outcome;
+}
+
+/* Makes such an attempt, if no other thread does. A thread that is cancelled meanwhile ends later. */
 static nm_outcome size_alone(nm_pool *pool, const struct wish *wish, nm_pool_wait *wait,
                              uint32_t timeout_ms, uint64_t *missing) {
-    nm_outcome outcome = NM_CLOSED;
     int cancel;
     *missing = 0;
-    while (atomic_exchange(&pool->is_closing, true))
-        if (!pause_at(pool, wait, timeout_ms)) return NM_IN_USE;
+    if (atomic_exchange(&pool->is_sizing, true)) return NM_IN_USE;
     (void)pthread_setcancelstate(PTHREAD_CANCEL_DISABLE, &cancel);
-    if (phase_of(pool) == OPEN) outcome = change_size(pool, wish, wait, timeout_ms, missing);
-    atomic_store(&pool->is_closing, false);
+    nm_outcome outcome = try_size(pool, wish, wait, timeout_ms, missing);
+    atomic_store(&pool->is_sizing, false);
     (void)pthread_setcancelstate(cancel, &cancel);
     return outcome;
 }
 
-/* Lets a set grow, and waits for workers that are pinned. After NM_DONE the wait begins anew. */
+/* Pauses between two attempts. After its time, an insert waits for the set that another thread
+ * makes, at most for a time by the nodes of the set. */
+static bool pause_to_grow(nm_pool *pool, nm_pool_wait *wait, uint32_t timeout_ms) {
+    nm_pool_wait longer = {wait->end + NODE * nodes_of(pool), YIELDS, 0, 0};
+    return pause_at(pool, wait, timeout_ms) ||
+           (atomic_load(&pool->is_sizing) && pause_until(&longer, timeout_ms));
+}
+
+/* Lets a set grow, and waits for workers that are pinned or in a call. After NM_DONE the wait
+ * begins anew. */
 static nm_outcome grow(nm_pool *pool, const struct wish *wish, nm_pool_wait *wait,
                        uint32_t timeout_ms) {
+    uint64_t missing;
     nm_outcome outcome;
-    do {
-        uint64_t missing = 0;
-        outcome = size_alone(pool, wish, wait, timeout_ms, &missing);
-        atomic_store(&pool->hindering, missing);
-    } while ((outcome == NM_PINNED || outcome == NM_IN_USE) && pause_at(pool, wait, timeout_ms));
+    do outcome = size_alone(pool, wish, wait, timeout_ms, &missing);
+    while ((outcome == NM_PINNED || outcome == NM_IN_USE) &&
+           pause_to_grow(pool, wait, timeout_ms));
+    if (wish->number != atomic_load(&pool->sizes)) outcome = NM_DONE; /* another thread's growth */
     if (outcome == NM_DONE) wait->end = 0;
     begin(wait, timeout_ms);
     return outcome;
@@ -896,7 +963,7 @@ static nm_outcome grow(nm_pool *pool, const struct wish *wish, nm_pool_wait *wai
 /* Frees nodes, unless the keys take nearly all. Returns whether some were freed. */
 static bool has_freed(nm_pool *pool, uint32_t own, const nm_pool_wait *wait) {
     uint64_t nodes = nodes_of(pool), taken = 2 * keys_of(pool) + 5;
-    if (taken > nodes - nodes / CROWDED || is_over(wait)) return false;
+    if (taken > nodes - nodes / CROWDED) return false;
     return collect(pool, own) != 0 || has_yielded_for_nodes(pool, own, wait);
 }
 
@@ -905,14 +972,26 @@ static bool has_freed(nm_pool *pool, uint32_t own, const nm_pool_wait *wait) {
 COLD nm_outcome insert_growing(nm_pool *pool, uint32_t worker, const struct request *request,
                                nm_pool_wait *wait, uint32_t timeout_ms) {
     nm_outcome outcome = NM_FULL, grown = NM_DONE;
-    while (outcome == NM_FULL && grown == NM_DONE) {
+    for (bool is_first = true; outcome == NM_FULL && grown == NM_DONE; is_first = false) {
         struct wish wish = {GROW, atomic_load(&pool->sizes)};
-        bool is_freed = has_freed(pool, worker, wait);
+        bool is_freed = (is_first || !is_over(wait)) && has_freed(pool, worker, wait);
         outcome = make(pool, worker, insert, INSERTS, request, timeout_ms);
         if (outcome == NM_FULL && !is_freed) grown = grow(pool, &wish, wait, timeout_ms);
         keep_wait(request, wait);
     }
     return outcome == NM_FULL && grown == NM_NO_MEMORY ? grown : outcome;
+}
+
+/* Lets a set grow if a thread finds it at its brim at two looks in a row, so that inserts and
+ * removes alternate there. It waits for no call. */
+COLD void look_at_brim(nm_pool *pool) {
+    static _Thread_local const nm_pool *last;
+    const struct wish wish = {GROW, atomic_load(&pool->sizes)};
+    nm_pool_wait wait = {0, 0, 0, 0};
+    uint64_t missing;
+    bool is_at_brim = 2 * keys_of(pool) + 5 + BRIM > nodes_of(pool);
+    if (is_at_brim && last == pool) (void)size_alone(pool, &wish, &wait, 0, &missing);
+    last = is_at_brim ? pool : NULL;
 }
 
 /* Inserts after NM_FULL: the set grows, or the insert waits for nodes. */
@@ -922,7 +1001,7 @@ COLD nm_outcome insert_later(nm_pool *pool, uint32_t worker, const struct reques
     nm_outcome outcome = NM_FULL;
     begin(&wait, timeout_ms);
     keep_wait(request, &wait);
-    if (pool->grows && timeout_ms != 0)
+    if (pool->grows)
         outcome = insert_growing(pool, worker, request, &wait, timeout_ms);
     for (bool is_first = true; outcome == NM_FULL; is_first = false) {
         if (!makes_room(pool, worker, &wait, is_first, timeout_ms)) break;
@@ -935,8 +1014,11 @@ static nm_outcome size_by(nm_pool *pool, const struct wish *wish, uint32_t timeo
                           uint64_t *missing) {
     nm_pool_wait wait = {0, 0, 0, 0};
     uint64_t none = 0;
+    nm_outcome outcome;
     if (is_forked(pool)) return NM_FORKED;
-    return size_alone(pool, wish, &wait, timeout_ms, missing != NULL ? missing : &none);
+    do outcome = size_alone(pool, wish, &wait, timeout_ms, missing != NULL ? missing : &none);
+    while (outcome == NM_IN_USE && pause_at(pool, &wait, timeout_ms));
+    return outcome;
 }
 
 nm_outcome nm_pool_reserve(nm_pool *pool, uint64_t keys, uint32_t timeout_ms, uint64_t *missing) {
@@ -1046,10 +1128,13 @@ nm_outcome nm_pool_contains(nm_pool *pool, uint32_t worker, uint64_t key, uint32
 }
 
 nm_outcome nm_pool_insert(nm_pool *pool, uint32_t worker, uint64_t key, uint32_t timeout_ms) {
+    static _Thread_local unsigned inserts;
     uint64_t end = 0;
     const struct request request = {.key = key, .end = &end};
     nm_outcome outcome = make(pool, worker, insert, INSERTS, &request, timeout_ms);
-    return outcome == NM_FULL ? insert_later(pool, worker, &request, timeout_ms) : outcome;
+    if (outcome == NM_FULL) outcome = insert_later(pool, worker, &request, timeout_ms);
+    if (outcome == NM_YES && pool->grows && ++inserts % BRIM_INSERTS == 0) look_at_brim(pool);
+    return outcome;
 }
 
 nm_outcome nm_pool_remove(nm_pool *pool, uint32_t worker, uint64_t key, uint32_t timeout_ms) {
@@ -1454,7 +1539,9 @@ nm_outcome nm_pool_new(nm_pool **pool, uint64_t nodes, const nm_pool_options *op
 
 /* Gives up one reference; the last one frees the memory. */
 static void release(nm_pool *pool) {
-    if (atomic_fetch_sub(&pool->references, 1) == 1) free(pool->block);
+    if (atomic_fetch_sub(&pool->references, 1) != 1) return;
+    (void)nm_drop(&pool->spare);
+    free(pool->block);
 }
 
 static void reopen(nm_pool *pool) {
@@ -1503,8 +1590,6 @@ static nm_outcome close_set(nm_pool *pool, nm_handle *report, nm_pool_wait *wait
     nm_outcome outcome;
     do outcome = nm_set_close(&pool->set);
     while (outcome == NM_IN_USE && look_again(pool, wait, timeout_ms));
-    /* A change of the size was refused memory after it had closed the set. */
-    if (outcome == NM_KIND) outcome = NM_DONE;
     if (outcome == NM_DONE) {
         *report = pool->set;
         pool->set = (nm_handle)NM_CLOSED_HANDLE;
@@ -1605,7 +1690,7 @@ nm_outcome nm_pool_detach(nm_pool *pool, uint32_t *worker, uint32_t timeout_ms) 
     struct seat *seat = lent_seat(pool, *worker);
     if (seat == NULL) return NM_CLOSED;
     while (settle(pool, seat, &wait, timeout_ms) == NM_IN_USE)
-        if (!wait_for_size(pool, &wait, timeout_ms)) return NM_IN_USE;
+        if (!pause_at(pool, &wait, timeout_ms)) return NM_IN_USE;
     *worker = NM_NONE;
     atomic_store(&seat->use, FREE);
     if (phase_of(pool) == LEFT) (void)leave_seat(pool, seat, &wait);
