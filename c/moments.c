@@ -81,7 +81,7 @@ void *__wrap_realloc(void *block, size_t size) {
 }
 
 /* Where a thread is to be stopped, and whether it is. */
-static _Thread_local enum { NOWHERE, AFTER_INSERT, IN_SCAN, IN_ATTACH } place;
+static _Thread_local enum { NOWHERE, AFTER_INSERT, PIN_AFTER_INSERT, IN_SCAN, IN_ATTACH } place;
 static atomic_int stopped;
 static atomic_bool goes_on;
 
@@ -103,6 +103,8 @@ nm_outcome __real_nm_set_worker(nm_handle *set, nm_handle *worker, uint32_t numb
 
 nm_outcome __wrap_nm_worker_insert(nm_handle *worker, uint64_t key, const nm_options *options) {
     nm_outcome outcome = __real_nm_worker_insert(worker, key, options);
+    uint64_t epoch;
+    if (place == PIN_AFTER_INSERT) CHECK(nm_worker_pin(worker, 64, &epoch) == NM_DONE);
     stop_at(AFTER_INSERT);
     return outcome;
 }
@@ -182,6 +184,12 @@ static void calls_go_on_beside_a_long_call(void) {
     CHECK(nm_pool_detach(pool, &held, SOON) == NM_DONE && nm_pool_nodes(pool) == 32505);
     CHECK(nm_pool_detach(pool, &other, SOON) == NM_DONE);
     end(pool, FIRST + 1);
+}
+
+static void *goes_on_later(void *none) {
+    sleep_for(200);
+    atomic_store(&goes_on, true);
+    return none;
 }
 
 static void *reserves_and_stops(void *pool) {
@@ -288,6 +296,150 @@ static void uncounted_keys_have_room(void) {
     end(pool, 3);
 }
 
+static void *attaches_and_stops(void *pool) {
+    uint32_t worker = 77;
+    place = IN_ATTACH;
+    CHECK(nm_pool_attach(pool, &worker, SOON) == NM_NO_MEMORY && worker == 77);
+    return NULL;
+}
+
+/* A close beside a thread that is attaching a worker waits, and does not name a worker that is not
+ * attached in the end. */
+static void a_close_waits_for_an_attach(void) {
+    nm_pool *pool = made(64, 2);
+    pthread_t thread, other;
+    atomic_store(&goes_on, false), atomic_store(&stopped, 0);
+    CHECK(pthread_create(&thread, NULL, attaches_and_stops, pool) == 0);
+    while (atomic_load(&stopped) == 0) sleep_for(1);
+    CHECK(nm_pool_attached(pool) == 0);
+    CHECK(pthread_create(&other, NULL, goes_on_later, NULL) == 0);
+    end(pool, 0);
+    CHECK(pthread_join(thread, NULL) == 0 && pthread_join(other, NULL) == 0);
+}
+
+/* ---- pops that wait ---- */
+
+struct popper {
+    nm_pool *pool;
+    uint32_t timeout_ms;
+    nm_outcome outcome;
+    uint64_t key;
+};
+
+static void *waits_for_a_key(void *of) {
+    struct popper *popper = of;
+    popper->outcome =
+        nm_pool_wait_pop(popper->pool, NM_ANY, UINT64_MAX, &popper->key, popper->timeout_ms);
+    return NULL;
+}
+
+/* Two pops wait, and a key comes while the one worker gets pinned. The first pop is woken, and ends
+ * after its time or is cancelled. Then the second one gets the key, long before its own time is
+ * over. */
+static void a_wake_is_passed_on(bool is_cancelled) {
+    nm_pool *pool = made(64, 1);
+    struct popper poppers[2] = {{pool, is_cancelled ? SOON : 2000, NM_DONE, 77},
+                                {pool, SOON, NM_DONE, 77}};
+    pthread_t threads[2];
+    uint32_t worker;
+    void *result = NULL;
+    CHECK(nm_pool_attach(pool, &worker, SOON) == NM_DONE);
+    uint64_t begun = millis();
+    for (int each = 0; each < 2; each++) {
+        CHECK(pthread_create(&threads[each], NULL, waits_for_a_key, &poppers[each]) == 0);
+        sleep_for(100);
+    }
+    place = PIN_AFTER_INSERT;
+    CHECK(nm_pool_insert(pool, worker, 7, SOON) == NM_YES);
+    place = NOWHERE;
+    sleep_for(100);
+    if (is_cancelled) CHECK(pthread_cancel(threads[0]) == 0);
+    CHECK(pthread_join(threads[0], &result) == 0);
+    CHECK(is_cancelled ? result == PTHREAD_CANCELED : poppers[0].outcome == NM_NO_WORKER);
+    CHECK(nm_worker_unpin(nm_pool_handle(pool, worker)) == NM_DONE);
+    CHECK(pthread_join(threads[1], NULL) == 0 && millis() - begun < SOON / 2);
+    CHECK(poppers[1].outcome == NM_YES && poppers[1].key == 7);
+    CHECK(nm_pool_detach(pool, &worker, SOON) == NM_DONE);
+    end(pool, 0);
+}
+
+/* A key of which no pop was told is found by a last look. */
+static void a_pop_looks_once_more(void) {
+    nm_pool *pool = made(64, 1);
+    struct popper popper = {pool, 2000, NM_DONE, 77};
+    pthread_t thread;
+    uint32_t worker;
+    CHECK(nm_pool_attach(pool, &worker, SOON) == NM_DONE);
+    CHECK(pthread_create(&thread, NULL, waits_for_a_key, &popper) == 0);
+    sleep_for(100);
+    CHECK(nm_worker_insert(nm_pool_handle(pool, worker), 7, &nm_default_options) == NM_YES);
+    CHECK(pthread_join(thread, NULL) == 0 && popper.outcome == NM_YES && popper.key == 7);
+    CHECK(nm_pool_detach(pool, &worker, SOON) == NM_DONE);
+    nm_pool_free(pool);
+}
+
+/* ---- threads that are cancelled ---- */
+
+#ifndef __SANITIZE_ADDRESS__
+static uint32_t lent;
+
+static void *closes(void *pool) {
+    nm_handle report = NM_CLOSED_HANDLE;
+    (void)nm_pool_close(pool, 300, &report, NULL);
+    pthread_testcancel();
+    return NULL;
+}
+
+static void *detaches(void *pool) {
+    (void)nm_pool_detach(pool, &lent, SOON);
+    pthread_testcancel();
+    return NULL;
+}
+
+static void *frees(void *pool) {
+    nm_pool_free(pool);
+    pthread_testcancel();
+    return NULL;
+}
+
+/* Cancels a thread while its call waits for another one, and lets it go on. */
+static void cancel(void *(*call)(void *), nm_pool *pool, nm_handle *worker) {
+    pthread_t thread;
+    void *result;
+    hold(worker, true);
+    CHECK(pthread_create(&thread, NULL, call, pool) == 0);
+    sleep_for(100);
+    CHECK(pthread_cancel(thread) == 0);
+    sleep_for(call == closes ? 400 : 0);
+    hold(worker, false);
+    CHECK(pthread_join(thread, &result) == 0 && result == PTHREAD_CANCELED);
+}
+
+/* A thread that is cancelled in a close, a detach or an end of the pool goes on until that has
+ * ended, and so leaves nothing half done. (The address sanitizer does not know the stack of a thread
+ * that was cancelled.) */
+static void waiting_threads_are_cancelled(void) {
+    nm_pool *pool = made(64, 1);
+    nm_handle report = NM_CLOSED_HANDLE;
+    CHECK(nm_pool_attach(pool, &lent, SOON) == NM_DONE);
+    nm_handle *worker = nm_pool_handle(pool, lent);
+    cancel(detaches, pool, worker);
+    CHECK(nm_pool_attached(pool) == 0 && lent == NM_NONE);
+    fill(pool, 5);
+    cancel(closes, pool, worker);
+    CHECK(nm_pool_contains(pool, NM_ANY, 4, SOON) == NM_YES);
+    end(pool, 5);
+    pool = made(64, 2);
+    CHECK(nm_pool_attach_number(pool, 0, &lent, SOON) == NM_DONE);
+    worker = nm_pool_handle(pool, 0);
+    CHECK(nm_pool_detach(pool, &lent, SOON) == NM_DONE);
+    CHECK(nm_pool_attach_number(pool, 1, &lent, SOON) == NM_DONE);
+    cancel(frees, pool, worker);
+    CHECK(nm_pool_insert(pool, lent, 5, SOON) == NM_YES); /* this worker outlives the pool */
+    CHECK(nm_pool_end(pool, &lent, &report, SOON) == NM_DONE && nm_drop(&report) == NM_DONE);
+}
+#endif
+
 int main(void) {
     calls_go_on_beside_a_long_call();
     calls_end_beside_a_stopped_move();
@@ -296,6 +448,13 @@ int main(void) {
     refused_calls_lose_nothing(64, 20, NM_UNBALANCED, reserve_more);
     refused_calls_lose_nothing(900, 20, NM_RADIX, shrink);
     uncounted_keys_have_room();
+    a_close_waits_for_an_attach();
+    a_wake_is_passed_on(false);
+    a_pop_looks_once_more();
+#ifndef __SANITIZE_ADDRESS__
+    a_wake_is_passed_on(true);
+    waiting_threads_are_cancelled();
+#endif
     puts("a pool loses no key and keeps no call, whatever is refused or stopped");
     return 0;
 }

@@ -98,8 +98,14 @@ struct nm_pool {
     struct seat seats[];
 };
 
+struct request;
+
+/* A call of the library that looks for keys, with a number of tries. */
+typedef nm_outcome (*look_of)(nm_handle *, const struct request *, uint32_t tries);
+
 /* What a call needs besides its worker. */
 struct request {
+    look_of look;   /* of a look-up other than `contains` */
     uint64_t key;
     uint64_t bound; /* of a scan: the other end of its range; of a pop: the bound of its key */
     uint64_t *found;
@@ -217,6 +223,20 @@ static bool look_again(const nm_pool *pool, nm_pool_wait *wait, uint32_t timeout
     return pause_at(pool, wait, timeout_ms);
 }
 
+/* ---- threads that are cancelled ---- */
+
+static int disable_cancel(void) {
+    int state = PTHREAD_CANCEL_ENABLE;
+    (void)pthread_setcancelstate(PTHREAD_CANCEL_DISABLE, &state);
+    return state;
+}
+
+static void restore_cancel(const int *state) { (void)pthread_setcancelstate(*state, &(int){0}); }
+
+/* From here to the end of the block no sleep is a cancellation point. */
+#define UNCANCELLED \
+    __attribute__((cleanup(restore_cancel), unused)) const int cancel_state = disable_cancel()
+
 /* ---- processors ----
  * A thread that was preempted inside a call keeps nodes from being freed until it goes on. So an
  * insert that waits yields its processor to the threads there, and each of them yields it back
@@ -283,17 +303,29 @@ static bool is_interfered(nm_outcome outcome) {
     return outcome == NM_BUSY || outcome == NM_PENDING;
 }
 
-static void no_longer_awaited(void *pool) { atomic_fetch_sub(&((nm_pool *)pool)->awaited, 1); }
+/* Wakes a pop for a key, or all: one that has a bound may not want the key, and another one may. */
+static void wake_for_key(nm_pool *pool) {
+    wake_pops(pool, atomic_load(&pool->bounded) != 0 ? INT_MAX : 1);
+}
 
-static void no_longer_bounded(void *pool) {
-    atomic_fetch_sub(&((nm_pool *)pool)->bounded, 1);
-    no_longer_awaited(pool);
+/* A pop that waits. `is_answered`: it has a key, or has found none since it was woken last. */
+struct waiting_pop {
+    nm_pool *pool;
+    bool is_bounded, is_answered;
+};
+
+/* Ends the wait of a pop. One that leaves for another reason, or is cancelled, may have been woken
+ * for a key: then it wakes the next one. */
+static void leave(void *of) {
+    const struct waiting_pop *pop = of;
+    atomic_fetch_sub(&pop->pool->bounded, pop->is_bounded);
+    atomic_fetch_sub(&pop->pool->awaited, 1);
+    if (!pop->is_answered) wake_for_key(pop->pool);
 }
 
 /* After a call: wakes a pop if the call has inserted a key, and yields the processor back. */
 COLD void serve(nm_pool *pool, bool is_inserted) {
-    /* A pop that has a bound may not want the key, and then another one may. */
-    if (is_inserted) wake_pops(pool, atomic_load(&pool->bounded) != 0 ? INT_MAX : 1);
+    if (is_inserted) wake_for_key(pool);
     yield_back(pool);
 }
 
@@ -765,11 +797,6 @@ static nm_outcome new_set(nm_handle *set, uint64_t nodes, uint32_t workers, uint
                                   : nm_set_new(set, (uint32_t)nodes, workers);
 }
 
-/* The nodes for that many keys, and for one more key for each worker. */
-static uint64_t nodes_that_fit(const nm_pool *pool, uint64_t keys) {
-    return 2 * (keys + pool->count) + 5;
-}
-
 static void count_moved(struct change *change) {
     unsigned moved = atomic_load_explicit(&change->pool->moved, memory_order_relaxed);
     atomic_store_explicit(&change->pool->moved, moved + 1, memory_order_relaxed);
@@ -795,7 +822,7 @@ static nm_outcome read_keys(struct change *change, nm_handle *worker) {
  * were not counted, the set that was made for a shrink is too small, and another one is made. */
 static nm_outcome open_new(struct change *change) {
     nm_pool *pool = change->pool;
-    uint64_t nodes = nodes_that_fit(pool, change->count);
+    uint64_t nodes = 2 * (change->count + pool->count) + 5;
     nm_outcome outcome = NM_DONE;
     if (2 * change->count + 5 > change->nodes) {
         change->nodes = nodes < nodes_of(pool) ? nodes : nodes_of(pool);
@@ -808,27 +835,17 @@ static nm_outcome open_new(struct change *change) {
     return outcome;
 }
 
-static nm_outcome insert_key(struct change *change, nm_handle *worker, uint64_t index) {
-    count_moved(change);
-    return nm_worker_insert(worker, change->keys[index], &nm_default_options);
-}
-
-/* Inserts the keys from one index to another, the middle one first, so that an unbalanced tree has
- * no long path. Returns NM_YES, or the outcome of the insert that failed. */
-static nm_outcome insert_halves(struct change *change, nm_handle *worker, uint64_t from,
-                                uint64_t below) {
-    uint64_t middle = from + (below - from) / 2;
-    if (from == below) return NM_YES;
-    nm_outcome outcome = insert_key(change, worker, middle);
-    if (outcome == NM_YES) outcome = insert_halves(change, worker, from, middle);
-    return outcome == NM_YES ? insert_halves(change, worker, middle + 1, below) : outcome;
-}
-
-/* Inserts the keys in their order. */
-static nm_outcome insert_in_order(struct change *change, nm_handle *worker) {
+/* Inserts the keys in their order, or for an unbalanced tree those between which the others are
+ * first, so that it has no long path. Returns NM_YES, or the outcome of the insert that failed. */
+static nm_outcome insert_keys(struct change *change, nm_handle *worker) {
+    bool is_radix = change->pool->shape == NM_RADIX;
     nm_outcome outcome = NM_YES;
-    for (uint64_t index = 0; outcome == NM_YES && index < change->count; index++)
-        outcome = insert_key(change, worker, index);
+    for (uint64_t part = is_radix ? 1 : MOST_NODES; part != 0; part /= 2)
+        for (uint64_t at = part - 1; outcome == NM_YES && at < change->count;) {
+            count_moved(change);
+            outcome = nm_worker_insert(worker, change->keys[at], &nm_default_options);
+            at += is_radix ? 1 : 2 * part;
+        }
     return outcome;
 }
 
@@ -844,10 +861,7 @@ static nm_outcome copy_keys(struct change *change) {
     nm_handle *worker = &change->new.workers[number];
     if (outcome == NM_DONE) outcome = read_keys(change, &change->old.workers[number]);
     if (outcome == NM_DONE) outcome = open_new(change);
-    if (outcome == NM_DONE)
-        outcome = change->pool->shape == NM_UNBALANCED
-                      ? insert_halves(change, worker, 0, change->count)
-                      : insert_in_order(change, worker);
+    if (outcome == NM_DONE) outcome = insert_keys(change, worker);
     if (is_none_open) (void)(nm_drop(change->old.workers), nm_drop(change->new.workers));
     return outcome == NM_YES ? NM_DONE : outcome;
 }
@@ -879,9 +893,9 @@ static nm_outcome change_size(nm_pool *pool, uint32_t timeout_ms, uint64_t *miss
 }
 
 /* Returns how many nodes the set gets: as many as it has if it stays, and 0 if there cannot be as
- * many. */
+ * many. After a shrink there is room for one more key for each worker. */
 static uint64_t nodes_for(nm_pool *pool, const struct wish *wish) {
-    uint64_t nodes = nodes_of(pool), wanted = nodes_that_fit(pool, keys_of(pool));
+    uint64_t nodes = nodes_of(pool), wanted = 2 * (keys_of(pool) + pool->count) + 5;
     switch (wish->kind) {
     case GROW:
         if (wish->number != atomic_load(&pool->sizes)) return nodes;
@@ -904,9 +918,9 @@ static nm_outcome make_spare(nm_pool *pool, uint64_t nodes) {
     return outcome;
 }
 
-/* Makes one attempt to give the set a new size. Returns NM_IN_USE without an attempt if another
- * thread is at a new size or a close, and for some milliseconds after an attempt that failed.
- * The wait ends later by the time that it takes to make a set. */
+/* Makes one attempt to give the set a new size. Returns NM_IN_USE without an attempt beside a close,
+ * and for some milliseconds after an attempt that failed. The wait ends later by the time that it
+ * takes to make a set. */
 static nm_outcome try_size(nm_pool *pool, const struct wish *wish, nm_pool_wait *wait,
                            uint32_t timeout_ms, uint64_t *missing) {
     uint64_t begun = now(), nodes = nodes_for(pool, wish);
@@ -927,13 +941,11 @@ static nm_outcome try_size(nm_pool *pool, const struct wish *wish, nm_pool_wait 
 /* Makes such an attempt, if no other thread does. A thread that is cancelled meanwhile ends later. */
 static nm_outcome size_alone(nm_pool *pool, const struct wish *wish, nm_pool_wait *wait,
                              uint32_t timeout_ms, uint64_t *missing) {
-    int cancel;
+    UNCANCELLED;
     *missing = 0;
     if (atomic_exchange(&pool->is_sizing, true)) return NM_IN_USE;
-    (void)pthread_setcancelstate(PTHREAD_CANCEL_DISABLE, &cancel);
     nm_outcome outcome = try_size(pool, wish, wait, timeout_ms, missing);
     atomic_store(&pool->is_sizing, false);
-    (void)pthread_setcancelstate(cancel, &cancel);
     return outcome;
 }
 
@@ -1042,14 +1054,6 @@ static nm_outcome remove_key(const nm_pool *pool, nm_handle *worker,
     return nm_worker_remove(worker, request->key, &pool->options);
 }
 
-static nm_outcome pop_first(const nm_pool *pool, nm_handle *worker, const struct request *request) {
-    return nm_worker_pop_first(worker, &pool->options, request->found);
-}
-
-static nm_outcome pop_last(const nm_pool *pool, nm_handle *worker, const struct request *request) {
-    return nm_worker_pop_last(worker, &pool->options, request->found);
-}
-
 static nm_outcome pop_first_below(const nm_pool *pool, nm_handle *worker,
                                   const struct request *request) {
     return nm_worker_pop_first_below(worker, request->bound, &pool->options, request->found);
@@ -1059,9 +1063,6 @@ static nm_outcome pop_last_from(const nm_pool *pool, nm_handle *worker,
                                 const struct request *request) {
     return nm_worker_pop_last_from(worker, request->bound, &pool->options, request->found);
 }
-
-/* Calls of the library that look for keys, each with a number of tries. */
-typedef nm_outcome (*look_of)(nm_handle *, const struct request *, uint32_t tries);
 
 static nm_outcome next(nm_handle *worker, const struct request *request, uint32_t tries) {
     return nm_worker_next(worker, request->key, tries, request->found);
@@ -1085,41 +1086,20 @@ static nm_outcome many(nm_handle *worker, const struct request *request, uint32_
     return nm_worker_contains_many(worker, request->lookups, request->count, tries);
 }
 
-/* Makes such a call after the remove that is pending, and repeats it if each try was lost, at most
- * `rounds` times. */
-INLINE nm_outcome look(const nm_pool *pool, nm_handle *worker, look_of call,
-                       const struct request *request) {
+/* Makes the look-up of a request after the remove that is pending, and repeats it if each try was
+ * lost, at most `rounds` times. */
+static nm_outcome look(const nm_pool *pool, nm_handle *worker, const struct request *request) {
     uint32_t tries = pool->options.tries;
-    nm_outcome outcome = call(worker, request, tries);
+    nm_outcome outcome = request->look(worker, request, tries);
     for (uint32_t round = 0; round < pool->options.rounds; round++) {
         if (outcome == NM_PENDING) {
             if (nm_worker_finish(worker, tries) == NM_IN_USE) return NM_IN_USE;
         } else if (outcome != NM_BUSY) {
             break;
         }
-        outcome = call(worker, request, tries);
+        outcome = request->look(worker, request, tries);
     }
     return outcome;
-}
-
-static nm_outcome look_next(const nm_pool *pool, nm_handle *worker, const struct request *request) {
-    return look(pool, worker, next, request);
-}
-
-static nm_outcome look_prev(const nm_pool *pool, nm_handle *worker, const struct request *request) {
-    return look(pool, worker, prev, request);
-}
-
-static nm_outcome look_on(const nm_pool *pool, nm_handle *worker, const struct request *request) {
-    return look(pool, worker, scan, request);
-}
-
-static nm_outcome look_back(const nm_pool *pool, nm_handle *worker, const struct request *request) {
-    return look(pool, worker, scan_back, request);
-}
-
-static nm_outcome look_many(const nm_pool *pool, nm_handle *worker, const struct request *request) {
-    return look(pool, worker, many, request);
 }
 
 nm_outcome nm_pool_contains(nm_pool *pool, uint32_t worker, uint64_t key, uint32_t timeout_ms) {
@@ -1143,13 +1123,11 @@ nm_outcome nm_pool_remove(nm_pool *pool, uint32_t worker, uint64_t key, uint32_t
 }
 
 nm_outcome nm_pool_pop_first(nm_pool *pool, uint32_t worker, uint64_t *taken, uint32_t timeout_ms) {
-    const struct request request = {.found = taken};
-    return make(pool, worker, pop_first, REMOVES, &request, timeout_ms);
+    return nm_pool_pop_first_below(pool, worker, UINT64_MAX, taken, timeout_ms);
 }
 
 nm_outcome nm_pool_pop_last(nm_pool *pool, uint32_t worker, uint64_t *taken, uint32_t timeout_ms) {
-    const struct request request = {.found = taken};
-    return make(pool, worker, pop_last, REMOVES, &request, timeout_ms);
+    return nm_pool_pop_last_from(pool, worker, 0, taken, timeout_ms);
 }
 
 nm_outcome nm_pool_pop_first_below(nm_pool *pool, uint32_t worker, uint64_t below,
@@ -1181,36 +1159,41 @@ nm_outcome nm_pool_wait_pop(nm_pool *pool, uint32_t worker, uint64_t below, uint
     uint64_t end = now() + (uint64_t)timeout_ms * 1000000u;
     nm_outcome outcome = nm_pool_pop_first_below(pool, worker, below, taken, timeout_ms);
     if ((outcome != NM_NO && !is_interfered(outcome)) || timeout_ms == 0) return outcome;
+    struct waiting_pop pop = {pool, is_bound(below), false};
     atomic_fetch_add(&pool->awaited, 1);
-    atomic_fetch_add(&pool->bounded, is_bound(below));
-    pthread_cleanup_push(is_bound(below) ? no_longer_bounded : no_longer_awaited, pool);
+    atomic_fetch_add(&pool->bounded, pop.is_bounded);
+    pthread_cleanup_push(leave, &pop);
     unsigned added;
     do {
         added = atomic_load(&pool->added);
         outcome = nm_pool_pop_first_below(pool, worker, below, taken, millis_until(end));
     } while ((outcome == NM_NO && sleep_for_key(pool, added, end)) ||
              (is_interfered(outcome) && now() < end));
+    /* The time of a pop that has slept is over: it looks once more. */
+    nm_outcome last = NM_NO;
+    if (outcome == NM_NO) last = nm_pool_pop_first_below(pool, worker, below, taken, 0);
+    if (last == NM_YES || last == NM_UNFINISHED) outcome = last;
+    pop.is_answered = outcome >= 0 || outcome == NM_UNFINISHED;
     pthread_cleanup_pop(1);
     return outcome;
 }
 
 nm_outcome nm_pool_next(nm_pool *pool, uint32_t worker, uint64_t key, uint64_t *found,
                         uint32_t timeout_ms) {
-    const struct request request = {.key = key, .found = found};
-    return make(pool, worker, look_next, NONE, &request, timeout_ms);
+    const struct request request = {.look = next, .key = key, .found = found};
+    return make(pool, worker, look, NONE, &request, timeout_ms);
 }
 
 nm_outcome nm_pool_prev(nm_pool *pool, uint32_t worker, uint64_t key, uint64_t *found,
                         uint32_t timeout_ms) {
-    const struct request request = {.key = key, .found = found};
-    return make(pool, worker, look_prev, NONE, &request, timeout_ms);
+    const struct request request = {.look = prev, .key = key, .found = found};
+    return make(pool, worker, look, NONE, &request, timeout_ms);
 }
 
 /* Makes a scan, unless its range is empty, and writes how many keys it has written. */
-static nm_outcome scan_range(nm_pool *pool, uint32_t worker, call_of call, bool is_empty,
+static nm_outcome scan_range(nm_pool *pool, uint32_t worker, bool is_empty,
                              const struct request *request, size_t *count, uint32_t timeout_ms) {
-    nm_outcome outcome =
-        is_empty ? NM_NO : make(pool, worker, call, NONE, request, timeout_ms);
+    nm_outcome outcome = is_empty ? NM_NO : make(pool, worker, look, NONE, request, timeout_ms);
     if (outcome >= 0) *count = *request->written;
     return outcome;
 }
@@ -1223,28 +1206,29 @@ nm_outcome nm_pool_scan(nm_pool *pool, uint32_t worker, uint64_t from, uint64_t 
                         uint64_t *keys, size_t room, size_t *count, uint64_t *next,
                         uint32_t timeout_ms) {
     uint64_t none = 0, written = 0;
-    const struct request request = {.key = from,
+    const struct request request = {.look = scan,
+                                    .key = from,
                                     .bound = below,
                                     .found = room == 0 ? &none : keys,
                                     .count = room,
                                     .written = &written,
                                     .next = next};
-    return scan_range(pool, worker, look_on, is_empty_range(from, below), &request, count,
-                      timeout_ms);
+    return scan_range(pool, worker, is_empty_range(from, below), &request, count, timeout_ms);
 }
 
-nm_outcome nm_pool_scan_back(nm_pool *pool, uint32_t worker, uint64_t from, uint64_t below,
+nm_outcome nm_pool_scan_back(nm_pool *pool, uint32_t worker, uint64_t below, uint64_t from,
                              uint64_t *keys, size_t room, size_t *count, uint64_t *next,
                              uint32_t timeout_ms) {
     uint64_t none = 0, written = 0, greatest = 0;
-    const struct request request = {.key = below > MOST_KEY ? MOST_KEY : below - 1,
+    const struct request request = {.look = scan_back,
+                                    .key = below > MOST_KEY ? MOST_KEY : below - 1,
                                     .bound = from,
                                     .found = room == 0 ? &none : keys,
                                     .count = room,
                                     .written = &written,
                                     .next = &greatest};
-    nm_outcome outcome = scan_range(pool, worker, look_back, is_empty_range(from, below), &request,
-                                    count, timeout_ms);
+    nm_outcome outcome =
+        scan_range(pool, worker, is_empty_range(from, below), &request, count, timeout_ms);
     if (outcome == NM_YES) *next = greatest + 1;
     return outcome;
 }
@@ -1265,8 +1249,9 @@ nm_outcome nm_pool_count(nm_pool *pool, uint32_t worker, uint64_t from, uint64_t
 nm_outcome nm_pool_contains_many(nm_pool *pool, uint32_t worker, nm_lookup *lookups, size_t count,
                                  uint32_t timeout_ms) {
     nm_lookup none = {0, 0};
-    const struct request request = {.lookups = count == 0 ? &none : lookups, .count = count};
-    return make(pool, worker, look_many, NONE, &request, timeout_ms);
+    const struct request request = {
+        .look = many, .lookups = count == 0 ? &none : lookups, .count = count};
+    return make(pool, worker, look, NONE, &request, timeout_ms);
 }
 
 /* A call that inserts or removes one key. */
@@ -1493,15 +1478,6 @@ const char *nm_full_words(const nm_fullness *fullness, char *text, size_t size) 
 
 /* ---- the pool ---- */
 
-static nm_options options_of(uint64_t nodes, const nm_pool_options *options) {
-    nm_options made = {options->tries, options->rounds, options->collect_after};
-    if (options->collect_after == NM_AN_EIGHTH) {
-        uint64_t share = nodes / (8 * (uint64_t)options->workers);
-        made.collect_after = share < 8 ? 8 : share > 64 ? 64 : (uint32_t)share;
-    }
-    return made;
-}
-
 /* Allocates a pool whose seats begin with cache lines; returns NULL if memory was refused. */
 static nm_pool *allocate(uint32_t workers) {
     size_t size = sizeof(nm_pool) + workers * sizeof(struct seat);
@@ -1519,10 +1495,11 @@ nm_outcome nm_pool_new(nm_pool **pool, uint64_t nodes, const nm_pool_options *op
     if (grows) nodes = FIRST_NODES;
     if (nodes > UINT32_MAX) return NM_NODES;
     if (options->workers < 1 || options->workers > WORKERS) return NM_WORKERS;
+    if (options->shape > NM_UNBALANCED) return NM_NUMBER;
     nm_host_count_forks();
     nm_pool *made = allocate(options->workers);
     if (made == NULL) return NM_NO_MEMORY;
-    made->options = options_of(nodes, options);
+    made->options = (nm_options){options->tries, options->rounds, options->collect_after};
     made->count = options->workers;
     made->shape = options->shape;
     made->grows = grows;
@@ -1550,23 +1527,12 @@ static void reopen(nm_pool *pool) {
         if (use_of(&pool->seats[number]) == CLOSED) set_use(&pool->seats[number], FREE);
 }
 
-/* Returns a bit for each attached worker. No worker is attached from now on, and threads that are
- * just returning theirs have a moment to do so. */
-static uint64_t attached_for_long(nm_pool *pool) {
-    uint64_t mask = nm_pool_attached(pool);
-    for (int look = 0; mask != 0 && look < LOOKS + YIELDS; look++) {
-        if (look >= LOOKS) (void)sched_yield();
-        mask = nm_pool_attached(pool);
-    }
-    return mask;
-}
-
 /* Takes all workers for a close, after the calls in progress. Returns NM_ATTACHED or NM_IN_USE, and
  * a bit for each worker that is missing, and gives the others back. */
 static nm_outcome gather(nm_pool *pool, nm_pool_wait *wait, uint32_t timeout_ms,
                          uint64_t *missing) {
     atomic_store(&pool->phase, CLOSING);
-    uint64_t lent = attached_for_long(pool), in_call = 0;
+    uint64_t lent = nm_pool_attached(pool), in_call = 0;
     for (uint32_t number = 0; lent == 0 && number < pool->count; number++) {
         struct seat *seat = &pool->seats[number];
         int use = take_soon(seat, CLOSED, wait, timeout_ms);
@@ -1602,6 +1568,7 @@ static nm_outcome close_set(nm_pool *pool, nm_handle *report, nm_pool_wait *wait
 nm_outcome nm_pool_close(nm_pool *pool, uint32_t timeout_ms, nm_handle *report, uint64_t *missing) {
     nm_pool_wait wait = {0, 0, 0, 0};
     uint64_t none = 0, keys = 0;
+    UNCANCELLED;
     if (is_forked(pool)) return NM_FORKED;
     if (nm_report_keys(report, &keys) != NM_CLOSED) return NM_OPEN;
     while (atomic_exchange(&pool->is_closing, true))
@@ -1623,10 +1590,12 @@ static bool leave_seat(nm_pool *pool, struct seat *seat, nm_pool_wait *wait) {
 }
 
 void nm_pool_free(nm_pool *pool) {
-    nm_pool_wait wait = {0, 0, 0, 0}, turn = {UINT64_MAX, 0, 0, 0};
+    nm_pool_wait wait = {0, 0, 0, 0};
     bool is_left = true;
+    UNCANCELLED;
     if (pool == NULL || is_forked(pool)) return;
-    while (atomic_exchange(&pool->is_closing, true)) (void)pause_until(&turn, END_MS);
+    while (atomic_exchange(&pool->is_closing, true))
+        if (!pause_at(pool, &wait, END_MS)) return;
     atomic_store(&pool->phase, LEFT);
     atomic_store(&pool->is_closing, false);
     for (uint32_t number = 0; number < pool->count; number++)
@@ -1637,17 +1606,16 @@ void nm_pool_free(nm_pool *pool) {
 
 /* ---- workers of threads ---- */
 
-/* Attaches the worker of a free seat, if the seat can be taken. Returns NM_NO_WORKER if not. */
+/* Attaches the worker of a free seat, if the seat can be taken. Returns NM_NO_WORKER if not. Until
+ * it is attached the seat is in a call, for which a close waits. */
 static nm_outcome lend(nm_pool *pool, uint32_t number) {
     struct seat *seat = &pool->seats[number];
-    if (phase_of(pool) != OPEN || !take(seat, LENT)) return NM_NO_WORKER;
+    if (phase_of(pool) != OPEN || !take(seat, CALL)) return NM_NO_WORKER;
     nm_pool_wait wait = {0, 0, 0, 0};
     nm_outcome outcome = phase_of(pool) == OPEN ? open_seat(pool, number) : NM_NO_WORKER;
     if (outcome == NM_DONE && settle(pool, seat, &wait, 0) == NM_IN_USE) outcome = NM_IN_USE;
-    if (outcome == NM_DONE)
-        atomic_fetch_add(&pool->references, 1);
-    else
-        set_use(seat, FREE);
+    if (outcome == NM_DONE) atomic_fetch_add(&pool->references, 1);
+    set_use(seat, outcome == NM_DONE ? LENT : FREE);
     return outcome == NM_ATTACHED || outcome == NM_IN_USE ? NM_NO_WORKER : outcome;
 }
 
@@ -1686,6 +1654,7 @@ nm_outcome nm_pool_attach_number(nm_pool *pool, uint32_t number, uint32_t *worke
 
 nm_outcome nm_pool_detach(nm_pool *pool, uint32_t *worker, uint32_t timeout_ms) {
     nm_pool_wait wait = {0, 0, 0, 0};
+    UNCANCELLED;
     if (is_forked(pool)) return NM_FORKED;
     struct seat *seat = lent_seat(pool, *worker);
     if (seat == NULL) return NM_CLOSED;

@@ -83,21 +83,17 @@ typedef struct nm_pool nm_pool;
 /* In place of the number of nodes: the set has room for 10,000 keys at first, and grows. */
 #define NM_GROWS UINT64_MAX
 
-/* In place of collect_after: an eighth of the nodes, divided by the number of workers, at least 8
- * and at most 64. */
-#define NM_AN_EIGHTH UINT32_MAX
-
 /* How a pool is made, and the bounds of its calls. */
 typedef struct nm_pool_options {
     uint32_t workers;       /* 1 to 64; each takes 4,096 bytes */
     uint32_t shape;         /* NM_RADIX or NM_UNBALANCED */
     uint32_t tries;         /* as in nm_options: the tries of each call of the tree */
     uint32_t rounds;        /* as in nm_options: how often a call that lost its tries is retried */
-    uint32_t collect_after; /* as in nm_options, or NM_AN_EIGHTH */
+    uint32_t collect_after; /* as in nm_options */
 } nm_pool_options;
 
 /* The options to begin with. */
-static const nm_pool_options nm_pool_defaults = {64, NM_RADIX, 64, 64, NM_AN_EIGHTH};
+static const nm_pool_options nm_pool_defaults = {64, NM_RADIX, 64, 64, 64};
 
 /* How full a set is. */
 typedef struct nm_fullness {
@@ -119,7 +115,8 @@ const char *nm_pool_text(nm_outcome outcome);
 
 /* Makes the empty set and its pool, with room for 7 to 268,435,456 nodes, or NM_GROWS; options may
  * be NULL. A set with a number of nodes never grows by itself.
- * Returns NM_DONE and writes the pool. Errors: NM_NODES, NM_WORKERS, NM_NO_MEMORY. See nm_set_new
+ * Returns NM_DONE and writes the pool. Errors: NM_NODES, NM_WORKERS, NM_NUMBER (there is no such
+ * shape), NM_NO_MEMORY. See nm_set_new
  * for how many nodes a set needs. A pool takes 64 bytes for each worker, and 512. */
 nm_outcome nm_pool_new(nm_pool **pool, uint64_t nodes, const nm_pool_options *options);
 
@@ -201,8 +198,10 @@ nm_outcome nm_pool_scan(nm_pool *pool, uint32_t worker, uint64_t from, uint64_t 
                         uint64_t *keys, size_t room, size_t *count, uint64_t *next,
                         uint32_t timeout_ms);
 
-/* Reads the same keys in descending order. After NM_YES the next call goes on below next. */
-nm_outcome nm_pool_scan_back(nm_pool *pool, uint32_t worker, uint64_t from, uint64_t below,
+/* Reads the same keys in descending order. After NM_YES the next call goes on below next. Each scan,
+ * also those of nm_set.h, takes first the bound at which it begins, and then the one at which it
+ * ends: so this one takes `below` first. */
+nm_outcome nm_pool_scan_back(nm_pool *pool, uint32_t worker, uint64_t below, uint64_t from,
                              uint64_t *keys, size_t room, size_t *count, uint64_t *next,
                              uint32_t timeout_ms);
 

@@ -142,9 +142,8 @@ struct Options {
     std::uint32_t tries = 64;         // the tries of each call of the tree
     std::uint32_t rounds = 64;        // how often a call that lost each of its tries is retried
     // The number of waiting nodes from which an insert or a remove first advances the epoch and
-    // collects. If it is not given: nodes / (8 * workers), at least 8 and at most 64. So the
-    // workers of a small set collect when an eighth of its nodes wait.
-    std::optional<std::uint32_t> collect_after{};
+    // collects.
+    std::uint32_t collect_after = 64;
     std::uint32_t timeout_ms = 1'000; // the longest time that a call waits, in milliseconds: for a
                                       // worker, and an insert for nodes that are to be freed
 };
@@ -268,8 +267,7 @@ inline bool answered(nm_outcome outcome) {
 [[gnu::noinline]] inline nm_pool *pool_of(std::uint64_t nodes, const Options &options) {
     nm_pool_options asked{options.workers,
                           options.shape == Shape::unbalanced ? NM_UNBALANCED : NM_RADIX,
-                          options.tries, options.rounds, NM_AN_EIGHTH};
-    if (options.collect_after) asked.collect_after = *options.collect_after;
+                          options.tries, options.rounds, options.collect_after};
     nm_pool *pool = nullptr;
     nm_outcome outcome = nm_pool_new(&pool, nodes, &asked);
     if (outcome == NM_NODES || outcome == NM_WORKERS)
@@ -721,12 +719,11 @@ private:
     bool fill(detail::Block<std::uint64_t> &block, std::uint64_t bound) const {
         constexpr bool is_up = order == Order::ascending;
         constexpr auto scan = is_up ? nm_pool_scan : nm_pool_scan_back;
-        std::uint64_t from = is_up ? block.next : bound, below = is_up ? bound : block.next;
         std::size_t count = 0;
         detail::in_memory([&] { block.entries.resize(block.room); });
         bool has_more = done([&](const detail::Place &to) {
-            return scan(to.pool, to.worker, from, below, block.entries.data(), block.room, &count,
-                        &block.next, to.timeout_ms);
+            return scan(to.pool, to.worker, block.next, bound, block.entries.data(), block.room,
+                        &count, &block.next, to.timeout_ms);
         });
         block.entries.resize(count);
         return has_more;
