@@ -39,8 +39,8 @@
 #define FIRST_NODES 20005     /* of a set that grows: room for 10,000 keys */
 #define MOST_NODES 268435456u /* the most nodes of a set */
 #define STOP_MS 5        /* how long a change of the size keeps calls waiting for one in progress */
-#define REST 10000000u   /* nanoseconds until calls may be stopped again after a failed attempt */
-#define NODE 1000u       /* nanoseconds: how long an insert waits for each node that another makes */
+#define REST 10000000u   /* nanoseconds until calls may be stopped again, after an attempt failed */
+#define NODE 1000u       /* nanoseconds that an insert waits for each node that another one makes */
 #define CROWDED 8        /* a set grows without a collection if its keys leave less than an eighth */
 #define BRIM 64          /* fewer nodes than that are left: then each insert collects */
 #define BRIM_INSERTS 64u /* a thread looks after each so many inserts whether they are */
@@ -223,8 +223,6 @@ static bool look_again(const nm_pool *pool, nm_pool_wait *wait, uint32_t timeout
     return pause_at(pool, wait, timeout_ms);
 }
 
-/* ---- threads that are cancelled ---- */
-
 static int disable_cancel(void) {
     int state = PTHREAD_CANCEL_ENABLE;
     (void)pthread_setcancelstate(PTHREAD_CANCEL_DISABLE, &state);
@@ -295,8 +293,6 @@ static uint32_t millis_until(uint64_t end) {
     uint64_t at = now();
     return at < end ? (uint32_t)((end - at + 999999u) / 1000000u) : 0;
 }
-
-static bool is_bound(uint64_t below) { return below <= MOST_KEY; }
 
 /* Returns whether other threads interfered with each try of a call. */
 static bool is_interfered(nm_outcome outcome) {
@@ -693,7 +689,8 @@ static nm_outcome insert(const nm_pool *pool, nm_handle *worker, const struct re
 /* ---- a new size ----
  * First an empty set of the new size is made, while calls go on. Then no call is in the set for as
  * long as its keys are copied: all workers are taken, each between two calls. Each worker that was
- * open is attached in the new set, at its place. Whatever fails, the old set is there, unchanged. */
+ * open is attached in the new set, at its place. Whatever fails, the old set is there, unchanged.
+ * */
 
 /* Why a set gets a new size: an insert found it full, or a caller asks for room or for no more room
  * than needed. `number` is how often the size had changed before that insert, or the keys for which
@@ -797,11 +794,6 @@ static nm_outcome new_set(nm_handle *set, uint64_t nodes, uint32_t workers, uint
                                   : nm_set_new(set, (uint32_t)nodes, workers);
 }
 
-static void count_moved(struct change *change) {
-    unsigned moved = atomic_load_explicit(&change->pool->moved, memory_order_relaxed);
-    atomic_store_explicit(&change->pool->moved, moved + 1, memory_order_relaxed);
-}
-
 /* Reads the keys of the old set by one of its workers. Beside no other call, no scan fails. */
 static nm_outcome read_keys(struct change *change, nm_handle *worker) {
     size_t room = (size_t)nodes_of(change->pool) / 2;
@@ -813,7 +805,7 @@ static nm_outcome read_keys(struct change *change, nm_handle *worker) {
         outcome = nm_worker_scan(worker, from, UINT64_MAX, change->keys + change->count,
                                  room - change->count, &some, &from, nm_default_options.tries);
         if (outcome >= 0) change->count += some;
-        count_moved(change);
+        atomic_fetch_add_explicit(&change->pool->moved, 1, memory_order_relaxed);
     }
     return outcome == NM_NO ? NM_DONE : outcome;
 }
@@ -842,7 +834,7 @@ static nm_outcome insert_keys(struct change *change, nm_handle *worker) {
     nm_outcome outcome = NM_YES;
     for (uint64_t part = is_radix ? 1 : MOST_NODES; part != 0; part /= 2)
         for (uint64_t at = part - 1; outcome == NM_YES && at < change->count;) {
-            count_moved(change);
+            atomic_fetch_add_explicit(&change->pool->moved, 1, memory_order_relaxed);
             outcome = nm_worker_insert(worker, change->keys[at], &nm_default_options);
             at += is_radix ? 1 : 2 * part;
         }
@@ -913,22 +905,23 @@ static uint64_t nodes_for(nm_pool *pool, const struct wish *wish) {
 static nm_outcome make_spare(nm_pool *pool, uint64_t nodes) {
     if (pool->spare_nodes == nodes) return NM_DONE;
     (void)nm_drop(&pool->spare);
+    pool->spare_nodes = 0;
+    if (nodes == nodes_of(pool)) return NM_DONE;
     nm_outcome outcome = new_set(&pool->spare, nodes, pool->count, pool->shape);
-    pool->spare_nodes = outcome == NM_DONE ? nodes : 0;
+    if (outcome == NM_DONE) pool->spare_nodes = nodes;
     return outcome;
 }
 
-/* Makes one attempt to give the set a new size. Returns NM_IN_USE without an attempt beside a close,
- * and for some milliseconds after an attempt that failed. The wait ends later by the time that it
- * takes to make a set. */
+/* Makes one attempt to give the set a new size. Returns NM_IN_USE without an attempt beside a
+ * close, and for some milliseconds after an attempt that failed. The wait ends later by the time
+ * that it takes to make a set. */
 static nm_outcome try_size(nm_pool *pool, const struct wish *wish, nm_pool_wait *wait,
                            uint32_t timeout_ms, uint64_t *missing) {
     uint64_t begun = now(), nodes = nodes_for(pool, wish);
     if (is_ended(pool)) return NM_CLOSED;
-    if (nodes == nodes_of(pool)) return NM_DONE;
     nm_outcome outcome = nodes == 0 ? NM_NODES : make_spare(pool, nodes);
     if (wait->end != 0) wait->end += now() - begun;
-    if (outcome != NM_DONE) return outcome;
+    if (outcome != NM_DONE || nodes == nodes_of(pool)) return outcome;
     if (now() < atomic_load(&pool->rest_end) || atomic_exchange(&pool->is_closing, true)) {
         *missing = atomic_load(&pool->hindering);
         return NM_IN_USE;
@@ -938,7 +931,7 @@ static nm_outcome try_size(nm_pool *pool, const struct wish *wish, nm_pool_wait 
     return outcome;
 }
 
-/* Makes such an attempt, if no other thread does. A thread that is cancelled meanwhile ends later. */
+/* Makes such an attempt, if no other thread does. A cancelled thread ends after it. */
 static nm_outcome size_alone(nm_pool *pool, const struct wish *wish, nm_pool_wait *wait,
                              uint32_t timeout_ms, uint64_t *missing) {
     UNCANCELLED;
@@ -957,8 +950,7 @@ static bool pause_to_grow(nm_pool *pool, nm_pool_wait *wait, uint32_t timeout_ms
            (atomic_load(&pool->is_sizing) && pause_until(&longer, timeout_ms));
 }
 
-/* Lets a set grow, and waits for workers that are pinned or in a call. After NM_DONE the wait
- * begins anew. */
+/* Lets a set grow, after the calls of all workers. After NM_DONE the wait begins anew. */
 static nm_outcome grow(nm_pool *pool, const struct wish *wish, nm_pool_wait *wait,
                        uint32_t timeout_ms) {
     uint64_t missing;
@@ -1159,7 +1151,7 @@ nm_outcome nm_pool_wait_pop(nm_pool *pool, uint32_t worker, uint64_t below, uint
     uint64_t end = now() + (uint64_t)timeout_ms * 1000000u;
     nm_outcome outcome = nm_pool_pop_first_below(pool, worker, below, taken, timeout_ms);
     if ((outcome != NM_NO && !is_interfered(outcome)) || timeout_ms == 0) return outcome;
-    struct waiting_pop pop = {pool, is_bound(below), false};
+    struct waiting_pop pop = {pool, below <= MOST_KEY, false};
     atomic_fetch_add(&pool->awaited, 1);
     atomic_fetch_add(&pool->bounded, pop.is_bounded);
     pthread_cleanup_push(leave, &pop);
@@ -1206,13 +1198,9 @@ nm_outcome nm_pool_scan(nm_pool *pool, uint32_t worker, uint64_t from, uint64_t 
                         uint64_t *keys, size_t room, size_t *count, uint64_t *next,
                         uint32_t timeout_ms) {
     uint64_t none = 0, written = 0;
-    const struct request request = {.look = scan,
-                                    .key = from,
-                                    .bound = below,
-                                    .found = room == 0 ? &none : keys,
-                                    .count = room,
-                                    .written = &written,
-                                    .next = next};
+    const struct request request = {
+        .look = scan, .key = from, .bound = below, .found = room == 0 ? &none : keys,
+        .count = room, .written = &written, .next = next};
     return scan_range(pool, worker, is_empty_range(from, below), &request, count, timeout_ms);
 }
 
@@ -1220,13 +1208,9 @@ nm_outcome nm_pool_scan_back(nm_pool *pool, uint32_t worker, uint64_t below, uin
                              uint64_t *keys, size_t room, size_t *count, uint64_t *next,
                              uint32_t timeout_ms) {
     uint64_t none = 0, written = 0, greatest = 0;
-    const struct request request = {.look = scan_back,
-                                    .key = below > MOST_KEY ? MOST_KEY : below - 1,
-                                    .bound = from,
-                                    .found = room == 0 ? &none : keys,
-                                    .count = room,
-                                    .written = &written,
-                                    .next = &greatest};
+    const struct request request = {
+        .look = scan_back, .key = below > MOST_KEY ? MOST_KEY : below - 1, .bound = from,
+        .found = room == 0 ? &none : keys, .count = room, .written = &written, .next = &greatest};
     nm_outcome outcome =
         scan_range(pool, worker, is_empty_range(from, below), &request, count, timeout_ms);
     if (outcome == NM_YES) *next = greatest + 1;

@@ -137,7 +137,7 @@ enum class Shape { radix, unbalanced };
 
 // How a set is made, and the bounds of its calls.
 struct Options {
-    std::uint32_t workers = 64;       // 1 to 64; each takes 4,096 bytes
+    std::uint32_t workers = 64;       // 1 to 64; each takes some 17,000 bytes, and 3,300 once used
     Shape shape = Shape::radix;
     std::uint32_t tries = 64;         // the tries of each call of the tree
     std::uint32_t rounds = 64;        // how often a call that lost each of its tries is retried
@@ -1124,8 +1124,9 @@ inline void Pin::unpin() noexcept {
 class Set : public Keys<Set> {
 public:
     // Makes the empty set, which grows. It has room for 10,000 keys at first. If an insert finds no
-    // free nodes, and none can be freed, the set gets four times the nodes: all calls wait while
-    // its keys move (docs/USING.md has for how long). Throws NM_WORKERS, NM_NO_MEMORY.
+    // free nodes, and none can be freed, the set gets five eighths more nodes: all calls wait while
+    // its keys are copied (docs/USING.md has for how long). A worker that is pinned or in a call
+    // for all of an insert's time prevents that: NM_FULL. Throws NM_WORKERS, NM_NO_MEMORY.
     Set() : Set(Options{}) {}
 
     explicit Set(const Options &options)
@@ -1289,8 +1290,9 @@ public:
 
     // ---- a new size ----
     // These wait for the calls of all workers, for `timeout_ms` of the options at most: NM_IN_USE.
-    // NM_PINNED: workers are pinned. After both the text names the workers. While the keys move,
-    // other calls wait, and workers stay attached. What `stats` and stamps have begins anew.
+    // NM_PINNED: workers are pinned. After both the text names the workers. Other calls wait while
+    // the keys are copied, and for at most 5 milliseconds before. Workers stay attached. What
+    // `stats` and stamps have begins anew.
 
     // Makes room for that many keys, if none waits; it never makes the set smaller. NM_NODES: there
     // cannot be so many. NM_NO_MEMORY.

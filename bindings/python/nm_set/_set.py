@@ -136,8 +136,8 @@ class Set(Keys):
     ) -> None:
         """Makes the set of these keys, or the empty set, for 1 to 64 workers. If no number of nodes
         is given, the set grows: it has room for 10,000 keys at first, or for the given ones. If an
-        add finds no free nodes, and none can be freed, the set gets four times the nodes, and all
-        calls wait while its keys move. `Set(65_536)` and `Set(nodes=65_536)` have 65,536 nodes, of
+        add finds no free nodes, and none can be freed, the set gets five eighths more nodes, and all
+        calls wait while its keys are copied. `Set(65_536)` and `Set(nodes=65_536)` have 65,536 nodes, of
         7 to 268,435,456, and never grow by themselves. n keys take 2 n + 5 nodes, and the removed
         nodes that wait to be freed take theirs.
 
