@@ -39,11 +39,10 @@
 #define FIRST_NODES 20005     /* of a set that grows: room for 10,000 keys */
 #define MOST_NODES 268435456u /* the most nodes of a set */
 #define STOP_MS 5        /* how long a change of the size keeps calls waiting for one in progress */
-#define REST 10000000u   /* nanoseconds until calls may be stopped again, after an attempt failed */
+#define REST 10000000u   /* nanoseconds between an attempt that failed and the next one */
 #define NODE 1000u       /* nanoseconds that an insert waits for each node that another one makes */
 #define CROWDED 8        /* a set grows without a collection if its keys leave less than an eighth */
-#define BRIM 64          /* fewer nodes than that are left: then each insert collects */
-#define BRIM_INSERTS 64u /* a thread looks after each so many inserts whether they are */
+#define BRIM 64u         /* the free nodes of a set at its brim, and the inserts between two looks */
 #define FINISHES 1000    /* how often a remove that is pending is continued before a new size */
 
 /* What uses a seat: nothing, a call by NM_ANY, or a thread that attached its worker. Or no call may
@@ -919,13 +918,16 @@ static nm_outcome try_size(nm_pool *pool, const struct wish *wish, nm_pool_wait 
                            uint32_t timeout_ms, uint64_t *missing) {
     uint64_t begun = now(), nodes = nodes_for(pool, wish);
     if (is_ended(pool)) return NM_CLOSED;
-    nm_outcome outcome = nodes == 0 ? NM_NODES : make_spare(pool, nodes);
-    if (wait->end != 0) wait->end += now() - begun;
-    if (outcome != NM_DONE || nodes == nodes_of(pool)) return outcome;
-    if (now() < atomic_load(&pool->rest_end) || atomic_exchange(&pool->is_closing, true)) {
+    if (nodes == 0) return NM_NODES;
+    if (nodes != nodes_of(pool) && begun < atomic_load(&pool->rest_end)) {
         *missing = atomic_load(&pool->hindering);
         return NM_IN_USE;
     }
+    nm_outcome outcome = make_spare(pool, nodes);
+    if (outcome != NM_DONE) atomic_store(&pool->rest_end, now() + REST);
+    if (wait->end != 0) wait->end += now() - begun;
+    if (outcome != NM_DONE || nodes == nodes_of(pool)) return outcome;
+    if (atomic_exchange(&pool->is_closing, true)) return NM_IN_USE;
     outcome = phase_of(pool) == OPEN ? change_size(pool, timeout_ms, missing) : NM_CLOSED;
     atomic_store(&pool->is_closing, false);
     return outcome;
@@ -1105,7 +1107,7 @@ nm_outcome nm_pool_insert(nm_pool *pool, uint32_t worker, uint64_t key, uint32_t
     const struct request request = {.key = key, .end = &end};
     nm_outcome outcome = make(pool, worker, insert, INSERTS, &request, timeout_ms);
     if (outcome == NM_FULL) outcome = insert_later(pool, worker, &request, timeout_ms);
-    if (outcome == NM_YES && pool->grows && ++inserts % BRIM_INSERTS == 0) look_at_brim(pool);
+    if (outcome == NM_YES && pool->grows && ++inserts % BRIM == 0) look_at_brim(pool);
     return outcome;
 }
 

@@ -133,7 +133,7 @@ private:
 // The shape of a set's tree. `radix`: no call passes more than 66 nodes, in whatever order the keys
 // come. `unbalanced`: the tree of Natarajan and Mittal, in which keys that come in order make one
 // long path.
-enum class Shape { radix, unbalanced };
+enum class Shape { radix = NM_RADIX, unbalanced = NM_UNBALANCED };
 
 // How a set is made, and the bounds of its calls.
 struct Options {
@@ -262,12 +262,11 @@ inline bool answered(nm_outcome outcome) {
     throw Fault(outcome, words(outcome));
 }
 
-// Makes the pool of a set. Throws NM_NODES, NM_WORKERS, NM_NO_MEMORY. (If it is inlined, GCC 12
-// says of the default options that one is not initialized.)
+// Makes the pool of a set. Throws NM_NODES, NM_WORKERS, NM_NUMBER (there is no such shape),
+// NM_NO_MEMORY. (If it is inlined, GCC 12 says of the default options that one is not initialized.)
 [[gnu::noinline]] inline nm_pool *pool_of(std::uint64_t nodes, const Options &options) {
-    nm_pool_options asked{options.workers,
-                          options.shape == Shape::unbalanced ? NM_UNBALANCED : NM_RADIX,
-                          options.tries, options.rounds, options.collect_after};
+    nm_pool_options asked{options.workers, static_cast<std::uint32_t>(options.shape), options.tries,
+                          options.rounds, options.collect_after};
     nm_pool *pool = nullptr;
     nm_outcome outcome = nm_pool_new(&pool, nodes, &asked);
     if (outcome == NM_NODES || outcome == NM_WORKERS)
