@@ -688,8 +688,7 @@ static nm_outcome insert(const nm_pool *pool, nm_handle *worker, const struct re
 /* ---- a new size ----
  * First an empty set of the new size is made, while calls go on. Then no call is in the set for as
  * long as its keys are copied: all workers are taken, each between two calls. Each worker that was
- * open is attached in the new set, at its place. Whatever fails, the old set is there, unchanged.
- * */
+ * open is attached in the new set, at its place. Whatever fails, the old set is unchanged. */
 
 /* Why a set gets a new size: an insert found it full, or a caller asks for room or for no more room
  * than needed. `number` is how often the size had changed before that insert, or the keys for which

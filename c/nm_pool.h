@@ -269,7 +269,7 @@ uint64_t nm_pool_attached(const nm_pool *pool);
  * waits at most 5 milliseconds for the workers. If one is pinned or in a call, calls go on, and no
  * thread makes the next attempt within 10 milliseconds. A call that begins meanwhile waits for
  * these milliseconds and for the copy, even if that is longer than its timeout. If no key was
- * copied for timeout_ms, because the thread that copies was stopped, it returns NM_NO_WORKER or
+ * copied for timeout_ms, as when the thread that copies was stopped, it returns NM_NO_WORKER or
  * NM_IN_USE. With a timeout of 0 it returns these at once.
  *
  * Workers stay attached, by the same number and handle. Their statistics and stamps begin anew. If
