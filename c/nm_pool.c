@@ -829,12 +829,12 @@ static nm_outcome open_new(struct change *change) {
  * first, so that it has no long path. Returns NM_YES, or the outcome of the insert that failed. */
 static nm_outcome insert_keys(struct change *change, nm_handle *worker) {
     bool is_radix = change->pool->shape == NM_RADIX;
+    uint64_t count = change->count, step = is_radix ? 1 : 2;
     nm_outcome outcome = NM_YES;
     for (uint64_t part = is_radix ? 1 : MOST_NODES; part != 0; part /= 2)
-        for (uint64_t at = part - 1; outcome == NM_YES && at < change->count;) {
+        for (uint64_t at = part - 1; outcome == NM_YES && at < count; at += step * part) {
             atomic_fetch_add_explicit(&change->pool->moved, 1, memory_order_relaxed);
             outcome = nm_worker_insert(worker, change->keys[at], &nm_default_options);
-            at += is_radix ? 1 : 2 * part;
         }
     return outcome;
 }
