@@ -6,6 +6,7 @@
 
 #include "holds.h"
 
+#include <malloc.h>
 #include <pthread.h>
 #include <stdatomic.h>
 #include <stdbool.h>
@@ -190,6 +191,21 @@ static void *goes_on_later(void *none) {
     sleep_for(200);
     atomic_store(&goes_on, true);
     return none;
+}
+
+/* A change of the size that a pin prevents keeps no memory. */
+static void a_pinned_worker_costs_no_memory(void) {
+    nm_pool *pool = made(64, 2);
+    uint32_t worker;
+    uint64_t epoch, missing = 0;
+    CHECK(nm_pool_attach(pool, &worker, SOON) == NM_DONE);
+    CHECK(nm_worker_pin(nm_pool_handle(pool, worker), 64, &epoch) == NM_DONE);
+    struct mallinfo2 before = mallinfo2();
+    CHECK(nm_pool_reserve(pool, 100 * FIRST, SOON, &missing) == NM_PINNED && missing == 1);
+    struct mallinfo2 after = mallinfo2();
+    CHECK(after.uordblks + after.hblkhd < before.uordblks + before.hblkhd + 1000000);
+    CHECK(nm_pool_detach(pool, &worker, SOON) == NM_DONE);
+    end(pool, 0);
 }
 
 static void *reserves_and_stops(void *pool) {
@@ -442,6 +458,7 @@ static void waiting_threads_are_cancelled(void) {
 
 int main(void) {
     calls_go_on_beside_a_long_call();
+    a_pinned_worker_costs_no_memory();
     calls_end_beside_a_stopped_move();
     refused_calls_lose_nothing(NM_GROWS, FIRST, NM_RADIX, insert_next);
     refused_calls_lose_nothing(64, 20, NM_RADIX, reserve_more);

@@ -1006,8 +1006,7 @@ COLD nm_outcome insert_later(nm_pool *pool, uint32_t worker, const struct reques
     nm_outcome outcome = NM_FULL;
     begin(&wait, timeout_ms);
     keep_wait(request, &wait);
-    if (pool->grows)
-        outcome = insert_growing(pool, worker, request, &wait, timeout_ms);
+    if (pool->grows) outcome = insert_growing(pool, worker, request, &wait, timeout_ms);
     for (bool is_first = true; outcome == NM_FULL; is_first = false) {
         if (!makes_room(pool, worker, &wait, is_first, timeout_ms)) break;
         outcome = make(pool, worker, insert, INSERTS, request, timeout_ms);
@@ -1017,12 +1016,14 @@ COLD nm_outcome insert_later(nm_pool *pool, uint32_t worker, const struct reques
 
 static nm_outcome size_by(nm_pool *pool, const struct wish *wish, uint32_t timeout_ms,
                           uint64_t *missing) {
+    const struct wish stay = {RESERVE, 0};
     nm_pool_wait wait = {0, 0, 0, 0};
     uint64_t none = 0;
     nm_outcome outcome;
     if (is_forked(pool)) return NM_FORKED;
     do outcome = size_alone(pool, wish, &wait, timeout_ms, missing != NULL ? missing : &none);
     while (outcome == NM_IN_USE && pause_at(pool, &wait, timeout_ms));
+    if (outcome != NM_DONE) (void)size_alone(pool, &stay, &wait, 0, &none); /* drops what was made */
     return outcome;
 }
 
