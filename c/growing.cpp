@@ -133,14 +133,17 @@ void pins_prevent_a_new_size() {
         Thrown pinned = fault_of([&] { set.reserve(20000); });
         CHECK(pinned.outcome == NM_PINNED);
         CHECK(pinned.text == "the set gets no new size: worker 1 is pinned");
-        CHECK(thrown([&] { set.shrink_to_fit(); }) == NM_PINNED);
         CHECK(set.try_insert(10000u) == NM_FULL && set.contains(9999u));
+        set.reserve(10000);
+        set.shrink_to_fit(); // neither has anything to do
+        for (std::uint64_t key = 9000; key < 10000; key++) CHECK(set.remove(key));
+        CHECK(thrown([&] { set.shrink_to_fit(); }) == NM_PINNED);
     }
-    CHECK(filled(set, 20000).outcome == NM_DONE && set.capacity() == 40007);
+    CHECK(filled(set, 20000).outcome == NM_DONE && set.capacity() == 26407);
     CHECK(second.contains(19999u) && second.stats().links == 0 && first.remove(0u));
     CHECK(thrown([&] { set.reserve(std::uint64_t{1} << 40); }) == NM_NODES);
     set.reserve(100);
-    CHECK(set.capacity() == 40007);
+    CHECK(set.capacity() == 26407);
 }
 
 // A set with a size never grows by itself, and does so if a caller asks for it.
@@ -155,6 +158,16 @@ void sets_with_a_size_stay() {
     CHECK(thrown([] { nm::Set too_many(UINT64_MAX); }) == NM_NODES);
     nm::Set full = std::move(set);
     CHECK(full.close().keys() == std::vector<std::uint64_t>{7});
+}
+
+// A set in which removes and inserts alternate at its brim grows, and one that is filled does not.
+void a_set_grows_at_its_brim() {
+    nm::Set set;
+    set.reserve(20000);
+    CHECK(filled(set, 20000).outcome == NM_DONE && set.capacity() == 20000);
+    for (std::uint64_t turn = 0; turn < 1000; turn++)
+        CHECK(set.pop_first() == turn && set.insert(20000 + turn));
+    CHECK(set.capacity() > 30000 && set.size() == 20000);
 }
 
 // A remove that was begun is finished before the keys move.
@@ -228,6 +241,7 @@ int main(int count, char **words) {
     sets_grow(nm::Shape::unbalanced, 3000);
     pins_prevent_a_new_size();
     sets_with_a_size_stay();
+    a_set_grows_at_its_brim();
     pending_removes_are_finished();
     closes_beside_growth();
     threads_are_cancelled_beside_growth();

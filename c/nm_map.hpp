@@ -45,7 +45,7 @@ namespace nm {
 
 // How a map is made, and the bounds of its calls. They mean the same as in `Options`.
 struct MapOptions {
-    std::uint32_t workers = 64;       // 1 to 64; each takes 4,096 bytes
+    std::uint32_t workers = 64;       // 1 to 64; each takes some 17,000 bytes
     std::uint32_t tries = 64;         // the tries of each call of the tree
     std::uint32_t rounds = 64;        // how often a call that lost each of its tries is retried
     // The number of waiting nodes from which an insert or a remove first frees what came back. If

@@ -38,8 +38,11 @@
 #define SOUGHT 64        /* how many keys a call for many looks up together */
 #define FIRST_NODES 20005     /* of a set that grows: room for 10,000 keys */
 #define MOST_NODES 268435456u /* the most nodes of a set */
-#define GROWTH 4         /* how many times the nodes a set has after it grew */
+#define STOP_MS 5        /* how long a change of the size keeps calls waiting for one in progress */
+#define REST 10000000u   /* nanoseconds between an attempt that failed and the next one */
+#define NODE 1000u       /* nanoseconds that an insert waits for each node that another one makes */
 #define CROWDED 8        /* a set grows without a collection if its keys leave less than an eighth */
+#define BRIM 64u         /* the free nodes of a set at its brim, and the inserts between two looks */
 #define FINISHES 1000    /* how often a remove that is pending is continued before a new size */
 
 /* What uses a seat: nothing, a call by NM_ANY, or a thread that attached its worker. Or no call may
@@ -47,9 +50,8 @@
 enum use { FREE, CALL, LENT, CLOSED };
 
 /* OPEN: calls are made. SIZING: they wait until the set has its new size. CLOSING: they wait for
- * the end of a close. GATHERED: a close, or a change of the size, was refused memory after it had
- * taken all workers. ENDED: the report was given out. LEFT: the pool was given up, and attached
- * workers go on. */
+ * the end of a close. GATHERED: a close was refused memory after it had taken all workers. ENDED:
+ * the report was given out. LEFT: the pool was given up, and attached workers go on. */
 enum phase { OPEN, SIZING, CLOSING, GATHERED, ENDED, LEFT };
 
 /* What a call that returns NM_YES does to the number of keys. */
@@ -84,14 +86,25 @@ struct nm_pool {
     atomic_uint added;        /* changes when a key is inserted while a pop waits for one */
     alignas(LINE) nm_handle set;
     nm_handle closed;         /* the handle of each worker in a forked child */
-    atomic_bool is_closing;   /* whether a thread closes the set or changes its size */
+    atomic_bool is_closing;   /* whether a thread closes the set or moves its keys */
+    atomic_bool is_sizing;    /* whether a thread is at a new size; it alone uses the next line */
+    nm_handle spare;          /* the empty set that was made for a new size, before calls stop */
+    uint64_t spare_nodes;     /* its nodes, or 0 */
+    _Atomic uint64_t rest_end; /* when calls may be stopped again for a new size */
+    atomic_uint moved;        /* changes with each key that is moved to the set of a new size */
     atomic_uint references;   /* 1 until nm_pool_free, and 1 for each attached worker */
     atomic_uint inserts_at[PROCESSORS]; /* the inserts among them by the place of the processor */
     struct seat seats[];
 };
 
+struct request;
+
+/* A call of the library that looks for keys, with a number of tries. */
+typedef nm_outcome (*look_of)(nm_handle *, const struct request *, uint32_t tries);
+
 /* What a call needs besides its worker. */
 struct request {
+    look_of look;   /* of a look-up other than `contains` */
     uint64_t key;
     uint64_t bound; /* of a scan: the other end of its range; of a pop: the bound of its key */
     uint64_t *found;
@@ -178,20 +191,28 @@ static bool pause_until(nm_pool_wait *wait, uint32_t timeout_ms) {
     return true;
 }
 
-/* Waits while the set gets a new size, however long that takes; the wait ends later by as much.
- * Returns false at once if the set does not, or the caller waits for nothing. */
+static unsigned moved_of(const nm_pool *pool) { return atomic_load(&((nm_pool *)pool)->moved); }
+
+/* Waits while keys are moved to a set of a new size; the wait ends later by as much. Returns false
+ * if none was moved for timeout_ms: the thread that moves them was stopped. */
 static bool wait_for_size(const nm_pool *pool, nm_pool_wait *wait, uint32_t timeout_ms) {
-    if (timeout_ms == 0 || phase_of(pool) != SIZING) return false;
-    nm_pool_wait sleeps = {UINT64_MAX, 0, 0, 0};
+    nm_pool_wait sleeps = {0, 0, 0, 0};
     uint64_t begun = now();
-    while (phase_of(pool) == SIZING) (void)pause_until(&sleeps, timeout_ms);
+    unsigned moved = moved_of(pool);
+    while (phase_of(pool) == SIZING) {
+        if (pause_until(&sleeps, timeout_ms)) continue;
+        if (timeout_ms == 0 || moved == moved_of(pool)) return false;
+        moved = moved_of(pool);
+        sleeps.end = 0;
+    }
     if (wait->end != 0) wait->end += now() - begun;
     return true;
 }
 
 /* Pauses, or waits for the new size of the set. Returns false if the time is over. */
 static bool pause_at(const nm_pool *pool, nm_pool_wait *wait, uint32_t timeout_ms) {
-    return wait_for_size(pool, wait, timeout_ms) || pause_until(wait, timeout_ms);
+    return phase_of(pool) == SIZING ? wait_for_size(pool, wait, timeout_ms)
+                                    : pause_until(wait, timeout_ms);
 }
 
 /* Looks again at once some times, and then pauses. Returns false if the time is over. */
@@ -200,6 +221,18 @@ static bool look_again(const nm_pool *pool, nm_pool_wait *wait, uint32_t timeout
     wait->looks = 0;
     return pause_at(pool, wait, timeout_ms);
 }
+
+static int disable_cancel(void) {
+    int state = PTHREAD_CANCEL_ENABLE;
+    (void)pthread_setcancelstate(PTHREAD_CANCEL_DISABLE, &state);
+    return state;
+}
+
+static void restore_cancel(const int *state) { (void)pthread_setcancelstate(*state, &(int){0}); }
+
+/* From here to the end of the block no sleep is a cancellation point. */
+#define UNCANCELLED \
+    __attribute__((cleanup(restore_cancel), unused)) const int cancel_state = disable_cancel()
 
 /* ---- processors ----
  * A thread that was preempted inside a call keeps nodes from being freed until it goes on. So an
@@ -260,24 +293,34 @@ static uint32_t millis_until(uint64_t end) {
     return at < end ? (uint32_t)((end - at + 999999u) / 1000000u) : 0;
 }
 
-static bool is_bound(uint64_t below) { return below <= MOST_KEY; }
-
 /* Returns whether other threads interfered with each try of a call. */
 static bool is_interfered(nm_outcome outcome) {
     return outcome == NM_BUSY || outcome == NM_PENDING;
 }
 
-static void no_longer_awaited(void *pool) { atomic_fetch_sub(&((nm_pool *)pool)->awaited, 1); }
+/* Wakes a pop for a key, or all: one that has a bound may not want the key, and another one may. */
+static void wake_for_key(nm_pool *pool) {
+    wake_pops(pool, atomic_load(&pool->bounded) != 0 ? INT_MAX : 1);
+}
 
-static void no_longer_bounded(void *pool) {
-    atomic_fetch_sub(&((nm_pool *)pool)->bounded, 1);
-    no_longer_awaited(pool);
+/* A pop that waits. `is_answered`: it has a key, or has found none since it was woken last. */
+struct waiting_pop {
+    nm_pool *pool;
+    bool is_bounded, is_answered;
+};
+
+/* Ends the wait of a pop. One that leaves for another reason, or is cancelled, may have been woken
+ * for a key: then it wakes the next one. */
+static void leave(void *of) {
+    const struct waiting_pop *pop = of;
+    atomic_fetch_sub(&pop->pool->bounded, pop->is_bounded);
+    atomic_fetch_sub(&pop->pool->awaited, 1);
+    if (!pop->is_answered) wake_for_key(pop->pool);
 }
 
 /* After a call: wakes a pop if the call has inserted a key, and yields the processor back. */
 COLD void serve(nm_pool *pool, bool is_inserted) {
-    /* A pop that has a bound may not want the key, and then another one may. */
-    if (is_inserted) wake_pops(pool, atomic_load(&pool->bounded) != 0 ? INT_MAX : 1);
+    if (is_inserted) wake_for_key(pool);
     yield_back(pool);
 }
 
@@ -643,9 +686,9 @@ static nm_outcome insert(const nm_pool *pool, nm_handle *worker, const struct re
 }
 
 /* ---- a new size ----
- * A set gets a new size while no call is in it: all workers are taken, each between two calls. Then
- * the set is closed, and the keys of its report are inserted into a new set in their order. Each
- * worker that was open is attached again at its place. */
+ * First an empty set of the new size is made, while calls go on. Then no call is in the set for as
+ * long as its keys are copied: all workers are taken, each between two calls. Each worker that was
+ * open is attached in the new set, at its place. Whatever fails, the old set is unchanged. */
 
 /* Why a set gets a new size: an insert found it full, or a caller asks for room or for no more room
  * than needed. `number` is how often the size had changed before that insert, or the keys for which
@@ -655,7 +698,7 @@ struct wish {
     uint64_t number;
 };
 
-/* A set, or the report of one, and its workers, while no call has their handles. */
+/* A set and its workers, while no call has their handles. */
 struct held_set {
     nm_handle set;
     nm_handle workers[WORKERS];
@@ -667,6 +710,9 @@ struct change {
     uint64_t taken, open; /* a bit for each worker whose handle was taken, and if it was open */
     bool has_set;         /* whether the handle of the set was taken */
     struct held_set old, new;
+    uint64_t nodes;       /* of the new set */
+    uint64_t *keys;       /* of the old set, ascending */
+    uint64_t count;
 };
 
 static bool has(uint64_t mask, uint32_t number) { return (mask >> number & 1) != 0; }
@@ -704,16 +750,16 @@ static nm_outcome quiet(nm_handle *worker) {
     return NM_BUSY;
 }
 
-/* Takes the handles of all workers and that of the set. Returns NM_PINNED or NM_IN_USE and a bit
- * for each worker that prevents it; then the caller gives back what was taken. */
-static nm_outcome take_handles(struct change *change, nm_pool_wait *wait, uint32_t timeout_ms,
-                               uint64_t *missing) {
+/* Takes the handles of all workers and that of the set, within some milliseconds. Returns NM_PINNED
+ * or NM_IN_USE and a bit for each worker that prevents it. */
+static nm_outcome take_handles(struct change *change, uint32_t timeout_ms, uint64_t *missing) {
+    nm_pool_wait wait = {0, 0, 0, 0};
     nm_outcome outcome = NM_DONE;
     for (uint32_t number = 0; number < change->pool->count; number++) {
         nm_handle *worker = &change->old.workers[number];
         uint64_t bit = (uint64_t)1 << number;
         nm_outcome is_quiet = NM_IN_USE;
-        if (take_handle_soon(&change->pool->seats[number].handle, worker, wait, timeout_ms)) {
+        if (take_handle_soon(&change->pool->seats[number].handle, worker, &wait, timeout_ms)) {
             change->taken |= bit;
             change->open |= worker->at != NULL ? bit : 0;
             is_quiet = quiet(worker);
@@ -724,26 +770,21 @@ static nm_outcome take_handles(struct change *change, nm_pool_wait *wait, uint32
     }
     if (outcome != NM_DONE) return outcome;
     /* A thread that attaches a worker has this handle besides, and only for that moment. */
-    change->has_set = take_handle_soon(&change->pool->set, &change->old.set, wait, timeout_ms);
+    change->has_set = take_handle_soon(&change->pool->set, &change->old.set, &wait, timeout_ms);
     return change->has_set ? NM_DONE : NM_IN_USE;
 }
 
-/* Gives back the handles that were taken, with what the places of the old set have now. */
-static void give_handles(struct change *change) {
+/* Gives back the handles that were taken, with a set and its workers. */
+static void give_handles(const struct change *change, const struct held_set *with) {
     for (uint32_t number = 0; number < change->pool->count; number++)
         if (has(change->taken, number))
-            give_handle(&change->pool->seats[number].handle, &change->old.workers[number]);
-    if (change->has_set) give_handle(&change->pool->set, &change->old.set);
+            give_handle(&change->pool->seats[number].handle, &with->workers[number]);
+    if (change->has_set) give_handle(&change->pool->set, &with->set);
 }
 
-static void drop_workers(struct change *change, struct held_set *of) {
-    for (uint32_t number = 0; number < change->pool->count; number++)
-        (void)nm_drop(&of->workers[number]);
-}
-
-static void drop_new(struct change *change) {
-    drop_workers(change, &change->new);
-    (void)nm_drop(&change->new.set);
+static void drop_set(struct held_set *of) {
+    for (uint32_t number = 0; number < WORKERS; number++) (void)nm_drop(&of->workers[number]);
+    (void)nm_drop(&of->set);
 }
 
 static nm_outcome new_set(nm_handle *set, uint64_t nodes, uint32_t workers, uint32_t shape) {
@@ -751,143 +792,174 @@ static nm_outcome new_set(nm_handle *set, uint64_t nodes, uint32_t workers, uint
                                   : nm_set_new(set, (uint32_t)nodes, workers);
 }
 
-/* Makes the empty set with the workers that were open. After an error nothing is left of it. */
-static nm_outcome make_new(struct change *change, uint64_t nodes) {
+/* Reads the keys of the old set by one of its workers. Beside no other call, no scan fails. */
+static nm_outcome read_keys(struct change *change, nm_handle *worker) {
+    size_t room = (size_t)nodes_of(change->pool) / 2;
+    uint64_t from = 0, some = 0;
+    nm_outcome outcome = NM_YES;
+    change->keys = malloc(room * sizeof *change->keys);
+    if (change->keys == NULL) return NM_NO_MEMORY;
+    while (outcome == NM_YES) {
+        outcome = nm_worker_scan(worker, from, UINT64_MAX, change->keys + change->count,
+                                 room - change->count, &some, &from, nm_default_options.tries);
+        if (outcome >= 0) change->count += some;
+        atomic_fetch_add_explicit(&change->pool->moved, 1, memory_order_relaxed);
+    }
+    return outcome == NM_NO ? NM_DONE : outcome;
+}
+
+/* Attaches the workers of the new set that were open in the old one. If calls by several threads
+ * were not counted, the set that was made for a shrink is too small, and another one is made. */
+static nm_outcome open_new(struct change *change) {
     nm_pool *pool = change->pool;
-    nm_outcome outcome = new_set(&change->new.set, nodes, pool->count, pool->shape);
+    uint64_t nodes = 2 * (change->count + pool->count) + 5;
+    nm_outcome outcome = NM_DONE;
+    if (2 * change->count + 5 > change->nodes) {
+        change->nodes = nodes < nodes_of(pool) ? nodes : nodes_of(pool);
+        (void)nm_drop(&change->new.set);
+        outcome = new_set(&change->new.set, change->nodes, pool->count, pool->shape);
+    }
     for (uint32_t number = 0; outcome == NM_DONE && number < pool->count; number++)
         if (has(change->open, number))
             outcome = nm_set_worker(&change->new.set, &change->new.workers[number], number);
-    if (outcome != NM_DONE) drop_new(change);
     return outcome;
 }
 
-/* Inserts the keys of a report from one index to another, the middle one first, so that an
- * unbalanced tree has no long path. Returns NM_YES, or the outcome of the insert that failed. */
-static nm_outcome insert_halves(nm_handle *report, nm_handle *worker, uint64_t from,
-                                uint64_t below) {
-    uint64_t key = 0, middle = from + (below - from) / 2;
-    if (from == below) return NM_YES;
-    (void)nm_report_key(report, middle, &key);
-    nm_outcome outcome = nm_worker_insert(worker, key, &nm_default_options);
-    if (outcome == NM_YES) outcome = insert_halves(report, worker, from, middle);
-    return outcome == NM_YES ? insert_halves(report, worker, middle + 1, below) : outcome;
-}
-
-/* Inserts the keys of the report in their order. */
-static nm_outcome insert_in_order(nm_handle *report, nm_handle *worker, uint64_t count) {
+/* Inserts the keys in their order, or for an unbalanced tree those between which the others are
+ * first, so that it has no long path. Returns NM_YES, or the outcome of the insert that failed. */
+static nm_outcome insert_keys(struct change *change, nm_handle *worker) {
+    bool is_radix = change->pool->shape == NM_RADIX;
+    uint64_t count = change->count, step = is_radix ? 1 : 2;
     nm_outcome outcome = NM_YES;
-    for (uint64_t index = 0, key = 0; outcome == NM_YES && index < count; index++) {
-        (void)nm_report_key(report, index, &key);
-        outcome = nm_worker_insert(worker, key, &nm_default_options);
-    }
+    for (uint64_t part = is_radix ? 1 : MOST_NODES; part != 0; part /= 2)
+        for (uint64_t at = part - 1; outcome == NM_YES && at < count; at += step * part) {
+            atomic_fetch_add_explicit(&change->pool->moved, 1, memory_order_relaxed);
+            outcome = nm_worker_insert(worker, change->keys[at], &nm_default_options);
+        }
     return outcome;
 }
 
-/* Inserts the keys of the report into the new set. If no worker was open, there are none. */
-static nm_outcome fill_new(struct change *change) {
-    uint64_t count = 0;
+/* Copies the keys of the old set to the new one. If no worker is open, it attaches the first one of
+ * both sets, and returns it. */
+static nm_outcome copy_keys(struct change *change) {
+    bool is_none_open = change->open == 0;
     uint32_t number = 0;
-    nm_outcome outcome = nm_report_keys(&change->old.set, &count);
-    if (outcome != NM_DONE || count == 0) return outcome;
+    nm_outcome outcome = NM_DONE;
+    if (is_none_open) outcome = nm_set_worker(&change->old.set, change->old.workers, 0);
+    if (is_none_open) change->open = 1;
     while (!has(change->open, number)) number++;
     nm_handle *worker = &change->new.workers[number];
-    outcome = change->pool->shape == NM_UNBALANCED
-                  ? insert_halves(&change->old.set, worker, 0, count)
-                  : insert_in_order(&change->old.set, worker, count);
+    if (outcome == NM_DONE) outcome = read_keys(change, &change->old.workers[number]);
+    if (outcome == NM_DONE) outcome = open_new(change);
+    if (outcome == NM_DONE) outcome = insert_keys(change, worker);
+    if (is_none_open) (void)(nm_drop(change->old.workers), nm_drop(change->new.workers));
     return outcome == NM_YES ? NM_DONE : outcome;
 }
 
-/* Ends the old set, and moves its keys to the new one. If memory is refused, the new set is given
- * up for it, and the keys move to a set of the old size. NM_NO_MEMORY: the old set has ended, and
- * its handle has the report, or can be closed. */
-static nm_outcome move_keys(struct change *change, uint64_t nodes) {
-    drop_workers(change, &change->old);
-    nm_outcome outcome = nm_set_close(&change->old.set);
-    if (outcome == NM_NO_MEMORY) {
-        drop_new(change);
-        nodes = nodes_of(change->pool);
-        outcome = nm_set_close(&change->old.set);
-        if (outcome == NM_DONE) outcome = make_new(change, nodes);
-    }
-    if (outcome == NM_DONE) outcome = fill_new(change);
-    if (outcome == NM_DONE) atomic_store(&change->pool->nodes, nodes);
-    return outcome;
-}
-
-/* Puts a set of that size in place of the old one. If a set of the new size is refused, the old one
- * is unchanged. If memory is refused later, the phase is GATHERED, unless the old size was left. */
-static nm_outcome replace_set(struct change *change, uint64_t nodes) {
-    nm_outcome outcome = make_new(change, nodes);
-    if (outcome != NM_DONE) return outcome;
-    outcome = move_keys(change, nodes);
+/* Stops all calls, and moves the keys to the set that was made. */
+static nm_outcome change_size(nm_pool *pool, uint32_t timeout_ms, uint64_t *missing) {
+    struct change change = {.pool = pool, .nodes = pool->spare_nodes};
+    atomic_store(&pool->phase, SIZING);
+    nm_outcome outcome =
+        take_handles(&change, timeout_ms < STOP_MS ? timeout_ms : STOP_MS, missing);
     if (outcome == NM_DONE) {
-        (void)nm_drop(&change->old.set);
-        change->old = change->new;
-        atomic_fetch_add(&change->pool->sizes, 1);
-        return nodes_of(change->pool) == nodes ? NM_DONE : NM_NO_MEMORY;
+        change.new.set = pool->spare;
+        pool->spare = (nm_handle)NM_CLOSED_HANDLE;
+        pool->spare_nodes = 0;
+        outcome = copy_keys(&change);
     }
-    drop_new(change);
-    atomic_store(&change->pool->phase, GATHERED);
+    bool is_moved = outcome == NM_DONE;
+    if (is_moved) {
+        atomic_store(&pool->nodes, change.nodes);
+        atomic_fetch_add(&pool->sizes, 1);
+    }
+    give_handles(&change, is_moved ? &change.new : &change.old);
+    atomic_store(&pool->phase, OPEN);
+    drop_set(is_moved ? &change.old : &change.new);
+    free(change.keys);
+    atomic_store(&pool->hindering, *missing);
+    if (!is_moved) atomic_store(&pool->rest_end, now() + REST);
     return outcome;
 }
 
 /* Returns how many nodes the set gets: as many as it has if it stays, and 0 if there cannot be as
  * many. After a shrink there is room for one more key for each worker. */
 static uint64_t nodes_for(nm_pool *pool, const struct wish *wish) {
-    uint64_t nodes = nodes_of(pool), least = 2 * (keys_of(pool) + pool->count) + 5;
+    uint64_t nodes = nodes_of(pool), wanted = 2 * (keys_of(pool) + pool->count) + 5;
     switch (wish->kind) {
     case GROW:
         if (wish->number != atomic_load(&pool->sizes)) return nodes;
         if (nodes == MOST_NODES) return 0;
-        return nodes < MOST_NODES / GROWTH ? GROWTH * nodes : MOST_NODES;
+        wanted = nodes + nodes / 8 * 5;
+        return wanted < MOST_NODES ? wanted : MOST_NODES;
     case RESERVE:
         if (wish->number > (MOST_NODES - 5) / 2) return 0;
         return 2 * wish->number + 5 > nodes ? 2 * wish->number + 5 : nodes;
-    default: return least < nodes ? least : nodes;
+    default: return wanted < nodes ? wanted : nodes;
     }
 }
 
-/* Gives the set a new size, after the calls in progress. */
-static nm_outcome change_size(nm_pool *pool, const struct wish *wish, nm_pool_wait *wait,
-                              uint32_t timeout_ms, uint64_t *missing) {
-    struct change change = {.pool = pool};
-    atomic_store(&pool->phase, SIZING);
-    nm_outcome outcome = take_handles(&change, wait, timeout_ms, missing);
-    if (outcome == NM_DONE) {
-        uint64_t nodes = nodes_for(pool, wish);
-        if (nodes != nodes_of(pool)) outcome = nodes == 0 ? NM_NODES : replace_set(&change, nodes);
-    }
-    give_handles(&change);
-    if (phase_of(pool) == SIZING) atomic_store(&pool->phase, OPEN);
+/* Makes the empty set for a new size, unless an attempt that failed has left one. */
+static nm_outcome make_spare(nm_pool *pool, uint64_t nodes) {
+    if (pool->spare_nodes == nodes) return NM_DONE;
+    (void)nm_drop(&pool->spare);
+    pool->spare_nodes = 0;
+    if (nodes == nodes_of(pool)) return NM_DONE;
+    nm_outcome outcome = new_set(&pool->spare, nodes, pool->count, pool->shape);
+    if (outcome == NM_DONE) pool->spare_nodes = nodes;
     return outcome;
 }
 
-/* Gives the set a new size, unless another thread closes it or changes its size until the wait is
- * over: NM_IN_USE. A thread that is cancelled meanwhile ends later. */
+/* Makes one attempt to give the set a new size. Returns NM_IN_USE without an attempt beside a
+ * close, and for some milliseconds after an attempt that failed. The wait ends later by the time
+ * that it takes to make a set. */
+static nm_outcome try_size(nm_pool *pool, const struct wish *wish, nm_pool_wait *wait,
+                           uint32_t timeout_ms, uint64_t *missing) {
+    uint64_t begun = now(), nodes = nodes_for(pool, wish);
+    if (is_ended(pool)) return NM_CLOSED;
+    if (nodes == 0) return NM_NODES;
+    if (nodes != nodes_of(pool) && begun < atomic_load(&pool->rest_end)) {
+        *missing = atomic_load(&pool->hindering);
+        return NM_IN_USE;
+    }
+    nm_outcome outcome = make_spare(pool, nodes);
+    if (outcome != NM_DONE) atomic_store(&pool->rest_end, now() + REST);
+    if (wait->end != 0) wait->end += now() - begun;
+    if (outcome != NM_DONE || nodes == nodes_of(pool)) return outcome;
+    if (atomic_exchange(&pool->is_closing, true)) return NM_IN_USE;
+    outcome = phase_of(pool) == OPEN ? change_size(pool, timeout_ms, missing) : NM_CLOSED;
+    atomic_store(&pool->is_closing, false);
+    return outcome;
+}
+
+/* Makes such an attempt, if no other thread does. A cancelled thread ends after it. */
 static nm_outcome size_alone(nm_pool *pool, const struct wish *wish, nm_pool_wait *wait,
                              uint32_t timeout_ms, uint64_t *missing) {
-    nm_outcome outcome = NM_CLOSED;
-    int cancel;
+    UNCANCELLED;
     *missing = 0;
-    while (atomic_exchange(&pool->is_closing, true))
-        if (!pause_at(pool, wait, timeout_ms)) return NM_IN_USE;
-    (void)pthread_setcancelstate(PTHREAD_CANCEL_DISABLE, &cancel);
-    if (phase_of(pool) == OPEN) outcome = change_size(pool, wish, wait, timeout_ms, missing);
-    atomic_store(&pool->is_closing, false);
-    (void)pthread_setcancelstate(cancel, &cancel);
+    if (atomic_exchange(&pool->is_sizing, true)) return NM_IN_USE;
+    nm_outcome outcome = try_size(pool, wish, wait, timeout_ms, missing);
+    atomic_store(&pool->is_sizing, false);
     return outcome;
 }
 
-/* Lets a set grow, and waits for workers that are pinned. After NM_DONE the wait begins anew. */
+/* Pauses between two attempts. After its time, an insert waits for the set that another thread
+ * makes, at most for a time by the nodes of the set. */
+static bool pause_to_grow(nm_pool *pool, nm_pool_wait *wait, uint32_t timeout_ms) {
+    nm_pool_wait longer = {wait->end + NODE * nodes_of(pool), YIELDS, 0, 0};
+    return pause_at(pool, wait, timeout_ms) ||
+           (atomic_load(&pool->is_sizing) && pause_until(&longer, timeout_ms));
+}
+
+/* Lets a set grow, after the calls of all workers. After NM_DONE the wait begins anew. */
 static nm_outcome grow(nm_pool *pool, const struct wish *wish, nm_pool_wait *wait,
                        uint32_t timeout_ms) {
+    uint64_t missing;
     nm_outcome outcome;
-    do {
-        uint64_t missing = 0;
-        outcome = size_alone(pool, wish, wait, timeout_ms, &missing);
-        atomic_store(&pool->hindering, missing);
-    } while ((outcome == NM_PINNED || outcome == NM_IN_USE) && pause_at(pool, wait, timeout_ms));
+    do outcome = size_alone(pool, wish, wait, timeout_ms, &missing);
+    while ((outcome == NM_PINNED || outcome == NM_IN_USE) &&
+           pause_to_grow(pool, wait, timeout_ms));
+    if (wish->number != atomic_load(&pool->sizes)) outcome = NM_DONE; /* another thread's growth */
     if (outcome == NM_DONE) wait->end = 0;
     begin(wait, timeout_ms);
     return outcome;
@@ -896,7 +968,7 @@ static nm_outcome grow(nm_pool *pool, const struct wish *wish, nm_pool_wait *wai
 /* Frees nodes, unless the keys take nearly all. Returns whether some were freed. */
 static bool has_freed(nm_pool *pool, uint32_t own, const nm_pool_wait *wait) {
     uint64_t nodes = nodes_of(pool), taken = 2 * keys_of(pool) + 5;
-    if (taken > nodes - nodes / CROWDED || is_over(wait)) return false;
+    if (taken > nodes - nodes / CROWDED) return false;
     return collect(pool, own) != 0 || has_yielded_for_nodes(pool, own, wait);
 }
 
@@ -905,14 +977,26 @@ static bool has_freed(nm_pool *pool, uint32_t own, const nm_pool_wait *wait) {
 COLD nm_outcome insert_growing(nm_pool *pool, uint32_t worker, const struct request *request,
                                nm_pool_wait *wait, uint32_t timeout_ms) {
     nm_outcome outcome = NM_FULL, grown = NM_DONE;
-    while (outcome == NM_FULL && grown == NM_DONE) {
+    for (bool is_first = true; outcome == NM_FULL && grown == NM_DONE; is_first = false) {
         struct wish wish = {GROW, atomic_load(&pool->sizes)};
-        bool is_freed = has_freed(pool, worker, wait);
+        bool is_freed = (is_first || !is_over(wait)) && has_freed(pool, worker, wait);
         outcome = make(pool, worker, insert, INSERTS, request, timeout_ms);
         if (outcome == NM_FULL && !is_freed) grown = grow(pool, &wish, wait, timeout_ms);
         keep_wait(request, wait);
     }
     return outcome == NM_FULL && grown == NM_NO_MEMORY ? grown : outcome;
+}
+
+/* Lets a set grow if a thread finds it at its brim at two looks in a row, so that inserts and
+ * removes alternate there. It waits for no call. */
+COLD void look_at_brim(nm_pool *pool) {
+    static _Thread_local const nm_pool *last;
+    const struct wish wish = {GROW, atomic_load(&pool->sizes)};
+    nm_pool_wait wait = {0, 0, 0, 0};
+    uint64_t missing;
+    bool is_at_brim = 2 * keys_of(pool) + 5 + BRIM > nodes_of(pool);
+    if (is_at_brim && last == pool) (void)size_alone(pool, &wish, &wait, 0, &missing);
+    last = is_at_brim ? pool : NULL;
 }
 
 /* Inserts after NM_FULL: the set grows, or the insert waits for nodes. */
@@ -922,8 +1006,7 @@ COLD nm_outcome insert_later(nm_pool *pool, uint32_t worker, const struct reques
     nm_outcome outcome = NM_FULL;
     begin(&wait, timeout_ms);
     keep_wait(request, &wait);
-    if (pool->grows && timeout_ms != 0)
-        outcome = insert_growing(pool, worker, request, &wait, timeout_ms);
+    if (pool->grows) outcome = insert_growing(pool, worker, request, &wait, timeout_ms);
     for (bool is_first = true; outcome == NM_FULL; is_first = false) {
         if (!makes_room(pool, worker, &wait, is_first, timeout_ms)) break;
         outcome = make(pool, worker, insert, INSERTS, request, timeout_ms);
@@ -933,10 +1016,15 @@ COLD nm_outcome insert_later(nm_pool *pool, uint32_t worker, const struct reques
 
 static nm_outcome size_by(nm_pool *pool, const struct wish *wish, uint32_t timeout_ms,
                           uint64_t *missing) {
+    const struct wish stay = {RESERVE, 0};
     nm_pool_wait wait = {0, 0, 0, 0};
     uint64_t none = 0;
+    nm_outcome outcome;
     if (is_forked(pool)) return NM_FORKED;
-    return size_alone(pool, wish, &wait, timeout_ms, missing != NULL ? missing : &none);
+    do outcome = size_alone(pool, wish, &wait, timeout_ms, missing != NULL ? missing : &none);
+    while (outcome == NM_IN_USE && pause_at(pool, &wait, timeout_ms));
+    if (outcome != NM_DONE) (void)size_alone(pool, &stay, &wait, 0, &none); /* drops what was made */
+    return outcome;
 }
 
 nm_outcome nm_pool_reserve(nm_pool *pool, uint64_t keys, uint32_t timeout_ms, uint64_t *missing) {
@@ -960,14 +1048,6 @@ static nm_outcome remove_key(const nm_pool *pool, nm_handle *worker,
     return nm_worker_remove(worker, request->key, &pool->options);
 }
 
-static nm_outcome pop_first(const nm_pool *pool, nm_handle *worker, const struct request *request) {
-    return nm_worker_pop_first(worker, &pool->options, request->found);
-}
-
-static nm_outcome pop_last(const nm_pool *pool, nm_handle *worker, const struct request *request) {
-    return nm_worker_pop_last(worker, &pool->options, request->found);
-}
-
 static nm_outcome pop_first_below(const nm_pool *pool, nm_handle *worker,
                                   const struct request *request) {
     return nm_worker_pop_first_below(worker, request->bound, &pool->options, request->found);
@@ -977,9 +1057,6 @@ static nm_outcome pop_last_from(const nm_pool *pool, nm_handle *worker,
                                 const struct request *request) {
     return nm_worker_pop_last_from(worker, request->bound, &pool->options, request->found);
 }
-
-/* Calls of the library that look for keys, each with a number of tries. */
-typedef nm_outcome (*look_of)(nm_handle *, const struct request *, uint32_t tries);
 
 static nm_outcome next(nm_handle *worker, const struct request *request, uint32_t tries) {
     return nm_worker_next(worker, request->key, tries, request->found);
@@ -1003,41 +1080,20 @@ static nm_outcome many(nm_handle *worker, const struct request *request, uint32_
     return nm_worker_contains_many(worker, request->lookups, request->count, tries);
 }
 
-/* Makes such a call after the remove that is pending, and repeats it if each try was lost, at most
- * `rounds` times. */
-INLINE nm_outcome look(const nm_pool *pool, nm_handle *worker, look_of call,
-                       const struct request *request) {
+/* Makes the look-up of a request after the remove that is pending, and repeats it if each try was
+ * lost, at most `rounds` times. */
+static nm_outcome look(const nm_pool *pool, nm_handle *worker, const struct request *request) {
     uint32_t tries = pool->options.tries;
-    nm_outcome outcome = call(worker, request, tries);
+    nm_outcome outcome = request->look(worker, request, tries);
     for (uint32_t round = 0; round < pool->options.rounds; round++) {
         if (outcome == NM_PENDING) {
             if (nm_worker_finish(worker, tries) == NM_IN_USE) return NM_IN_USE;
         } else if (outcome != NM_BUSY) {
             break;
         }
-        outcome = call(worker, request, tries);
+        outcome = request->look(worker, request, tries);
     }
     return outcome;
-}
-
-static nm_outcome look_next(const nm_pool *pool, nm_handle *worker, const struct request *request) {
-    return look(pool, worker, next, request);
-}
-
-static nm_outcome look_prev(const nm_pool *pool, nm_handle *worker, const struct request *request) {
-    return look(pool, worker, prev, request);
-}
-
-static nm_outcome look_on(const nm_pool *pool, nm_handle *worker, const struct request *request) {
-    return look(pool, worker, scan, request);
-}
-
-static nm_outcome look_back(const nm_pool *pool, nm_handle *worker, const struct request *request) {
-    return look(pool, worker, scan_back, request);
-}
-
-static nm_outcome look_many(const nm_pool *pool, nm_handle *worker, const struct request *request) {
-    return look(pool, worker, many, request);
 }
 
 nm_outcome nm_pool_contains(nm_pool *pool, uint32_t worker, uint64_t key, uint32_t timeout_ms) {
@@ -1046,10 +1102,13 @@ nm_outcome nm_pool_contains(nm_pool *pool, uint32_t worker, uint64_t key, uint32
 }
 
 nm_outcome nm_pool_insert(nm_pool *pool, uint32_t worker, uint64_t key, uint32_t timeout_ms) {
+    static _Thread_local unsigned inserts;
     uint64_t end = 0;
     const struct request request = {.key = key, .end = &end};
     nm_outcome outcome = make(pool, worker, insert, INSERTS, &request, timeout_ms);
-    return outcome == NM_FULL ? insert_later(pool, worker, &request, timeout_ms) : outcome;
+    if (outcome == NM_FULL) outcome = insert_later(pool, worker, &request, timeout_ms);
+    if (outcome == NM_YES && pool->grows && ++inserts % BRIM == 0) look_at_brim(pool);
+    return outcome;
 }
 
 nm_outcome nm_pool_remove(nm_pool *pool, uint32_t worker, uint64_t key, uint32_t timeout_ms) {
@@ -1058,13 +1117,11 @@ nm_outcome nm_pool_remove(nm_pool *pool, uint32_t worker, uint64_t key, uint32_t
 }
 
 nm_outcome nm_pool_pop_first(nm_pool *pool, uint32_t worker, uint64_t *taken, uint32_t timeout_ms) {
-    const struct request request = {.found = taken};
-    return make(pool, worker, pop_first, REMOVES, &request, timeout_ms);
+    return nm_pool_pop_first_below(pool, worker, UINT64_MAX, taken, timeout_ms);
 }
 
 nm_outcome nm_pool_pop_last(nm_pool *pool, uint32_t worker, uint64_t *taken, uint32_t timeout_ms) {
-    const struct request request = {.found = taken};
-    return make(pool, worker, pop_last, REMOVES, &request, timeout_ms);
+    return nm_pool_pop_last_from(pool, worker, 0, taken, timeout_ms);
 }
 
 nm_outcome nm_pool_pop_first_below(nm_pool *pool, uint32_t worker, uint64_t below,
@@ -1096,36 +1153,41 @@ nm_outcome nm_pool_wait_pop(nm_pool *pool, uint32_t worker, uint64_t below, uint
     uint64_t end = now() + (uint64_t)timeout_ms * 1000000u;
     nm_outcome outcome = nm_pool_pop_first_below(pool, worker, below, taken, timeout_ms);
     if ((outcome != NM_NO && !is_interfered(outcome)) || timeout_ms == 0) return outcome;
+    struct waiting_pop pop = {pool, below <= MOST_KEY, false};
     atomic_fetch_add(&pool->awaited, 1);
-    atomic_fetch_add(&pool->bounded, is_bound(below));
-    pthread_cleanup_push(is_bound(below) ? no_longer_bounded : no_longer_awaited, pool);
+    atomic_fetch_add(&pool->bounded, pop.is_bounded);
+    pthread_cleanup_push(leave, &pop);
     unsigned added;
     do {
         added = atomic_load(&pool->added);
         outcome = nm_pool_pop_first_below(pool, worker, below, taken, millis_until(end));
     } while ((outcome == NM_NO && sleep_for_key(pool, added, end)) ||
              (is_interfered(outcome) && now() < end));
+    /* The time of a pop that has slept is over: it looks once more. */
+    nm_outcome last = NM_NO;
+    if (outcome == NM_NO) last = nm_pool_pop_first_below(pool, worker, below, taken, 0);
+    if (last == NM_YES || last == NM_UNFINISHED) outcome = last;
+    pop.is_answered = outcome >= 0 || outcome == NM_UNFINISHED;
     pthread_cleanup_pop(1);
     return outcome;
 }
 
 nm_outcome nm_pool_next(nm_pool *pool, uint32_t worker, uint64_t key, uint64_t *found,
                         uint32_t timeout_ms) {
-    const struct request request = {.key = key, .found = found};
-    return make(pool, worker, look_next, NONE, &request, timeout_ms);
+    const struct request request = {.look = next, .key = key, .found = found};
+    return make(pool, worker, look, NONE, &request, timeout_ms);
 }
 
 nm_outcome nm_pool_prev(nm_pool *pool, uint32_t worker, uint64_t key, uint64_t *found,
                         uint32_t timeout_ms) {
-    const struct request request = {.key = key, .found = found};
-    return make(pool, worker, look_prev, NONE, &request, timeout_ms);
+    const struct request request = {.look = prev, .key = key, .found = found};
+    return make(pool, worker, look, NONE, &request, timeout_ms);
 }
 
 /* Makes a scan, unless its range is empty, and writes how many keys it has written. */
-static nm_outcome scan_range(nm_pool *pool, uint32_t worker, call_of call, bool is_empty,
+static nm_outcome scan_range(nm_pool *pool, uint32_t worker, bool is_empty,
                              const struct request *request, size_t *count, uint32_t timeout_ms) {
-    nm_outcome outcome =
-        is_empty ? NM_NO : make(pool, worker, call, NONE, request, timeout_ms);
+    nm_outcome outcome = is_empty ? NM_NO : make(pool, worker, look, NONE, request, timeout_ms);
     if (outcome >= 0) *count = *request->written;
     return outcome;
 }
@@ -1138,28 +1200,21 @@ nm_outcome nm_pool_scan(nm_pool *pool, uint32_t worker, uint64_t from, uint64_t 
                         uint64_t *keys, size_t room, size_t *count, uint64_t *next,
                         uint32_t timeout_ms) {
     uint64_t none = 0, written = 0;
-    const struct request request = {.key = from,
-                                    .bound = below,
-                                    .found = room == 0 ? &none : keys,
-                                    .count = room,
-                                    .written = &written,
-                                    .next = next};
-    return scan_range(pool, worker, look_on, is_empty_range(from, below), &request, count,
-                      timeout_ms);
+    const struct request request = {
+        .look = scan, .key = from, .bound = below, .found = room == 0 ? &none : keys,
+        .count = room, .written = &written, .next = next};
+    return scan_range(pool, worker, is_empty_range(from, below), &request, count, timeout_ms);
 }
 
-nm_outcome nm_pool_scan_back(nm_pool *pool, uint32_t worker, uint64_t from, uint64_t below,
+nm_outcome nm_pool_scan_back(nm_pool *pool, uint32_t worker, uint64_t below, uint64_t from,
                              uint64_t *keys, size_t room, size_t *count, uint64_t *next,
                              uint32_t timeout_ms) {
     uint64_t none = 0, written = 0, greatest = 0;
-    const struct request request = {.key = below > MOST_KEY ? MOST_KEY : below - 1,
-                                    .bound = from,
-                                    .found = room == 0 ? &none : keys,
-                                    .count = room,
-                                    .written = &written,
-                                    .next = &greatest};
-    nm_outcome outcome = scan_range(pool, worker, look_back, is_empty_range(from, below), &request,
-                                    count, timeout_ms);
+    const struct request request = {
+        .look = scan_back, .key = below > MOST_KEY ? MOST_KEY : below - 1, .bound = from,
+        .found = room == 0 ? &none : keys, .count = room, .written = &written, .next = &greatest};
+    nm_outcome outcome =
+        scan_range(pool, worker, is_empty_range(from, below), &request, count, timeout_ms);
     if (outcome == NM_YES) *next = greatest + 1;
     return outcome;
 }
@@ -1180,8 +1235,9 @@ nm_outcome nm_pool_count(nm_pool *pool, uint32_t worker, uint64_t from, uint64_t
 nm_outcome nm_pool_contains_many(nm_pool *pool, uint32_t worker, nm_lookup *lookups, size_t count,
                                  uint32_t timeout_ms) {
     nm_lookup none = {0, 0};
-    const struct request request = {.lookups = count == 0 ? &none : lookups, .count = count};
-    return make(pool, worker, look_many, NONE, &request, timeout_ms);
+    const struct request request = {
+        .look = many, .lookups = count == 0 ? &none : lookups, .count = count};
+    return make(pool, worker, look, NONE, &request, timeout_ms);
 }
 
 /* A call that inserts or removes one key. */
@@ -1408,15 +1464,6 @@ const char *nm_full_words(const nm_fullness *fullness, char *text, size_t size) 
 
 /* ---- the pool ---- */
 
-static nm_options options_of(uint64_t nodes, const nm_pool_options *options) {
-    nm_options made = {options->tries, options->rounds, options->collect_after};
-    if (options->collect_after == NM_AN_EIGHTH) {
-        uint64_t share = nodes / (8 * (uint64_t)options->workers);
-        made.collect_after = share < 8 ? 8 : share > 64 ? 64 : (uint32_t)share;
-    }
-    return made;
-}
-
 /* Allocates a pool whose seats begin with cache lines; returns NULL if memory was refused. */
 static nm_pool *allocate(uint32_t workers) {
     size_t size = sizeof(nm_pool) + workers * sizeof(struct seat);
@@ -1434,10 +1481,11 @@ nm_outcome nm_pool_new(nm_pool **pool, uint64_t nodes, const nm_pool_options *op
     if (grows) nodes = FIRST_NODES;
     if (nodes > UINT32_MAX) return NM_NODES;
     if (options->workers < 1 || options->workers > WORKERS) return NM_WORKERS;
+    if (options->shape > NM_UNBALANCED) return NM_NUMBER;
     nm_host_count_forks();
     nm_pool *made = allocate(options->workers);
     if (made == NULL) return NM_NO_MEMORY;
-    made->options = options_of(nodes, options);
+    made->options = (nm_options){options->tries, options->rounds, options->collect_after};
     made->count = options->workers;
     made->shape = options->shape;
     made->grows = grows;
@@ -1454,7 +1502,9 @@ nm_outcome nm_pool_new(nm_pool **pool, uint64_t nodes, const nm_pool_options *op
 
 /* Gives up one reference; the last one frees the memory. */
 static void release(nm_pool *pool) {
-    if (atomic_fetch_sub(&pool->references, 1) == 1) free(pool->block);
+    if (atomic_fetch_sub(&pool->references, 1) != 1) return;
+    (void)nm_drop(&pool->spare);
+    free(pool->block);
 }
 
 static void reopen(nm_pool *pool) {
@@ -1463,23 +1513,12 @@ static void reopen(nm_pool *pool) {
         if (use_of(&pool->seats[number]) == CLOSED) set_use(&pool->seats[number], FREE);
 }
 
-/* Returns a bit for each attached worker. No worker is attached from now on, and threads that are
- * just returning theirs have a moment to do so. */
-static uint64_t attached_for_long(nm_pool *pool) {
-    uint64_t mask = nm_pool_attached(pool);
-    for (int look = 0; mask != 0 && look < LOOKS + YIELDS; look++) {
-        if (look >= LOOKS) (void)sched_yield();
-        mask = nm_pool_attached(pool);
-    }
-    return mask;
-}
-
 /* Takes all workers for a close, after the calls in progress. Returns NM_ATTACHED or NM_IN_USE, and
  * a bit for each worker that is missing, and gives the others back. */
 static nm_outcome gather(nm_pool *pool, nm_pool_wait *wait, uint32_t timeout_ms,
                          uint64_t *missing) {
     atomic_store(&pool->phase, CLOSING);
-    uint64_t lent = attached_for_long(pool), in_call = 0;
+    uint64_t lent = nm_pool_attached(pool), in_call = 0;
     for (uint32_t number = 0; lent == 0 && number < pool->count; number++) {
         struct seat *seat = &pool->seats[number];
         int use = take_soon(seat, CLOSED, wait, timeout_ms);
@@ -1503,8 +1542,6 @@ static nm_outcome close_set(nm_pool *pool, nm_handle *report, nm_pool_wait *wait
     nm_outcome outcome;
     do outcome = nm_set_close(&pool->set);
     while (outcome == NM_IN_USE && look_again(pool, wait, timeout_ms));
-    /* A change of the size was refused memory after it had closed the set. */
-    if (outcome == NM_KIND) outcome = NM_DONE;
     if (outcome == NM_DONE) {
         *report = pool->set;
         pool->set = (nm_handle)NM_CLOSED_HANDLE;
@@ -1517,6 +1554,7 @@ static nm_outcome close_set(nm_pool *pool, nm_handle *report, nm_pool_wait *wait
 nm_outcome nm_pool_close(nm_pool *pool, uint32_t timeout_ms, nm_handle *report, uint64_t *missing) {
     nm_pool_wait wait = {0, 0, 0, 0};
     uint64_t none = 0, keys = 0;
+    UNCANCELLED;
     if (is_forked(pool)) return NM_FORKED;
     if (nm_report_keys(report, &keys) != NM_CLOSED) return NM_OPEN;
     while (atomic_exchange(&pool->is_closing, true))
@@ -1538,10 +1576,12 @@ static bool leave_seat(nm_pool *pool, struct seat *seat, nm_pool_wait *wait) {
 }
 
 void nm_pool_free(nm_pool *pool) {
-    nm_pool_wait wait = {0, 0, 0, 0}, turn = {UINT64_MAX, 0, 0, 0};
+    nm_pool_wait wait = {0, 0, 0, 0};
     bool is_left = true;
+    UNCANCELLED;
     if (pool == NULL || is_forked(pool)) return;
-    while (atomic_exchange(&pool->is_closing, true)) (void)pause_until(&turn, END_MS);
+    while (atomic_exchange(&pool->is_closing, true))
+        if (!pause_at(pool, &wait, END_MS)) return;
     atomic_store(&pool->phase, LEFT);
     atomic_store(&pool->is_closing, false);
     for (uint32_t number = 0; number < pool->count; number++)
@@ -1552,17 +1592,16 @@ void nm_pool_free(nm_pool *pool) {
 
 /* ---- workers of threads ---- */
 
-/* Attaches the worker of a free seat, if the seat can be taken. Returns NM_NO_WORKER if not. */
+/* Attaches the worker of a free seat, if the seat can be taken. Returns NM_NO_WORKER if not. Until
+ * it is attached the seat is in a call, for which a close waits. */
 static nm_outcome lend(nm_pool *pool, uint32_t number) {
     struct seat *seat = &pool->seats[number];
-    if (phase_of(pool) != OPEN || !take(seat, LENT)) return NM_NO_WORKER;
+    if (phase_of(pool) != OPEN || !take(seat, CALL)) return NM_NO_WORKER;
     nm_pool_wait wait = {0, 0, 0, 0};
     nm_outcome outcome = phase_of(pool) == OPEN ? open_seat(pool, number) : NM_NO_WORKER;
     if (outcome == NM_DONE && settle(pool, seat, &wait, 0) == NM_IN_USE) outcome = NM_IN_USE;
-    if (outcome == NM_DONE)
-        atomic_fetch_add(&pool->references, 1);
-    else
-        set_use(seat, FREE);
+    if (outcome == NM_DONE) atomic_fetch_add(&pool->references, 1);
+    set_use(seat, outcome == NM_DONE ? LENT : FREE);
     return outcome == NM_ATTACHED || outcome == NM_IN_USE ? NM_NO_WORKER : outcome;
 }
 
@@ -1601,11 +1640,12 @@ nm_outcome nm_pool_attach_number(nm_pool *pool, uint32_t number, uint32_t *worke
 
 nm_outcome nm_pool_detach(nm_pool *pool, uint32_t *worker, uint32_t timeout_ms) {
     nm_pool_wait wait = {0, 0, 0, 0};
+    UNCANCELLED;
     if (is_forked(pool)) return NM_FORKED;
     struct seat *seat = lent_seat(pool, *worker);
     if (seat == NULL) return NM_CLOSED;
     while (settle(pool, seat, &wait, timeout_ms) == NM_IN_USE)
-        if (!wait_for_size(pool, &wait, timeout_ms)) return NM_IN_USE;
+        if (!pause_at(pool, &wait, timeout_ms)) return NM_IN_USE;
     *worker = NM_NONE;
     atomic_store(&seat->use, FREE);
     if (phase_of(pool) == LEFT) (void)leave_seat(pool, seat, &wait);

@@ -33,13 +33,15 @@
  * - NM_IN_USE: another thread is in a call by the attached worker.
  * - NM_FULL: no nodes were free for an insert. An insert does not wait if the keys take all nodes.
  *
- * If a set gets a new size meanwhile, a call waits for the end of that besides.
+ * If a set gets a new size meanwhile, a call waits for that besides: see "a new size" below.
  *
  * **A set that grows**, by NM_GROWS in place of the nodes: if an insert finds no free nodes, and
- * none can be freed, the set gets four times the nodes (see "a new size" below). The insert waits
- * for the calls of all workers, for at most its timeout. A worker that is pinned prevents it: then
- * the insert returns NM_FULL, and nm_full_words names the worker. With a timeout of 0 an insert
- * lets no set grow.
+ * none can be freed, the set gets five eighths more nodes. It also grows if inserts and removes
+ * alternate while fewer than 64 nodes are left. The insert waits for the calls of all workers, for
+ * at most its timeout. After that it waits for the new nodes that another thread makes, for at most
+ * a microsecond for each node. If a worker is pinned, or in a call, for all of this time, the
+ * insert returns NM_FULL, and nm_full_words names the worker. With a timeout of 0 the set grows
+ * only if no worker is pinned or in a call at that moment.
  *
  * **A close** waits for calls in progress. Calls that begin meanwhile wait for its end: they go on
  * if it fails, and return NM_CLOSED if it succeeds.
@@ -50,7 +52,11 @@
  * **A thread that is lost inside a call** (pthread_cancel, longjmp, a stop) keeps the worker of
  * that call in use, and all other calls go on: see "What goes wrong" in c/README.md. No call of the
  * pool is a cancellation point, except that a call that waits may sleep. If a thread is cancelled
- * in such a sleep, it keeps no worker except the attached ones.
+ * in such a sleep, it keeps no worker except the attached ones. A close, a detach, a new size and
+ * nm_pool_free are no cancellation points: they end first.
+ *
+ * A thread needs a stack of 64 kilobytes for each call of a pool, because any call may take a
+ * worker for the first time.
  *
  * What the caller must see to is what nm_set.h lists, and besides: a pool is not used after its
  * nm_pool_free, except by the numbers of workers that were attached before. Each function with a
@@ -83,21 +89,17 @@ typedef struct nm_pool nm_pool;
 /* In place of the number of nodes: the set has room for 10,000 keys at first, and grows. */
 #define NM_GROWS UINT64_MAX
 
-/* In place of collect_after: an eighth of the nodes, divided by the number of workers, at least 8
- * and at most 64. */
-#define NM_AN_EIGHTH UINT32_MAX
-
 /* How a pool is made, and the bounds of its calls. */
 typedef struct nm_pool_options {
-    uint32_t workers;       /* 1 to 64; each takes 4,096 bytes */
+    uint32_t workers;       /* 1 to 64; each takes 17,000 bytes, and 3,300 more once used */
     uint32_t shape;         /* NM_RADIX or NM_UNBALANCED */
     uint32_t tries;         /* as in nm_options: the tries of each call of the tree */
     uint32_t rounds;        /* as in nm_options: how often a call that lost its tries is retried */
-    uint32_t collect_after; /* as in nm_options, or NM_AN_EIGHTH */
+    uint32_t collect_after; /* as in nm_options */
 } nm_pool_options;
 
 /* The options to begin with. */
-static const nm_pool_options nm_pool_defaults = {64, NM_RADIX, 64, 64, NM_AN_EIGHTH};
+static const nm_pool_options nm_pool_defaults = {64, NM_RADIX, 64, 64, 64};
 
 /* How full a set is. */
 typedef struct nm_fullness {
@@ -119,7 +121,8 @@ const char *nm_pool_text(nm_outcome outcome);
 
 /* Makes the empty set and its pool, with room for 7 to 268,435,456 nodes, or NM_GROWS; options may
  * be NULL. A set with a number of nodes never grows by itself.
- * Returns NM_DONE and writes the pool. Errors: NM_NODES, NM_WORKERS, NM_NO_MEMORY. See nm_set_new
+ * Returns NM_DONE and writes the pool. Errors: NM_NODES, NM_WORKERS, NM_NUMBER (there is no such
+ * shape), NM_NO_MEMORY. See nm_set_new
  * for how many nodes a set needs. A pool takes 64 bytes for each worker, and 512. */
 nm_outcome nm_pool_new(nm_pool **pool, uint64_t nodes, const nm_pool_options *options);
 
@@ -179,10 +182,12 @@ nm_outcome nm_pool_pop_first_many(nm_pool *pool, uint32_t worker, uint64_t below
 
 /* Removes the least key like nm_pool_pop_first_below; a bound of UINT64_MAX is none. If no key is
  * below the bound, it waits for one, for at most timeout_ms milliseconds in all, and sleeps
- * meanwhile. An insert that returns NM_YES wakes it. Tested: no wake is lost. NM_NO after that time.
- * If other threads interfere with its pop, it tries again: NM_BUSY or NM_PENDING after that time.
- * NM_CLOSED if the set is closed meanwhile. While no call waits here, this costs other calls
- * nothing. A sleep here is no cancellation point. */
+ * meanwhile. An insert that returns NM_YES wakes one such call, or all if one of them has a bound.
+ * A call that was woken and leaves without a key wakes the next one, also if its thread is
+ * cancelled. Tested by c/moments.c and c/waitpop.cpp: no wake is lost. NM_NO after that time, and a
+ * last look. If other threads interfere with its pop, it tries again: NM_BUSY or NM_PENDING after
+ * that time. NM_CLOSED if the set is closed meanwhile. While no call waits here, this costs other
+ * calls nothing. A sleep here is no cancellation point. */
 nm_outcome nm_pool_wait_pop(nm_pool *pool, uint32_t worker, uint64_t below, uint64_t *taken,
                             uint32_t timeout_ms);
 
@@ -202,8 +207,10 @@ nm_outcome nm_pool_scan(nm_pool *pool, uint32_t worker, uint64_t from, uint64_t 
                         uint64_t *keys, size_t room, size_t *count, uint64_t *next,
                         uint32_t timeout_ms);
 
-/* Reads the same keys in descending order. After NM_YES the next call goes on below next. */
-nm_outcome nm_pool_scan_back(nm_pool *pool, uint32_t worker, uint64_t from, uint64_t below,
+/* Reads the same keys in descending order. After NM_YES the next call goes on below next. Each
+ * scan, also those of nm_set.h, takes first the bound at which it begins, and then the one at which
+ * it ends: so this one takes `below` first. */
+nm_outcome nm_pool_scan_back(nm_pool *pool, uint32_t worker, uint64_t below, uint64_t from,
                              uint64_t *keys, size_t room, size_t *count, uint64_t *next,
                              uint32_t timeout_ms);
 
@@ -258,21 +265,26 @@ const nm_options *nm_pool_call_options(const nm_pool *pool);
 uint64_t nm_pool_attached(const nm_pool *pool);
 
 /* ---- a new size ----
- * A set gets a new size while no call is in it: each worker is taken between two of its calls, then
- * the keys are moved to a new set, and calls that begin meanwhile wait for the end, even if that is
- * longer than their timeout. A call with a timeout of 0 returns NM_NO_WORKER or NM_IN_USE at once.
- * Workers stay attached, by the same number and handle. Their statistics and stamps begin anew. */
+ * First an empty set of the new size is made, while calls go on. Then calls are stopped: each
+ * worker is taken between two of its calls, and the keys are copied to the new set. An attempt
+ * waits at most 5 milliseconds for the workers. If one is pinned or in a call, calls go on, and no
+ * thread makes the next attempt within 10 milliseconds. A call that begins meanwhile waits for
+ * these milliseconds and for the copy, even if that is longer than its timeout. If no key was
+ * copied for timeout_ms, as when the thread that copies was stopped, it returns NM_NO_WORKER or
+ * NM_IN_USE. With a timeout of 0 it returns these at once.
+ *
+ * Workers stay attached, by the same number and handle. Their statistics and stamps begin anew. If
+ * memory is refused, the set goes on with its old size. Tested by c/moments.c and c/growing.cpp. */
 
 /* Makes room for that many keys, so that inserts alone need no more nodes; it never makes a set
  * smaller. Returns NM_DONE. Errors, after which the set goes on unchanged: NM_PINNED: workers are
  * pinned. NM_IN_USE: calls by workers have not ended. After these two, `missing` has a bit for each
- * of those workers, unless it is NULL. NM_NODES: there cannot be that many keys. NM_NO_MEMORY (see
- * below). NM_CLOSED. */
+ * of those workers, unless it is NULL. NM_NODES: there cannot be that many keys. NM_NO_MEMORY.
+ * NM_CLOSED. */
 nm_outcome nm_pool_reserve(nm_pool *pool, uint64_t keys, uint32_t timeout_ms, uint64_t *missing);
 
 /* Gives back memory: the set has room for its keys, and for one more key for each worker. Returns
- * like nm_pool_reserve. NM_NO_MEMORY: memory was refused, and the set has its old size. If memory
- * was refused even for that, no key is lost, but only nm_pool_close goes on. */
+ * like nm_pool_reserve. */
 nm_outcome nm_pool_shrink_to_fit(nm_pool *pool, uint32_t timeout_ms, uint64_t *missing);
 
 /* ---- workers of threads ---- */

@@ -226,9 +226,10 @@ nm_outcome nm_set_version(uint32_t *major, uint32_t *minor, uint32_t *patch);
  * nodes.
  *
  * A node takes 32 bytes and a bit, and twice as much while the set is made, which takes time for
- * each node. A worker takes 4,096 bytes, so that what it announces has a page of its own. The
- * queues of removed nodes take memory as they grow, and give it back: after each call those of all
- * workers take at most 24.25 bytes for each node that waits, and 7,712 for each worker. With
+ * each node. Each of 64 workers takes some 17,000 bytes, 4,096 of them so that what it announces
+ * has a page of its own, and 3,300 more once it is attached. The queues of removed nodes take
+ * memory as they grow, and give it back: after each call those of all workers take at most 24.25
+ * bytes for each node that waits, and 7,712 for each worker. With
  * GLIBC_TUNABLES=glibc.malloc.hugetlb=1 in the environment of a program the nodes are in huge
  * pages: with a million keys look-ups then took 0.63 to 0.80 of the time (bench/README.md). */
 nm_outcome nm_set_new(nm_handle *set, uint32_t nodes, uint32_t workers);

@@ -133,18 +133,17 @@ private:
 // The shape of a set's tree. `radix`: no walk goes over more than 66 edges, in whatever order the
 // keys come. `unbalanced`: the tree of Natarajan and Mittal, in which keys that come in order make
 // one long path.
-enum class Shape { radix, unbalanced };
+enum class Shape { radix = NM_RADIX, unbalanced = NM_UNBALANCED };
 
 // How a set is made, and the bounds of its calls.
 struct Options {
-    std::uint32_t workers = 64;       // 1 to 64; each takes 4,096 bytes
+    std::uint32_t workers = 64;       // 1 to 64; each takes some 17,000 bytes, and 3,300 once used
     Shape shape = Shape::radix;
     std::uint32_t tries = 64;         // the tries of each call of the tree
     std::uint32_t rounds = 64;        // how often a call that lost each of its tries is retried
     // The number of waiting nodes from which an insert or a remove first advances the epoch and
-    // collects. If it is not given: nodes / (8 * workers), at least 8 and at most 64. So the
-    // workers of a small set collect when an eighth of its nodes wait.
-    std::optional<std::uint32_t> collect_after{};
+    // collects.
+    std::uint32_t collect_after = 64;
     std::uint32_t timeout_ms = 1'000; // the longest time that a call waits, in milliseconds: for a
                                       // worker, and an insert for nodes that are to be freed
 };
@@ -263,13 +262,11 @@ inline bool answered(nm_outcome outcome) {
     throw Fault(outcome, words(outcome));
 }
 
-// Makes the pool of a set. Throws NM_NODES, NM_WORKERS, NM_NO_MEMORY. (If it is inlined, GCC 12
-// says of the default options that one is not initialized.)
+// Makes the pool of a set. Throws NM_NODES, NM_WORKERS, NM_NUMBER (there is no such shape),
+// NM_NO_MEMORY. (If it is inlined, GCC 12 says of the default options that one is not initialized.)
 [[gnu::noinline]] inline nm_pool *pool_of(std::uint64_t nodes, const Options &options) {
-    nm_pool_options asked{options.workers,
-                          options.shape == Shape::unbalanced ? NM_UNBALANCED : NM_RADIX,
-                          options.tries, options.rounds, NM_AN_EIGHTH};
-    if (options.collect_after) asked.collect_after = *options.collect_after;
+    nm_pool_options asked{options.workers, static_cast<std::uint32_t>(options.shape), options.tries,
+                          options.rounds, options.collect_after};
     nm_pool *pool = nullptr;
     nm_outcome outcome = nm_pool_new(&pool, nodes, &asked);
     if (outcome == NM_NODES || outcome == NM_WORKERS)
@@ -753,12 +750,11 @@ private:
     bool fill(detail::Block<std::uint64_t> &block, std::uint64_t bound) const {
         constexpr bool is_up = order == Order::ascending;
         constexpr auto scan = is_up ? nm_pool_scan : nm_pool_scan_back;
-        std::uint64_t from = is_up ? block.next : bound, below = is_up ? bound : block.next;
         std::size_t count = 0;
         detail::in_memory([&] { block.entries.resize(block.room); });
         bool has_more = done([&](const detail::Place &to) {
-            return scan(to.pool, to.worker, from, below, block.entries.data(), block.room, &count,
-                        &block.next, to.timeout_ms);
+            return scan(to.pool, to.worker, block.next, bound, block.entries.data(), block.room,
+                        &count, &block.next, to.timeout_ms);
         });
         block.entries.resize(count);
         return has_more;
@@ -1159,8 +1155,9 @@ inline void Pin::unpin() noexcept {
 class Set : public Keys<Set> {
 public:
     // Makes the empty set, which grows. It has room for 10,000 keys at first. If an insert finds no
-    // free nodes, and none can be freed, the set gets four times the nodes: all calls wait while
-    // its keys move (docs/USING.md has for how long). Throws NM_WORKERS, NM_NO_MEMORY.
+    // free nodes, and none can be freed, the set gets five eighths more nodes: all calls wait while
+    // its keys are copied (docs/USING.md has for how long). A worker that is pinned or in a call
+    // for all of an insert's time prevents that: NM_FULL. Throws NM_WORKERS, NM_NO_MEMORY.
     Set() : Set(Options{}) {}
 
     explicit Set(const Options &options)
@@ -1325,8 +1322,9 @@ public:
 
     // ---- a new size ----
     // These wait for the calls of all workers, for `timeout_ms` of the options at most: NM_IN_USE.
-    // NM_PINNED: workers are pinned. After both the text names the workers. While the keys move,
-    // other calls wait, and workers stay attached. What `stats` and stamps have begins anew.
+    // NM_PINNED: workers are pinned. After both the text names the workers. Other calls wait while
+    // the keys are copied, and for at most 5 milliseconds before. Workers stay attached. What
+    // `stats` and stamps have begins anew.
 
     // Makes room for that many keys, if none waits; it never makes the set smaller. NM_NODES: there
     // cannot be so many. NM_NO_MEMORY.

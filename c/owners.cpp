@@ -111,6 +111,7 @@ void faults_are_told() {
     CHECK(fault_of([] { unbalanced_set(7, 65); }).text ==
           "the number of workers is not 1 to 64: 65");
     CHECK(thrown([] { unbalanced_set(7, 0); }) == NM_WORKERS);
+    CHECK(thrown([] { unbalanced_set(64, 1, static_cast<nm::Shape>(2)); }) == NM_NUMBER);
     nm::Set set(64);
     Thrown told = fault_of([&] { set.insert(UINT64_MAX); });
     CHECK(told.outcome == NM_KEY &&

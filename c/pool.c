@@ -87,8 +87,12 @@ static void pools_are_made(void) {
     options.workers = 0;
     CHECK(nm_pool_new(&pool, 64, &options) == NM_WORKERS && pool == NULL);
     CHECK(nm_pool_new(&pool, 64, NULL) == NM_DONE && nm_pool_workers(pool) == 64);
-    CHECK(nm_pool_nodes(pool) == 64 && nm_pool_call_options(pool)->collect_after == 8);
+    CHECK(nm_pool_nodes(pool) == 64 && nm_pool_call_options(pool)->collect_after == 64);
     CHECK(ended(pool) == 0);
+    options = nm_pool_defaults;
+    options.shape = NM_UNBALANCED + 1;
+    pool = NULL;
+    CHECK(nm_pool_new(&pool, 64, &options) == NM_NUMBER && pool == NULL);
     nm_pool_free(NULL);
     options = nm_pool_defaults;
     options.shape = NM_UNBALANCED;

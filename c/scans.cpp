@@ -102,10 +102,33 @@ void scans_go_on() {
     }
     CHECK(outcome == NM_NO && total == 400);
     for (outcome = NM_YES; outcome == NM_YES; below = next) {
-        outcome = nm_pool_scan_back(pool, NM_ANY, 100, below, keys, 7, &count, &next, 100);
+        outcome = nm_pool_scan_back(pool, NM_ANY, below, 100, keys, 7, &count, &next, 100);
         for (std::size_t each = 0; each < count; each++) CHECK(keys[each] == 98 + 2 * total--);
     }
     CHECK(outcome == NM_NO && total == 0);
+    nm_pool_free(pool);
+}
+
+// A scan of a pool and one of a worker take the bound first at which they begin. Those of a pool read
+// the keys of one range: in descending order its upper end is not in it either.
+void scans_take_their_begin_first() {
+    nm_pool *pool = nullptr;
+    std::uint32_t worker = 0;
+    CHECK(nm_pool_new(&pool, 64, nullptr) == NM_DONE);
+    CHECK(nm_pool_attach(pool, &worker, 100) == NM_DONE);
+    for (std::uint64_t key = 1; key <= 9; key++)
+        CHECK(nm_pool_insert(pool, worker, key, 100) == NM_YES);
+    std::uint64_t keys[8], next = 0, some = 0;
+    std::size_t count = 0;
+    CHECK(nm_pool_scan(pool, NM_ANY, 3, 8, keys, 8, &count, &next, 100) == NM_NO && count == 5);
+    CHECK(nm_pool_scan_back(pool, NM_ANY, 8, 3, keys, 8, &count, &next, 100) == NM_NO);
+    CHECK(count == 5 && keys[0] == 7 && keys[4] == 3);
+    CHECK(nm_worker_scan_back(nm_pool_handle(pool, worker), 7, 3, keys, 8, &some, &next, 64) ==
+              NM_NO &&
+          some == 5 && keys[0] == 7 && keys[4] == 3);
+    CHECK(nm_pool_scan_back(pool, NM_ANY, 3, 8, keys, 8, &count, &next, 100) == NM_NO &&
+          count == 0);
+    CHECK(nm_pool_detach(pool, &worker, 100) == NM_DONE);
     nm_pool_free(pool);
 }
 
@@ -145,6 +168,7 @@ int main() {
     the_ends_are_read();
     copies_go_on();
     scans_go_on();
+    scans_take_their_begin_first();
     keys_that_remain_are_read();
     std::puts("keys are read in order");
 }

@@ -1,11 +1,12 @@
 /* Measures how much stack the calls take. It makes each call in a thread of its own, on a painted
- * stack. Fails if a call takes more than the header says: 64 kilobytes for a call that makes,
- * takes, gives back or ends a set, a map or a worker, and 16 kilobytes for any other. Fails too if such a
- * call crashes in a thread with a stack of that size. What the thread itself takes is included. */
+ * stack. Fails if a call takes more than the headers say: 64 kilobytes for a call that makes,
+ * takes, gives back or ends a set, a map or a worker, and for a call of a pool; 16 kilobytes for any
+ * other. Fails too if such a call crashes in a thread with a stack of that size. What the thread itself
+ * takes is included. */
 #define _POSIX_C_SOURCE 200809L
 
 #include "holds.h"
-#include "nm_set.h"
+#include "nm_pool.h"
 
 #include <pthread.h>
 #include <string.h>
@@ -95,6 +96,43 @@ static void take_values(void) {
     CHECK(nm_map_reclaim(&map_worker, values, 64, &word, &number) == NM_DONE && word == 64);
 }
 
+/* ---- calls of a pool, each by a worker that was not used before, if there is one ---- */
+
+static nm_pool *pool;
+
+static void make_pool(void) { CHECK(nm_pool_new(&pool, NM_GROWS, NULL) == NM_DONE); }
+static void find_first(void) { CHECK(nm_pool_contains(pool, NM_ANY, 7, 1000) == NM_NO); }
+static void grow(void) {
+    uint64_t nodes = nm_pool_nodes(pool);
+    for (uint64_t key = 0; nm_pool_nodes(pool) == nodes; key++)
+        CHECK(nm_pool_insert(pool, NM_ANY, key, 1000) == NM_YES);
+}
+static void insert_some(void) {
+    static const uint64_t keys[70] = {1u << 30};
+    unsigned char answers[70];
+    size_t done;
+    CHECK(nm_pool_insert_many(pool, NM_ANY, keys, 70, answers, &done, 1000) == NM_DONE);
+}
+static void count_keys(void) {
+    CHECK(nm_pool_count(pool, NM_ANY, 0, UINT64_MAX, &word, 1000) == NM_DONE);
+}
+static void wait_and_pop(void) {
+    CHECK(nm_pool_wait_pop(pool, NM_ANY, UINT64_MAX, &word, 1000) == NM_YES);
+}
+static void change_sizes(void) {
+    CHECK(nm_pool_reserve(pool, 30000, 1000, NULL) == NM_DONE);
+    CHECK(nm_pool_shrink_to_fit(pool, 1000, NULL) == NM_DONE);
+}
+static void attach_and_detach(void) {
+    CHECK(nm_pool_attach_number(pool, 63, &number, 1000) == NM_DONE);
+    CHECK(nm_pool_detach(pool, &number, 1000) == NM_DONE);
+}
+static void end_pool(void) {
+    nm_handle report = NM_CLOSED_HANDLE;
+    CHECK(nm_pool_close(pool, 1000, &report, NULL) == NM_DONE && nm_drop(&report) == NM_DONE);
+    nm_pool_free(pool);
+}
+
 typedef struct call {
     const char *name;
     void (*make)(void);
@@ -121,6 +159,11 @@ static const call calls[] = {
     {"nm_drop of a map's worker", drop_map_worker, OF_SETS},
     {"nm_map_attached", map_away, OF_SETS},   {"nm_map_worker", take_map, OF_SETS},
     {"nm_drop of it again", drop_map_worker, OF_SETS}, {"nm_map_close", close_map, OF_SETS},
+    {"nm_pool_new", make_pool, OF_SETS},      {"nm_pool_contains", find_first, OF_SETS},
+    {"nm_pool_insert, a growth", grow, OF_SETS}, {"nm_pool_insert_many", insert_some, OF_SETS},
+    {"nm_pool_count", count_keys, OF_SETS},   {"nm_pool_wait_pop", wait_and_pop, OF_SETS},
+    {"changes of the size", change_sizes, OF_SETS},
+    {"attach and detach", attach_and_detach, OF_SETS}, {"the end of a pool", end_pool, OF_SETS},
 };
 
 static void *made(void *which) {

@@ -107,7 +107,8 @@ class Calls:
         goes on: from that number on, or below it if it goes back. None: these are all the keys."""
         keys, count, rest = (c_uint64 * room)(), c_size_t(), c_uint64()
         name = "nm_pool_scan_back" if is_back else "nm_pool_scan"
-        outcome = self._outcome(name, first, below, keys, room, count, rest)
+        begin, end = (below, first) if is_back else (first, below)
+        outcome = self._outcome(name, begin, end, keys, room, count, rest)
         has_more = self._answered(outcome)
         return list(keys[: count.value]), rest.value if has_more else None
 

@@ -208,11 +208,10 @@ _RESULTS: dict[str, Any] = {
     "nm_map_full_words": c_char_p,
 }
 
-# In place of the number of a worker: any worker, and none. In place of `collect_after`: an eighth of
-# the nodes. In place of the number of nodes: the set grows.
+# In place of the number of a worker: any worker, and none. In place of the number of nodes: the set
+# grows.
 ANY: Final = 2**32 - 1
 NONE: Final = 2**32 - 2
-AN_EIGHTH: Final = 2**32 - 1
 GROWS: Final = 2**64 - 1
 
 # The outcomes that this module knows.

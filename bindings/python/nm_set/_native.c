@@ -305,7 +305,10 @@ static PyObject *calls_scan(PyObject *object, PyObject *args) {
     if (!PyArg_ParseTuple(args, "KKnp", &first, &below, &room, &is_back)) {
         return NULL;
     }
-    Call call = {.scan = is_back ? scan_back_of : scan_of, .key = first, .below = below};
+    Call call = {.scan = scan_of, .key = first, .below = below};
+    if (is_back) {
+        call = (Call){.scan = scan_back_of, .key = below, .below = first};
+    }
     call.keys = keys;
     call.room = room > 0 && room < SCANNED ? (size_t)room : SCANNED;
     if (made_apart(self, &call, &outcome) < 0) {

@@ -61,7 +61,8 @@ class Options:
     begun is continued."""
     collect_after: Optional[int] = None
     """The number of waiting nodes from which an add or a discard first advances the epoch and
-    collects. None, the default, is nodes / (8 * workers), at least 8 and at most 64."""
+    collects. None, the default, is 64; for a map it is nodes / (8 * workers), at least 8 and at
+    most 64."""
     timeout_ms: int = 1_000
     """The longest time, in milliseconds, that a call waits: for a worker (`NoWorker`), for another
     thread's call by the same worker (`InUse`), and an add for removed nodes to be freed (`Full`).
@@ -76,7 +77,7 @@ class Options:
 
     def _words(self, workers: int, shape: int) -> c.PoolOptionsWords:
         """Returns the options for the library, for a set of this many workers and this shape."""
-        after = c.AN_EIGHTH if self.collect_after is None else self.collect_after
+        after = 64 if self.collect_after is None else self.collect_after
         return c.PoolOptionsWords(workers, shape, self.tries, self.rounds, after)
 
 
@@ -135,8 +136,8 @@ class Set(Keys):
     ) -> None:
         """Makes the set of these keys, or the empty set, for 1 to 64 workers. If no number of nodes
         is given, the set grows: it has room for 10,000 keys at first, or for the given ones. If an
-        add finds no free nodes, and none can be freed, the set gets four times the nodes, and all
-        calls wait while its keys move. `Set(65_536)` and `Set(nodes=65_536)` have 65,536 nodes, of
+        add finds no free nodes, and none can be freed, the set gets five eighths more nodes, and all
+        calls wait while its keys are copied. `Set(65_536)` and `Set(nodes=65_536)` have 65,536 nodes, of
         7 to 268,435,456, and never grow by themselves. n keys take 2 n + 5 nodes, and the removed
         nodes that wait to be freed take theirs.
 

@@ -368,14 +368,11 @@ class Tended(unittest.TestCase):
                     self.assertEqual((numbers.collect(), numbers.waiting()), (0, 2))
                 self.assertTrue(numbers.add(6))
 
-    def test_nodes_are_collected_when_an_eighth_of_them_wait(self) -> None:
+    def test_nodes_are_collected_when_64_of_them_wait(self) -> None:
         from nm_set import _library
 
         for nodes, workers, after, usual in (
-            (7, 1, None, 8),
-            (1_024, 64, None, 8),
-            (1_024, 4, None, 32),
-            (16_384, 64, None, 32),
+            (7, 1, None, 64),
             (65_536, 64, None, 64),
             (65_536, 1, 0, 0),
         ):

@@ -77,7 +77,7 @@ class Growth(unittest.TestCase):
             self.assertEqual(len(numbers), 10_000)
             worker.unpin()
             self.assertTrue(worker.add(20_000) and 9_999 in worker)
-            self.assertEqual((numbers.capacity, worker.stats().flags), (40_007, 0))
+            self.assertEqual((numbers.capacity, worker.stats().flags), (16_250, 0))
 
     def test_a_set_with_a_size_stays(self) -> None:
         with Set(64) as numbers:

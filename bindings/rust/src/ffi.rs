@@ -218,8 +218,8 @@ extern "C" {
     fn nm_pool_scan_back(
         pool: *mut RawPool,
         worker: u32,
-        from: u64,
         below: u64,
+        from: u64,
         keys: *mut u64,
         room: usize,
         count: *mut usize,
@@ -459,11 +459,15 @@ impl Pool {
             Order::Ascending => nm_pool_scan,
             Order::Descending => nm_pool_scan_back,
         };
+        let (begin, end) = match order {
+            Order::Ascending => (from, below),
+            Order::Descending => (below, from),
+        };
         // SAFETY: the pool exists as long as `self`. The block is borrowed for this call alone, and
         // `first` is not null, even if there is no room.
         unsafe {
             scan(
-                pool, worker, from, below, first, room, count, next, timeout_ms,
+                pool, worker, begin, end, first, room, count, next, timeout_ms,
             )
         }
     }

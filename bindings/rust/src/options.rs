@@ -2,8 +2,8 @@
 
 use crate::ffi::PoolOptions;
 
-/// In place of `collect_after`: the library computes it from the nodes and the workers.
-const AN_EIGHTH: u32 = u32::MAX;
+/// The usual `collect_after` of a set.
+const COLLECT_AFTER: u32 = 64;
 
 /// The shape of the tree.
 #[derive(Clone, Copy, Debug, Default, PartialEq, Eq)]
@@ -29,7 +29,7 @@ pub enum Shape {
 #[derive(Clone, Copy, Debug, PartialEq, Eq)]
 pub struct Options {
     /// The number of workers, 1 to 64, which is the number of calls at the same time. 64 by
-    /// default; each worker takes 4,096 bytes.
+    /// default; each worker takes some 17,000 bytes, and 3,300 more once it was used.
     pub workers: u32,
     /// The shape of the tree. A radix tree by default.
     pub shape: Shape,
@@ -41,8 +41,8 @@ pub struct Options {
     /// continued, before it returns [`Fault::Unfinished`](crate::Fault::Unfinished). 64 by default.
     pub rounds: u32,
     /// The number of waiting nodes from which an insert or a remove first advances the epoch and
-    /// collects. None, the default, is nodes / (8 * workers), at least 8 and at most 64. So all
-    /// workers together leave at most an eighth of the nodes uncollected, unless each has 8.
+    /// collects. None, the default, is 64. For a map it is nodes / (8 * workers), at least 8 and at
+    /// most 64.
     pub collect_after: Option<u32>,
     /// The longest time, in milliseconds, that a call waits: for a worker
     /// ([`Fault::NoWorker`](crate::Fault::NoWorker)), for another thread's call by the same worker
@@ -61,7 +61,7 @@ impl Options {
             shape: self.shape as u32,
             tries: self.tries,
             rounds: self.rounds,
-            collect_after: self.collect_after.unwrap_or(AN_EIGHTH),
+            collect_after: self.collect_after.unwrap_or(COLLECT_AFTER),
         }
     }
 }
@@ -85,7 +85,7 @@ mod tests {
     use crate::ffi::Pool;
 
     #[test]
-    fn nodes_are_collected_when_an_eighth_of_them_wait() {
+    fn nodes_are_collected_when_64_of_them_wait() {
         let after = |nodes: u64, workers, collect_after| {
             let options = Options {
                 workers,
@@ -95,9 +95,7 @@ mod tests {
             let pool = Pool::new(nodes, &options.of_pool()).map_err(drop).unwrap();
             pool.call_options().collect_after
         };
-        assert_eq!((after(7, 1, None), after(1_024, 64, None)), (8, 8));
-        assert_eq!((after(1_024, 4, None), after(16_384, 64, None)), (32, 32));
-        assert_eq!((after(65_536, 64, None), after(4_096, 1, None)), (64, 64));
+        assert_eq!((after(7, 1, None), after(65_536, 64, None)), (64, 64));
         assert_eq!((after(7, 64, Some(64)), after(65_536, 1, Some(0))), (64, 0));
     }
 }

@@ -71,8 +71,8 @@ pub struct Set(Arc<Shared>);
 
 impl Set {
     /// Makes the empty set, which grows, by [`Options::default`]. It has room for 10,000 keys at
-    /// first. If an insert finds no free nodes, and none can be freed, the set gets four times the
-    /// nodes: all calls wait while its keys move.
+    /// first. If an insert finds no free nodes, and none can be freed, the set gets five eighths
+    /// more nodes: all calls wait while its keys are copied.
     ///
     /// Errors: `NoMemory`.
     pub fn new() -> Result<Set, Fault> {

@@ -94,7 +94,7 @@ fn a_pinned_worker_prevents_a_new_size_and_is_named() {
     assert!(full.to_string().contains(text), "{full}");
     assert_eq!(set.len(), Ok(10_000));
     drop(guard);
-    assert_eq!((set.insert(20_000), set.capacity()), (Ok(true), 40_007));
+    assert_eq!((set.insert(20_000), set.capacity()), (Ok(true), 16_250));
     assert_eq!(
         (worker.contains(9_999), worker.contains(10_000)),
         (Ok(true), Ok(false))
