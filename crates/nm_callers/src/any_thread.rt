@@ -10,8 +10,8 @@ use nm_set::Options;
 use nm_shared::{Caller, SharedSet};
 use std::thread::{Threads, join};
 
-/// Inserts a key, and then looks it up, each by whichever worker is free. `None`: a call had no answer.
-/// Proved: in each history of one plain set the insert is before the look-up.
+/// Inserts a key, and then looks it up, each by whichever worker is free. `None`: a call had no
+/// answer. Proved: in each history of one plain set the insert is before the look-up.
 pub fn insert_then_find_shared(
     set: &SharedSet,
     caller: Caller,
@@ -91,9 +91,9 @@ fn remove_shared(
 }
 
 /// Removes a key in two threads at the same time, through one shared set. Returns the caller of the
-/// first thread, which takes over the visit of the second. `None`: a call had no answer. Proved: the
-/// answers are those of two different calls of one plain set. So both are true only if an insert of the
-/// key has its moment between them.
+/// first thread, which takes over the visit of the second. `None`: a call had no answer. Proved:
+/// the answers are those of two different calls of one plain set. So both are true only if an
+/// insert of the key has its moment between them.
 pub fn remove_in_two_threads<R: Threads + Sync>(
     rt: &R,
     set: &SharedSet,

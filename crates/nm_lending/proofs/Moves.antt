@@ -1,5 +1,5 @@
 -- Each step on a seat keeps the rule of all seats.
-use Rattle.std.proofs.Common.{◌≡◌, ◌≢◌, ℕ, zero, suc, ◌+◌, ◌*◌, ◌<◌, ◌⊎◌, inl, inr, Bool, true, false, true≢false, eqb, List, [], ◌∷◌, ◌++◌, map, length, get_or, set, replicate, sym, refl, ap, ◌∙◌, subst, ⊎_elim, arith}
+use Rattle.std.proofs.Common.{◌≡◌, ◌≢◌, ℕ, zero, suc, ◌+◌, ◌<◌, ◌⊎◌, inl, inr, true, false, true≢false, eqb, List, [], ◌∷◌, ◌++◌, map, length, get_or, set, replicate, sym, refl, ap, ◌∙◌, subst, ⊎_elim, arith}
 use mathlib.Core.Option.{none, some, some-ne-none, some-injective}
 use mathlib.Core.Option as maybe
 use prog.Atomic.{either}
@@ -9,7 +9,7 @@ use Rattle.atomic_table.specs.Table.{State, Me, step, Act, keeps, takes, gives, 
 use Rattle.atomic_table.proofs.Lists.{at_set, at_snoc, set_here, set_else, set_again, exchanged}
 use Rattle.nm_lending.specs.declared.knowing.Known.{Known}
 use Rattle.nm_lending.specs.declared.knowing.Visit.{Visit}
-use Rattle.nm_lending.specs.Visits.{sitting, away_after, value_in, Leads, Stays, On, Has, IsApart, IsApartFromAll, AreApart, InOrder, AreInOrder, caller, newcomer, gone, joined, away, MadeBy, Fits, Lent, looked, showed, took, visited, gave_back, AreSeated}
+use Rattle.nm_lending.specs.Visits.{sitting, away_after, value_in, Leads, Stays, On, Has, IsApart, IsApartFromAll, AreApart, InOrder, caller, newcomer, gone, joined, away, MadeBy, Fits, Lent, looked, showed, took, visited, gave_back, AreSeated}
 
 -- ---- numbers and lists
 

@@ -1,12 +1,12 @@
 -- What a pass knows after it has borrowed a value, and after it has given one back.
-use Rattle.std.proofs.Common.{◌≡◌, ℕ, suc, ◌+◌, ◌<◌, ◌++◌, List, [], ◌∷◌, sym, ap, ◌∙◌, subst, refl, arith}
-use Rattle.std.specs.Prelude.{Option, Some, false}
+use Rattle.std.proofs.Common.{◌≡◌, ℕ, ◌+◌, ◌<◌, List, [], ◌∷◌, sym, ap, ◌∙◌, subst, arith}
+use Rattle.std.specs.Prelude.{Option, Some}
 use Rattle.atomic_table.specs.Seated.{TableId}
 use Rattle.atomic_table.specs.declared.shared.Seat.{Seat}
 use Rattle.atomic_table.specs.Table.{Me, rest}
 use Rattle.nm_lending.specs.declared.knowing.Known.{Known}
 use Rattle.nm_lending.specs.declared.knowing.Visit.{Visit}
-use Rattle.nm_lending.specs.Visits.{sitting, away, caller, value_in, visited}
+use Rattle.nm_lending.specs.Visits.{sitting, away, caller, value_in}
 use Rattle.nm_lending.specs.Views.{IsCaller, IsLoan, IsLent, LendingView, LoanView}
 
 -- a seat of this table has a slot

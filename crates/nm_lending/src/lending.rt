@@ -39,7 +39,11 @@ impl<T, C> Model for Caller<T, C> {
 
     ghost Value = { CallerView T C };
 
-    ghost view = { λ l. record { table = l.pass.table_id; site = l.pass.me.0.site; visits = l.pass.me.0.visits } };
+    ghost view = { λ l. record {
+      table = l.pass.table_id;
+      site = l.pass.me.0.site;
+      visits = l.pass.me.0.visits;
+    } };
 
     ghost invariant = { λ l. IsCaller l.pass };
 }
@@ -57,7 +61,14 @@ impl<T, C> Model for Loan<T, C> {
 
     ghost Value = { LoanView T C };
 
-    ghost view = { λ l. record { table = l.pass.table_id; site = l.pass.me.0.site; seat = l.seat; turn = l.turn; taken = l.pass.me.0.taken; visits = l.pass.me.0.visits } };
+    ghost view = { λ l. record {
+      table = l.pass.table_id;
+      site = l.pass.me.0.site;
+      seat = l.seat;
+      turn = l.turn;
+      taken = l.pass.me.0.taken;
+      visits = l.pass.me.0.visits;
+    } };
 
     ghost invariant = { λ l. IsLoan l.pass l.seat l.turn };
 }
@@ -138,7 +149,8 @@ impl<T: Drop, C, P: LendRule<T, C>> Lending<T, C, P> {
     ) -> Result<(T, Loan<T, C>), Caller<T, C>>
         requires table { caller.table ≡ self.now.table }
         requires site { caller.site ≡ Some self.now.site }
-        ensures lent { IfOk result (λ r. (i : ℕ) × IsLent P.resident self.now i caller.visits r.0 r.1) }
+        ensures lent { IfOk result
+            (λ r. (i : ℕ) × IsLent P.resident self.now i caller.visits r.0 r.1) }
         ensures refused { IfErr result (λ d. d ≡ caller) }
     {
         let seats = u32::try_from(self.len()).unwrap_or(u32::MAX);
@@ -159,7 +171,8 @@ impl<T: Drop, C, P: LendRule<T, C>> Lending<T, C, P> {
         requires table { caller.table ≡ self.now.table }
         requires site { caller.site ≡ Some self.now.site }
         requires within { below ≤ self.now.table.words }
-        ensures lent { IfOk result (λ r. (i : ℕ) × IsLent P.resident self.now i caller.visits r.0 r.1) }
+        ensures lent { IfOk result
+            (λ r. (i : ℕ) × IsLent P.resident self.now i caller.visits r.0 r.1) }
         ensures refused { IfErr result (λ d. d ≡ caller) }
     {
         let mut caller = caller;
@@ -183,8 +196,10 @@ impl<T: Drop, C, P: LendRule<T, C>> Lending<T, C, P> {
         requires caller { IsCaller pass }
         requires within { seat < self.now.table.words }
         requires few { sitting turn + 3 < 18446744073709551616 }
-        ensures lent { IfOk result (λ r. IsLent P.resident self.now seat pass.me.0.visits r.0 r.1) }
-        ensures refused { IfErr result (λ d. (d.table ≡ pass.table_id) × (d.site ≡ pass.me.0.site) × (d.visits ≡ pass.me.0.visits)) }
+        ensures lent { IfOk result
+            (λ r. IsLent P.resident self.now seat pass.me.0.visits r.0 r.1) }
+        ensures refused { IfErr result (λ d. (d.table ≡ pass.table_id)
+            × (d.site ≡ pass.me.0.site) × (d.visits ≡ pass.me.0.visits)) }
     {
         let mut pass = pass;
         let old = 2 * turn + 1;
@@ -209,7 +224,8 @@ impl<T: Drop, C, P: LendRule<T, C>> Lending<T, C, P> {
         requires goes { (x : T) → loan.taken ≡ Some x → P.goes self.now.site x value }
         ensures table { result.table ≡ self.now.table }
         ensures site { result.site ≡ Some self.now.site }
-        ensures visits { (x : T) → loan.taken ≡ Some x → result.visits ≡ loan.visits ++ record { seat = loan.seat; turn = loan.turn; was = x; left = value } ∷ [] }
+        ensures visits { (x : T) → loan.taken ≡ Some x → result.visits ≡ loan.visits
+            ++ record { seat = loan.seat; turn = loan.turn; was = x; left = value } ∷ [] }
     {
         let Loan { pass, seat, turn } = loan;
         let mut pass = pass;

@@ -24,15 +24,19 @@ use Rattle.nm_shared.proofs.OwnActs.{own_acts, acts_in_order}
 
 moment : (op : Op) (b : TreeView) (h : Options) (k : ℕ) (w z : WorkerView) (r : Result Bool CallFault)
     → SaysManaged op b h k w z r → IfOk r (AnswerHasMoment w.pass z.pass op k)
-moment op b h k w z r (inl (held, is, same)) = subst (λ (q : Result Bool CallFault). IfOk q (AnswerHasMoment w.pass z.pass op k)) (sym is) tt
+moment op b h k w z r (inl (held, is, same)) = subst
+    (λ (q : Result Bool CallFault). IfOk q (AnswerHasMoment w.pass z.pass op k)) (sym is) tt
 moment op b h k w z r (inr (free, t)) = t.answers.moment
 
-module _ (op : Op) (s : SharedView) (h : Options) (k : ℕ) (was now : CallerView) (answer : Bool) (v : SaysShared op s h k was now (Ok answer)) where
+module _ (op : Op) (s : SharedView) (h : Options) (k : ℕ) (was now : CallerView) (answer : Bool)
+    (v : SaysShared op s h k was now (Ok answer)) where
   abbrev began : List Turn
   began = v.begun.pass.view.past
 
-  stands : AnswerStands s.set.tree.layout began v.visit.left.worker.pass.view.past v.visit.left.worker.pass.view.number op k answer
-  stands = subst (λ (L : Layout). AnswerStands L began v.visit.left.worker.pass.view.past v.visit.left.worker.pass.view.number op k answer)
+  stands : AnswerStands s.set.tree.layout began v.visit.left.worker.pass.view.past
+      v.visit.left.worker.pass.view.number op k answer
+  stands = subst (λ (L : Layout). AnswerStands L began v.visit.left.worker.pass.view.past
+      v.visit.left.worker.pass.view.number op k answer)
       v.left.layout (moment op s.set.tree h k v.begun v.visit.left.worker (Ok answer) v.says)
 
   answered : WasAnswered pass_of s.set.tree.layout v.visit began op k answer
@@ -40,7 +44,11 @@ module _ (op : Op) (s : SharedView) (h : Options) (k : ℕ) (was now : CallerVie
 
   -- what the visit left extends what it began with
   since : Extends v.visit.left.worker.pass.view.past began
-  since = record { more = stands.since ++ answer_turn v.visit.left.worker.pass.view.number answer ∷ []; is = stands.are ∙ append_assoc began stands.since _ }
+  since = record {
+    more = stands.since ++ answer_turn v.visit.left.worker.pass.view.number answer ∷
+        [];
+    is = stands.are ∙ append_assoc began stands.since _;
+  }
 
 -- ---- lists of visits
 
@@ -81,11 +89,13 @@ calls_of_one_caller_are_in_order op_a op_b s h k_a k_b x_a x_b was mid now first
     (goes_on_through turns began_b _ later heard) on heard
 
 pub shown_calls_are_apart : ShownCallsAreApart
-shown_calls_are_apart op_a op_b s h k_a k_b x_a x_b was_a now_a was_b now_b shown first second apart order before between after are turns acts history on_a on_b =
+shown_calls_are_apart op_a op_b s h k_a k_b x_a x_b was_a now_a was_b now_b shown first second apart order before
+    between after are turns acts history on_a on_b =
     let a = first.visit in
     let b = second.visit in
     let rest = between ++ b ∷ after in
-    let has_a : Has shown.visits a = subst (λ (ds : List (Visit MemberView)). Has ds a) (sym are) (has_first before rest a) in
+    let has_a : Has shown.visits a = subst (λ (ds : List (Visit MemberView)). Has ds a) (sym are)
+    (has_first before rest a) in
     let has_b : Has shown.visits b = subst (λ (ds : List (Visit MemberView)). Has ds b) (sym are)
     (has_behind (before ++ a ∷ []) rest b (has_among between after b)) in
     own_acts pass_of s.set.tree.layout turns acts history a b

@@ -24,14 +24,17 @@ pub record Keeps (w z : WorkerView) : Type 0 where
   free : w.held ≡ None → z.held ≡ None
 
 kept_itself : (w z : WorkerView) → z ≡ w → Keeps w z
-kept_itself w z same = subst (λ (y : WorkerView). Keeps w y) (sym same) (record { same = refl; past = seen_itself w.pass; free = λ is. is })
+kept_itself w z same = subst (λ (y : WorkerView). Keeps w y) (sym same)
+    (record { same = refl; past = seen_itself w.pass; free = λ is. is })
 
 pub managed_keeps : (op : Op) (b : TreeView) (h : Options) (k : ℕ) (w z : WorkerView) (r : Result Bool CallFault)
     → SaysManaged op b h k w z r → Keeps w z
 managed_keeps op b h k w z r (inl (held, is, same)) = kept_itself w z same
-managed_keeps op b h k w z r (inr (free, t)) = record { same = t.answers.on.same; past = t.answers.on.past; free = λ none'. t.answers.on.held }
+managed_keeps op b h k w z r (inr (free, t)) = record
+    { same = t.answers.on.same; past = t.answers.on.past; free = λ none'. t.answers.on.held }
 
-pub pop_keeps : (Before : ℕ → ℕ → Type 0) (b : TreeView) (h : Options) (w z : WorkerView) (r : Result (Option ℕ) CallFault)
+pub pop_keeps : (Before : ℕ → ℕ → Type 0) (b : TreeView) (h : Options) (w z : WorkerView)
+    (r : Result (Option ℕ) CallFault)
     → SaysManagedPop Before b h w z r → Keeps w z
 pop_keeps Before b h w z r (inl (held, is, same)) = kept_itself w z same
 pop_keeps Before b h w z r (inr (free, t)) = record { same = t.on.same; past = t.on.past; free = λ none'. t.on.held }
@@ -72,7 +75,8 @@ module _ (s : SharedView) (c : CallerView) (m n : MemberView) (l : LoanView Memb
   }
 
   pub visited : (Says : WorkerView → WorkerView → Type 0) (now : CallerView) → Says m.worker n.worker
-      → ((x : MemberView) → l.taken ≡ Some x → now.visits ≡ l.visits ++ record { seat = l.seat; turn = l.turn; was = x; left = n } ∷ [])
+      → ((x : MemberView) → l.taken ≡ Some x → now.visits ≡ l.visits ++ record
+      { seat = l.seat; turn = l.turn; was = x; left = n } ∷ [])
       → now.note ≡ Some (note_of n) → Visited Says s c now
   visited Says now says back note =
       let visit : Visit MemberView = record { seat = l.seat; turn = l.turn; was = lent.was; left = n } in
@@ -88,20 +92,27 @@ module _ (s : SharedView) (c : CallerView) (m n : MemberView) (l : LoanView Memb
       }
 
 -- a managed call of a member says the same of the set's tree
-tree_is : (s : SharedView) (c : CallerView) (m : MemberView) (l : LoanView MemberView SetView) → IsBorrowed s c m l → m.tree ≡ s.set.tree
+tree_is : (s : SharedView) (c : CallerView) (m : MemberView) (l : LoanView MemberView SetView) → IsBorrowed s c m l
+    → m.tree ≡ s.set.tree
 tree_is s c m l lent = lent.tree ∙ lent.here.tree
 
-pub says_shared : (op : Op) (h : Options) (k : ℕ) (r : Result Bool CallFault) (s : SharedView) (c now : CallerView) (m n : MemberView)
-    (l : LoanView MemberView SetView) → IsBorrowed s c m l → n.tree ≡ m.tree → SaysManaged op m.tree h k m.worker n.worker r
-    → ((x : MemberView) → l.taken ≡ Some x → now.visits ≡ l.visits ++ record { seat = l.seat; turn = l.turn; was = x; left = n } ∷ [])
+pub says_shared : (op : Op) (h : Options) (k : ℕ) (r : Result Bool CallFault) (s : SharedView) (c now : CallerView)
+    (m n : MemberView)
+    (l : LoanView MemberView SetView) → IsBorrowed s c m l → n.tree ≡ m.tree
+    → SaysManaged op m.tree h k m.worker n.worker r
+    → ((x : MemberView) → l.taken ≡ Some x → now.visits ≡ l.visits ++ record
+    { seat = l.seat; turn = l.turn; was = x; left = n } ∷ [])
     → now.note ≡ Some (note_of n) → SaysShared op s h k c now r
 says_shared op h k r s c now m n l lent tree says back note =
     visited s c m n l lent tree (managed_keeps op m.tree h k m.worker n.worker r says) _ now
     (subst (λ (b : TreeView). SaysManaged op b h k m.worker n.worker r) (tree_is s c m l lent) says) back note
 
-pub says_shared_pop : (Before : ℕ → ℕ → Type 0) (h : Options) (r : Result (Option ℕ) CallFault) (s : SharedView) (c now : CallerView) (m n : MemberView)
-    (l : LoanView MemberView SetView) → IsBorrowed s c m l → n.tree ≡ m.tree → SaysManagedPop Before m.tree h m.worker n.worker r
-    → ((x : MemberView) → l.taken ≡ Some x → now.visits ≡ l.visits ++ record { seat = l.seat; turn = l.turn; was = x; left = n } ∷ [])
+pub says_shared_pop : (Before : ℕ → ℕ → Type 0) (h : Options) (r : Result (Option ℕ) CallFault) (s : SharedView)
+    (c now : CallerView) (m n : MemberView)
+    (l : LoanView MemberView SetView) → IsBorrowed s c m l → n.tree ≡ m.tree
+    → SaysManagedPop Before m.tree h m.worker n.worker r
+    → ((x : MemberView) → l.taken ≡ Some x → now.visits ≡ l.visits ++ record
+    { seat = l.seat; turn = l.turn; was = x; left = n } ∷ [])
     → now.note ≡ Some (note_of n) → SaysSharedPop Before s h c now r
 says_shared_pop Before h r s c now m n l lent tree says back note =
     visited s c m n l lent tree (pop_keeps Before m.tree h m.worker n.worker r says) _ now

@@ -82,18 +82,21 @@ module _ {T : Type 0} (pass : T → PassView) where
             omega (arith, up, below, above, later);
       }
 
-      module _ (apart : IsApart a b) (order : InOrder (WorkerGoesOn pass) a b) (back : InOrder (WorkerGoesOn pass) b a) where
+      module _ (apart : IsApart a b) (order : InOrder (WorkerGoesOn pass) a b)
+          (back : InOrder (WorkerGoesOn pass) b a) where
         by : a.seat ≡ b.seat → one.act.pin ≡ two.act.pin → (a.turn < b.turn) ⊎ (b.turn ≤ a.turn)
             → (b.turn < a.turn) ⊎ (a.turn ≤ b.turn) → ⊥
         by seat pin (inl less) c =
-            let up = longer (pass b.was).view.past (pass a.left).view.past (led a.left b.was (order seat less)).goes_on in
+            let up = longer (pass b.was).view.past (pass a.left).view.past
+            (led a.left b.was (order seat less)).goes_on in
             let heard = longer begun_b (pass b.was).view.past was_b.after in
             let below = one.before in
             let early = one.pinned in
             let above = two.after in
             omega (arith, up, heard, below, early, above, pin)
         by seat pin (inr c) (inl less) =
-            let up = longer (pass a.was).view.past (pass b.left).view.past (led b.left a.was (back (sym seat) less)).goes_on in
+            let up = longer (pass a.was).view.past (pass b.left).view.past
+            (led b.left a.was (back (sym seat) less)).goes_on in
             let heard = longer begun_a (pass a.was).view.past was_a.after in
             let below = two.before in
             let early = two.pinned in

@@ -48,10 +48,27 @@ letter_sync : IsSync letter.the_row
 letter_sync = search (sendable, crosses, note_sync) depth 20
 
 home_sync : IsSync home.the_row
-home_sync = search (sendable, crosses, tree.the_sync, counted.the_sync, seats.the_sync, worker_crosses.the_send, letter_crosses.the_send, letter_sync, worker_sync) depth 60
+home_sync = search (
+  sendable,
+  crosses,
+  tree.the_sync,
+  counted.the_sync,
+  seats.the_sync,
+  worker_crosses.the_send,
+  letter_crosses.the_send,
+  letter_sync,
+  worker_sync,
+) depth 60
 
 member_send : IsSend member.the_row
-member_send = search (sendable, crosses, home_crosses.the_send, home_sync, worker_crosses.the_send, way_back.the_send) depth 60
+member_send = search (
+  sendable,
+  crosses,
+  home_crosses.the_send,
+  home_sync,
+  worker_crosses.the_send,
+  way_back.the_send,
+) depth 60
 
 pub worker_send : IsSend shared_worker.the_row
 worker_send = search (sendable, crosses, member_send) depth 60
@@ -60,7 +77,16 @@ set_send : IsSend set.the_row
 set_send = search (sendable, crosses, home_crosses.the_send, home_sync, tree.the_send, worker_crosses.the_send) depth 80
 
 set_sync : IsSync set.the_row
-set_sync = search (sendable, crosses, home_crosses.the_send, home_sync, tree.the_send, tree.the_sync, worker_crosses.the_send, worker_sync) depth 80
+set_sync = search (
+  sendable,
+  crosses,
+  home_crosses.the_send,
+  home_sync,
+  tree.the_send,
+  tree.the_sync,
+  worker_crosses.the_send,
+  worker_sync,
+) depth 80
 
 pub shared_sync : IsSync shared.the_row
 shared_sync = search (sendable, crosses, set_sync, lending.the_sync, lending.the_send, worker_send, set_send) depth 80

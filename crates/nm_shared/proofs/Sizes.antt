@@ -8,7 +8,8 @@ use Rattle.nm_set.specs.Seats.{MemberView, SetView}
 use Rattle.nm_tree.specs.declared.closing.Report.{Report}
 use Rattle.nm_shared.specs.Sizes.{HasSameKeys}
 
-pub same_keys : (old : SetView) (r : Report) (b : TreeView) (f : Fit) (n : ℕ) (m : MemberView) → SaysEnded old r → HasFilled b f n r.keys.items m → HasSameKeys old r m
+pub same_keys : (old : SetView) (r : Report) (b : TreeView) (f : Fit) (n : ℕ) (m : MemberView) → SaysEnded old r
+    → HasFilled b f n r.keys.items m → HasSameKeys old r m
 same_keys old r b f n m ended filled = record {
   ended = ended;
   same = λ k key. (

@@ -69,7 +69,8 @@ pub record HasHeardNote (w : WorkerView) (note : Option Notice) (z : WorkerView)
 -- ---- a loan
 
 -- a member was borrowed, and has heard what the caller had seen
-pub record IsBorrowed (s : SharedView) (c : CallerView) (m : MemberView) (l : LoanView MemberView SetView) : Type 0 where
+pub record IsBorrowed (s : SharedView) (c : CallerView) (m : MemberView)
+    (l : LoanView MemberView SetView) : Type 0 where
   pub was : MemberView
   pub table : l.table ≡ s.table
   pub site : l.site ≡ Some s.set

@@ -28,8 +28,8 @@ pub enum RegrowError {
 /// Ends a set whose members were all returned or kept, and makes a radix tree of a new size with
 /// exactly its keys.
 ///
-/// Errors: `Open`: the old set has members, or its end was refused memory; it goes on. `Refused`: the
-/// old set has ended, and the new one was refused memory, or has too few nodes for the keys.
+/// Errors: `Open`: the old set has members, or its end was refused memory; it goes on. `Refused`:
+/// the old set has ended, and the new one was refused memory, or has too few nodes for the keys.
 /// Cost: a walk over the old set, and an insert for each key.
 pub fn regrow(
     alloc: Global,

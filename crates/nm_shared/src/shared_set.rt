@@ -58,8 +58,8 @@ impl Model for SharedSet {
     ghost invariant = { λ s. (s.workers.site ≡ s.set) × (0 < s.workers.table.words) };
 }
 
-/// Who calls a shared set: a thread, or a task. It has the number of the worker that it borrowed last,
-/// from which it looks for the next one, and for proofs what it has learned.
+/// Who calls a shared set: a thread, or a task. It has the number of the worker that it borrowed
+/// last, from which it looks for the next one, and for proofs what it has learned.
 #[derive(Drop)]
 pub struct Caller {
     visits: Visitor<Worker, Set>,
@@ -72,7 +72,12 @@ impl Model for Caller {
 
     ghost Value = { CallerView };
 
-    ghost view = { λ c. record { table = c.visits.table; site = c.visits.site; visits = c.visits.visits; note = c.note } };
+    ghost view = { λ c. record {
+      table = c.visits.table;
+      site = c.visits.site;
+      visits = c.visits.visits;
+      note = c.note;
+    } };
 }
 
 /// Puts each member on the seat of its number.
@@ -167,7 +172,8 @@ impl SharedSet {
         requires back { MayComeBack self.now loan worker }
         ensures own { IsCallerOf self.now result }
         ensures visits { (x : MemberView) → loan.taken ≡ Some x
-            → result.visits ≡ loan.visits ++ record { seat = loan.seat; turn = loan.turn; was = x; left = worker } ∷ [] }
+            → result.visits ≡ loan.visits
+            ++ record { seat = loan.seat; turn = loan.turn; was = x; left = worker } ∷ [] }
         ensures note { result.note ≡ Some (note_of worker) }
     {
         let mut worker = worker;
@@ -177,9 +183,9 @@ impl SharedSet {
         Caller { visits, note, near }
     }
 
-    /// Returns whether the set has the key: `Member::contains` of `nm_set`, by a worker that no other
-    /// call has. The call happens after all earlier calls of this caller. `None`: each worker was
-    /// found borrowed, one after the other; nothing has changed.
+    /// Returns whether the set has the key: `Member::contains` of `nm_set`, by a worker that no
+    /// other call has. The call happens after all earlier calls of this caller. `None`: each worker
+    /// was found borrowed, one after the other; nothing has changed.
     ///
     /// Errors: those of `Member::contains`, except `Pinned`.
     /// Cost: that of `Member::contains`, a load and a compare-exchange for the worker, and a store.
@@ -241,7 +247,8 @@ impl SharedSet {
     ) -> (Caller, Option<Result<bool, CallFault>>)
         requires own { IsCallerOf self.now caller }
         ensures own { IsCallerOf self.now result.0 }
-        ensures says { IfSome result.1 (SaysShared Delete self.now options.now key caller result.0) }
+        ensures says { IfSome result.1
+            (SaysShared Delete self.now options.now key caller result.0) }
         ensures refused { IfNone result.1 (result.0 ≡ caller) }
     {
         match self.borrow(caller) {
@@ -264,7 +271,8 @@ impl SharedSet {
     ) -> (Caller, Option<Result<Option<Key>, CallFault>>)
         requires own { IsCallerOf self.now caller }
         ensures own { IsCallerOf self.now result.0 }
-        ensures says { IfSome result.1 (SaysSharedPop ◌<◌ self.now options.now caller result.0) }
+        ensures says { IfSome result.1
+            (SaysSharedPop ◌<◌ self.now options.now caller result.0) }
         ensures refused { IfNone result.1 (result.0 ≡ caller) }
     {
         match self.borrow(caller) {

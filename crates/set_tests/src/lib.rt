@@ -9,4 +9,6 @@ mod members;
 #[cfg(test)]
 mod ranges;
 #[cfg(test)]
+mod shared;
+#[cfg(test)]
 mod together;

@@ -12,11 +12,15 @@ returns-clause-in_order c =
     let mid : CallerView = c.insert_shared-caller.result.0 in
     let last : CallerView = c.find_shared-caller.result.0 in
     let says : Op → CallerView → CallerView → Bool → Type 0 =
-        λ op was now x. SaysShared op s c.args.options.now c.args.key was now (Ok x) in
+    λ op was now x. SaysShared op s c.args.options.now c.args.key was now (Ok x) in
     let first : says Insert c.args.caller mid c.in-Some.inserted =
-        subst (λ (o : Option Bool). IfSome o (says Insert c.args.caller mid)) c.in-Some.is
-        c.insert_shared-caller.ensures.says in
+    subst (λ (o : Option Bool). IfSome o (says Insert c.args.caller mid)) c.in-Some.is
+    c.insert_shared-caller.ensures.says in
     let second : says Has mid last c.in-Some-found.found =
-        subst (λ (o : Option Bool). IfSome o (says Has mid last)) c.in-Some-found.is c.find_shared-caller.ensures.says in
-    (note_of second.visit.left, second.note, calls_of_one_caller_are_in_order Insert Has s c.args.options.now
-        c.args.key c.args.key c.in-Some.inserted c.in-Some-found.found c.args.caller mid last first second)
+    subst (λ (o : Option Bool). IfSome o (says Has mid last)) c.in-Some-found.is
+    c.find_shared-caller.ensures.says in (
+      note_of second.visit.left,
+      second.note,
+      calls_of_one_caller_are_in_order Insert Has s c.args.options.now
+          c.args.key c.args.key c.in-Some.inserted c.in-Some-found.found c.args.caller mid last first second,
+    )

@@ -8,4 +8,5 @@ returns-in-Ok-of_keys-clause-same c =
     let made = c.in-Ok-of_keys.made in
     let n : ℕ = length made.others.items in
     same_keys c.args.old c.in-Ok.report made.set.tree made.set.fit n made.filler c.in-Ok.ensures.says
-    (subst (λ (ks : List ℕ). HasFilled made.set.tree made.set.fit n ks made.filler) c.as_slice.ensures.value c.in-Ok-of_keys.ensures.filler)
+    (subst (λ (ks : List ℕ). HasFilled made.set.tree made.set.fit n ks made.filler) c.as_slice.ensures.value
+    c.in-Ok-of_keys.ensures.filler)

@@ -15,9 +15,13 @@ loop-member-preserved c =
     let first = c.in-Some.ensures.steps.0 in
     let more = c.push_reserved.ensures.items in
     let new = subst (AreNewMembers s.tree s.fit (length before)) first c.loop-member.invariant.left in
-    let longer : length c.push_reserved.new.self.items ≡ suc (length before) = omega (arith, ap (λ (ms : List (Option MemberView)). length ms) more, length-append before (Some m ∷ [])) in
+    let longer : length c.push_reserved.new.self.items ≡ suc (length before) = omega
+    (arith, ap (λ (ms : List (Option MemberView)). length ms) more, length-append before (Some m ∷ [])) in
     record {
-      made = subst (AreSeated Sits s 0) (sym more) (seated_and s 0 before (length before) m (omega arith) c.loop-member.invariant.made (new_sits s (length before) m (subst (λ (y : MemberView). IsNewMember s.tree s.fit (length before) y) (sym same) new.0)));
+      made = subst (AreSeated Sits s 0) (sym more)
+          (seated_and s 0 before (length before) m (omega arith) c.loop-member.invariant.made
+          (new_sits s (length before) m (subst (λ (y : MemberView). IsNewMember s.tree s.fit (length before) y)
+          (sym same) new.0)));
       left = subst (λ (n : ℕ). AreNewMembers s.tree s.fit n c.next.new.self.rest.items) (sym longer) new.1;
       all = omega (arith, longer, ap (λ (ms : List MemberView). length ms) first, c.loop-member.invariant.all);
       room = omega (arith, c.loop-member.invariant.room, c.push_reserved.ensures.capacity);

@@ -1,12 +1,10 @@
-use Rattle.std.proofs.Common.{◌≡◌, ◌∙◌, ◌<◌, ◌+◌, ◌*◌, ◌++◌, ◌∷◌, [], List, ℕ, sym, ap, subst, arith}
+use Rattle.std.proofs.Common.{◌≡◌, ◌∙◌, ◌<◌, ◌+◌, ◌*◌, ℕ, sym, ap, subst, arith}
 use Rattle.std.specs.Prelude.{Some}
 use Rattle.atomic_table.specs.Seated.{TableId}
-use Rattle.atomic_table.specs.Table.{rest}
 use Rattle.nm_lending.specs.declared.knowing.Known.{Known}
-use Rattle.nm_lending.specs.Visits.{away, value_in, visited}
 use Rattle.nm_lending.specs.Views.{LoanView, LendingView}
-use Rattle.nm_lending.proofs.Moves.{gives_value, same_value}
-use Rattle.nm_lending.proofs.Passes.{has_word, loan_still, puts, back_again, knows_same, holds_same}
+use Rattle.nm_lending.proofs.Moves.{gives_value}
+use Rattle.nm_lending.proofs.Passes.{has_word, loan_still, puts}
 use Rattle.nm_lending.proofs.lending.Lending.give_back.Goals as goal
 
 pub store-requires : goal.store-requires

@@ -1,4 +1,4 @@
-use Rattle.std.proofs.Common.{rules, ◌≡◌, ◌∙◌, ◌<◌, sym, ap, subst}
+use Rattle.std.proofs.Common.{◌∙◌, ◌<◌, sym, ap, subst}
 use Rattle.atomic_table.specs.Seated.{TableId}
 use Rattle.nm_lending.specs.Views.{CallerView, LendingView}
 use Rattle.nm_lending.proofs.Moves.{shows}

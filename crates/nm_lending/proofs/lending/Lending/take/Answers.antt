@@ -1,7 +1,6 @@
 use Rattle.std.proofs.Common.{rules, ◌≡◌, ◌∙◌, ◌*◌, ◌+◌, ◌<◌, List, [], ◌∷◌, ℕ, refl, sym, ap, subst}
 use Rattle.std.specs.Prelude.{Option, Some, None}
 use Rattle.atomic_table.specs.Table.{rest}
-use Rattle.nm_lending.specs.declared.knowing.Known.{Known}
 use Rattle.nm_lending.specs.Views.{LendingView}
 use Rattle.nm_lending.proofs.Moves.{takes_value, same_value, no_value}
 use Rattle.nm_lending.proofs.Passes.{has_slot, holds, found, is_loan, is_lent, knows_same, holds_same}

@@ -10,7 +10,9 @@ returns-in-Ok-clause-says c =
     let m : MemberView = c.deref_mut.result.now in
     let same : m ≡ c.in-Ok.worker = c.deref_mut.ensures.value ∙ c.worker.view_is in
     let lent : IsBorrowed c.args.self.now c.args.caller m c.in-Ok.loan =
-    subst (λ (n : MemberView). IsBorrowed c.args.self.now c.args.caller n c.in-Ok.loan) (sym same) c.in-Ok.ensures.lent in
-    says_shared Has c.args.options.now c.args.key c.contains-told.result c.args.self.now c.args.caller c.give_back.result
+    subst (λ (n : MemberView). IsBorrowed c.args.self.now c.args.caller n c.in-Ok.loan)
+    (sym same) c.in-Ok.ensures.lent in
+    says_shared Has c.args.options.now c.args.key c.contains-told.result c.args.self.now c.args.caller
+    c.give_back.result
     m c.contains-told.new.self c.in-Ok.loan lent c.contains-told.ensures.tree c.contains-told.ensures.says
     c.give_back.ensures.visits c.give_back.ensures.note

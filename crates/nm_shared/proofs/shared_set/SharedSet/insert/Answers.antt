@@ -11,7 +11,8 @@ give_back-requires c =
     let m : MemberView = c.deref_mut.result.now in
     let same : m ≡ c.in-Ok.worker = c.deref_mut.ensures.value ∙ c.worker.view_is in
     let lent : IsBorrowed c.args.self.now c.args.caller m c.in-Ok.loan =
-    subst (λ (n : MemberView). IsBorrowed c.args.self.now c.args.caller n c.in-Ok.loan) (sym same) c.in-Ok.ensures.lent in
+    subst (λ (n : MemberView). IsBorrowed c.args.self.now c.args.caller n c.in-Ok.loan)
+    (sym same) c.in-Ok.ensures.lent in
     record {
       back = may_come_back c.args.self.now c.args.caller m c.insert-told.new.self c.in-Ok.loan lent
           c.insert-told.ensures.tree (managed_keeps Insert m.tree c.args.options.now c.args.key m.worker
@@ -23,7 +24,9 @@ returns-in-Ok-clause-says c =
     let m : MemberView = c.deref_mut.result.now in
     let same : m ≡ c.in-Ok.worker = c.deref_mut.ensures.value ∙ c.worker.view_is in
     let lent : IsBorrowed c.args.self.now c.args.caller m c.in-Ok.loan =
-    subst (λ (n : MemberView). IsBorrowed c.args.self.now c.args.caller n c.in-Ok.loan) (sym same) c.in-Ok.ensures.lent in
-    says_shared Insert c.args.options.now c.args.key (of_insert c.insert-told.result) c.args.self.now c.args.caller c.give_back.result
+    subst (λ (n : MemberView). IsBorrowed c.args.self.now c.args.caller n c.in-Ok.loan)
+    (sym same) c.in-Ok.ensures.lent in
+    says_shared Insert c.args.options.now c.args.key
+    (of_insert c.insert-told.result) c.args.self.now c.args.caller c.give_back.result
     m c.insert-told.new.self c.in-Ok.loan lent c.insert-told.ensures.tree c.insert-told.ensures.says
     c.give_back.ensures.visits c.give_back.ensures.note

@@ -1,0 +1,66 @@
+//! Calls of a set that any thread calls.
+ghost use Rattle.nm_shared.specs.Sharing.{IsCallerOf};
+
+use nm_edge::Key;
+use nm_set::Options;
+use nm_shared::{Caller, SharedSet};
+use std::process::Abort;
+use std::test::Fail;
+use std::thread::join;
+
+/// Returns a number as a key.
+fn key(rt: &impl Abort, number: u64) -> Key {
+    let Some(key) = Key::new(number) else {
+        panic!(rt; "{number} is no key")
+    };
+    key
+}
+
+/// One caller inserts, looks up, removes and pops, by the one worker that there is.
+#[test]
+fn a_caller_needs_no_member(rt: HostRuntime) -> Result<(), Fail> {
+    let set = SharedSet::new(rt.alloc(), 64, 1)?;
+    let options = Options::default();
+    assert_eq!(rt; set.workers(), 1);
+    let (caller, told) = set.insert(set.caller(), key(&rt, 5), &options);
+    assert_eq!(rt; told, Some(Ok(true)));
+    let (caller, told) = set.insert(caller, key(&rt, 9), &options);
+    assert_eq!(rt; told, Some(Ok(true)));
+    let (caller, told) = set.contains(caller, key(&rt, 5), &options);
+    assert_eq!(rt; told, Some(Ok(true)));
+    let (caller, told) = set.remove(caller, key(&rt, 5), &options);
+    assert_eq!(rt; told, Some(Ok(true)));
+    let (caller, told) = set.pop_last(caller, &options);
+    assert_eq!(rt; told, Some(Ok(Some(key(&rt, 9)))));
+    let (_, told) = set.pop_first(caller, &options);
+    assert_eq!(rt; told, Some(Ok(None)));
+    Ok(())
+}
+
+/// Inserts a key; returns whether it was absent.
+fn inserts(set: &SharedSet, caller: Caller, key: Key) -> bool
+    requires own { IsCallerOf set.now caller }
+{
+    let (_, told) = set.insert(caller, key, &Options::default());
+    told == Some(Ok(true))
+}
+
+/// Two threads insert different keys through one shared set with two workers.
+#[test]
+fn two_threads_share_a_set(rt: HostRuntime) -> Result<(), Fail> {
+    let set = SharedSet::new(rt.alloc(), 64, 2)?;
+    let (one, two) = (set.caller(), set.caller());
+    let (five, six) = (key(&rt, 5), key(&rt, 6));
+    let set = &set;
+    let both = join(
+        &rt,
+        move || -> bool
+            requires own { IsCallerOf set.now one }
+        { inserts(set, one, five) },
+        move || -> bool
+            requires own { IsCallerOf set.now two }
+        { inserts(set, two, six) },
+    );
+    assert_eq!(rt; both, (true, true));
+    Ok(())
+}
