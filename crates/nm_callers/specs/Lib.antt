@@ -12,3 +12,5 @@ pub mod Blame
 pub mod AnsweredAlone
 pub mod Returning
 pub mod Arenas
+pub mod Enough
+pub mod Lives
