@@ -366,12 +366,12 @@ nm_outcome nm_worker_prev(nm_handle *worker, uint64_t key, uint32_t tries, uint6
  * The set had each key that it wrote at a moment of this call. For each other key of the range (after
  * NM_YES: of its part below next) there was a moment of this call at which the set did not have it.
  * The moments of two keys may differ. So no call passes over a key that was in the set during the
- * whole call. After NM_YES, next is above `from` if room is not 0. The call is one walk over the
- * range, for which its worker is pinned, and takes no memory. A try is one try to pin or one search
- * that finds no key: give two or more. Then the call stops early only if other workers changed the
- * set during it: otherwise it finishes the range, or writes as many keys as it may. keys is not null,
- * even if room is 0. Errors: NM_KEY: `from` is no key. NM_BUSY, NM_PENDING, NM_PINNED. After an error
- * nothing is written. */
+ * whole call. After NM_YES, next is above `from` if room is not 0. Its worker is pinned once for the
+ * whole range, and the call takes no memory. It is made as one walk over the range, which no clause
+ * says. A try is one try to pin or one search that finds no key: give two or more. Then the call
+ * stops early only if other workers changed the set during it: otherwise it finishes the range, or
+ * writes as many keys as it may. keys is not null, even if room is 0. Errors: NM_KEY: `from` is no
+ * key. NM_BUSY, NM_PENDING, NM_PINNED. After an error nothing is written. */
 nm_outcome nm_worker_scan(nm_handle *worker, uint64_t from, uint64_t below, uint64_t *keys,
                           size_t room, uint64_t *count, uint64_t *next, uint32_t tries);
 

@@ -35,3 +35,5 @@ pub mod NotBack
 pub mod ArenaResets
 pub mod ArenaReads
 pub mod MappedMembers
+pub mod EnoughSlots
+pub mod FreedInLives

@@ -35,7 +35,7 @@ module _ (L : Layout) (t k : ℕ) (w z : WorkerView) where
   still_none : (r : Result Bool CallFault) → w.pending ≡ None → InsertTold w z r → z.pending ≡ None
   still_none (Ok answer) none told = told.1
   still_none (Err fault.Busy) none told = told.1
-  still_none (Err fault.Full) none told = told.1
+  still_none (Err fault.Full) none told = told.0.1
   still_none (Err fault.NoMemory) none told = told.0.1
   still_none (Err fault.Unfinished) none told = absurd told
   still_none (Err fault.Pending) none told = ap (λ (v : WorkerView). v.pending) told.1 ∙ none

@@ -13,3 +13,5 @@ pub mod AnsweredAlone
 pub mod Returning
 pub mod Arenas
 pub mod AnyThread
+pub mod Enough
+pub mod Lives

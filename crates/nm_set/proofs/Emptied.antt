@@ -53,7 +53,9 @@ use Rattle.nm_tree.specs.Running.{IsFreedInGrace}
 use Rattle.nm_tree.specs.Workers.{WorkerView, IsAs, IsBetweenCalls}
 use Rattle.nm_tree.proofs.Quiet.{Quiet, advanced, collected}
 use Rattle.nm_tree.specs.Calls.{LeavesAdvance, LeavesCollect}
-use Rattle.nm_set.specs.Managed.{Collects, FindsBehind, GoesOn, HasFoundElsewhere, HasMade, HasSighted, Since}
+use Rattle.nm_tree.specs.Answers.{HasMade}
+use Rattle.nm_tree.proofs.MadeInTurns.{made_by, part_since}
+use Rattle.nm_set.specs.Managed.{Collects, FindsBehind, GoesOn, HasFoundElsewhere, HasSighted, Since}
 use Rattle.nm_set.specs.Rounds.{IsRelieved, found_behind}
 use Rattle.nm_set.proofs.Managing.{Follows, follows_then, goes_advance, goes_collect, goes_then, goes_more, wins_after}
 
@@ -151,16 +153,6 @@ first_epoch w e r c more rest tells is = by (split_turn w more c [] (event.Sight
             ∙ (ap sight_epoch (sym (sight_told (after_in c a.before).state a.turn.0) ∙ (ap (reply_of (after_in c a.before).state a.turn.0) (sym (ap (λ (k : LogEntry). k.0) a.is_entry)) ∙ ap (λ (k : LogEntry). k.1) a.is_entry)) ∙ tells)
 
 -- ---- from one moment of a pass to a later one
-
--- what a call adds to the log is the worker's part of what it has seen since
-part_since : (p q : PassView) (adds : List LogEntry) → HasSeen p.view → HasSeen q.view → IsSamePass p q → (e : Extends q.view.past p.view.past) → q.view.log ≡ p.view.log ++ adds → part_of p.view.number e.more ≡ adds
-part_since p q adds seen_p seen_q same e is =
-    let number : q.view.number ≡ p.view.number = ap (λ (s : PassView). s.view.number) same in
-    append_cancel_left p.view.log _ adds
-    (ap (λ (l : List LogEntry). l ++ part_of p.view.number e.more) (sym seen_p.is_part)
-    ∙ (sym (part-append p.view.number p.view.past e.more)
-    ∙ (ap (part_of p.view.number) (sym e.is)
-    ∙ (ap (λ (w : ℕ). part_of w q.view.past) (sym number) ∙ (seen_q.is_part ∙ is)))))
 
 part_between : (p q : PassView) (adds : List LogEntry) → HasSeen p.view → HasSeen q.view → IsSamePass p q → (e : Extends q.view.past p.view.past) → q.view.log ≡ p.view.log ++ adds
     → part_of p.view.number (trace_in (after_in (ordered p.view.layout) (events_of p.view.past)) (events_of e.more)) ≡ adds
@@ -381,32 +373,6 @@ collect_wins : (n : ℕ) (w z : WorkerView) (c : Collected) → LeavesCollect n 
 collect_wins n w z c l = quiet_wins w z (collected w.pass.view.log l.did.0 z.pass.view.log l.did.1.0 (ripe_of c.epoch w.queues) l.did.1.2 l.did.2)
 
 -- ---- who is held
-
--- what is in the part of a worker was made by it, except a join
-made_by : (w : ℕ) (e : Event) (r : Reply) (ts : List Turn) → is_leaver w e ≡ false → Contains (part_of w ts) (e, r) → HasMade w ts e r
-made_by w e r [] plain (i, below, at) = absurd (omega (arith, below))
-made_by w e r (t ∷ ts) plain there = elim (Contains-append_cases (cond (takes_part w t.worker t.event) (logged_by t) []) (part_of w ts) (e, r) there) [
-  | inl here ↦ Contains-append_left (t ∷ []) ts (record { worker = w; event = e; outcome = Ok r }) (by t.worker t.event t.outcome (takes_part w t.worker t.event) refl here)
-  | inr rest ↦ Contains-append_right (t ∷ []) ts (record { worker = w; event = e; outcome = Ok r }) (made_by w e r ts plain rest)
-]
-  where
-    by : (v : ℕ) (d : Event) (o : Result Reply Refused) (b : Bool) → takes_part w v d ≡ b → Contains (cond b (logged_by (record { worker = v; event = d; outcome = o })) []) (e, r) → Contains {X = Turn} (record { worker = v; event = d; outcome = o } ∷ []) (record { worker = w; event = e; outcome = Ok r })
-    by v d o false is (i, below, at) = absurd (omega (arith, below))
-    by v d (Err x) true is (i, below, at) = absurd (omega (arith, below))
-    by v d (Ok q) true is (suc i, below, at) = absurd (omega (arith, below))
-    by v d (Ok q) true is (zero, below, at) =
-        let event : d ≡ e = ap (λ (x : LogEntry). x.0) at in
-        let reply : q ≡ r = ap (λ (x : LogEntry). x.1) at in
-        let own : v ≡ w = elim (or_cases (v == w) (is_leaver w d) is) [
-          | inl same ↦ eqb-true v w same
-          | inr joins ↦ absurd (true≢false (sym joins ∙ (ap (is_leaver w) event ∙ plain)))
-        ] in (
-          zero,
-          omega arith,
-          subst (λ (n : ℕ). ◌≡◌ {A = Turn} (record { worker = n; event = d; outcome = Ok q }) (record { worker = w; event = e; outcome = Ok r })) (sym own)
-              (subst (λ (f : Event). ◌≡◌ {A = Turn} (record { worker = w; event = f; outcome = Ok q }) (record { worker = w; event = e; outcome = Ok r })) (sym event)
-              (ap (λ (y : Reply). record { worker = w; event = e; outcome = Ok y }) reply)),
-        )
 
 abbrev Adds : List LogEntry → List LogEntry → Type 0
 Adds old new = (xs : List LogEntry) × (new ≡ old ++ xs)

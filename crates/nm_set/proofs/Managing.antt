@@ -8,9 +8,12 @@ use Rattle.std.proofs.lemmas.List.Elements.{Contains-append_left, Contains-appen
 use Rattle.std.proofs.lemmas.Option.{none-some, same_Some}
 use Rattle.nm_edge.specs.Layouts.{Layout}
 use Rattle.nm_model.specs.declared.event.Event.{Event}
+use Rattle.nm_model.specs.declared.event.Event.TheVariants.{Claim, Look}
+use Rattle.nm_model.specs.declared.event.Field.TheVariants.{Birth}
 use Rattle.nm_model.specs.declared.event.Op.{Op}
 use Rattle.nm_model.specs.declared.event.Op.TheVariants.{Has, Insert, Delete}
 use Rattle.nm_model.specs.declared.reply.Reply.{Reply}
+use Rattle.nm_model.specs.declared.reply.Reply.TheVariants.{BirthIs, Taken}
 use Rattle.nm_model.specs.Step.{last_number}
 use Rattle.nm_model.specs.declared.trace.Turn.{Turn}
 use Rattle.nm_progress.specs.Alone.{IsAlone, RunsAlone}
@@ -33,7 +36,8 @@ use Rattle.nm_calls.specs.Won.{HasWon}
 use Rattle.nm_calls.specs.declared.deleting.Unfinished.{Unfinished}
 use Rattle.nm_calls.specs.declared.fault.CallFault.{CallFault}
 use Rattle.nm_calls.specs.declared.fault.CallFault.TheVariants as fault
-use Rattle.nm_tree.specs.Answers.{FailsAlone, FinishHasMoment, FinishTold, links_won, flags_won}
+use Rattle.nm_tree.specs.Answers.{FailsAlone, FinishHasMoment, FinishTold, FoundNoSlot, FreesNone, HasMade, links_won, flags_won}
+use Rattle.nm_tree.proofs.Answered.{found_ever}
 use Rattle.nm_tree.specs.Calls.{LeavesHas, LeavesInsert, LeavesDelete, LeavesAdvance, LeavesCollect, SaysFinish}
 use Rattle.nm_tree.specs.Workers.{WorkerView, IsIdle, KeepsOtherQueues, waiting_in}
 use Rattle.nm_tree.proofs.Taking.{moment_since}
@@ -43,7 +47,7 @@ use Rattle.nm_set.specs.declared.fault.Fullness.{Fullness}
 use Rattle.nm_set.specs.declared.fault.InsertFault.{InsertFault}
 use Rattle.nm_set.specs.declared.fault.InsertFault.TheVariants as inserting
 use Rattle.nm_set.specs.declared.managed.Options.{Options}
-use Rattle.nm_set.specs.Managed.{Answers, Collects, FindsBehind, GoesOn, HasFoundElsewhere, HasMade, HasSighted, IsLeft, FinishesFirst, IsFullIn, IsReadyIn, Manages, ManagesIn, MetInterference, OnlyLoses, Prepares, Since, WasFull, flags_told_by, interfering, links_told_by, of_insert, round_bound}
+use Rattle.nm_set.specs.Managed.{Answers, Collects, FindsBehind, GoesOn, HasFoundElsewhere, HasSighted, IsLeft, FinishesFirst, IsFullIn, IsReadyIn, Manages, ManagesIn, MetInterference, OnlyLoses, Prepares, Since, WasFull, flags_told_by, interfering, links_told_by, of_insert, round_bound}
 use Rattle.nm_set.specs.Rounds.{AnswersIn, FinishesIn, Inserts, IsKnown, IsOnward, IsReady, IsRelieved, ManagesInsert, Removes, WereBusy, plain, rounds_bound, with_fullness}
 
 -- nothing is not there
@@ -260,7 +264,7 @@ finds_since o p q z behind first last found =
     (since_within o p q z first last (FindsBehind p.view.number behind) (finds_within p.view.number behind) found)
 
 -- a collection serves a call that began before it
-pub collects_since : (m : ℕ) (w x : WorkerView) (y q : PassView) → IsKnown w → IsKnown x → GoesOn m w x → Follows x.pass y → Follows y q → Collects x y → Collects w q
+pub collects_since : (m : ℕ) (w x : WorkerView) (y q : PassView) → IsKnown w → IsKnown x → GoesOn m w x → HasSeenAllOf y x.pass → Follows y q → Collects x y → Collects w q
 collects_since m w x y q known later on first last (inl found) = inl (subst (λ (v : ℕ). Since w.pass q (HeldBack v)) (number_of_pass w.pass x.pass on.same) (since_within w.pass x.pass y q (record { same = on.same; past = on.past }) last (HeldBack x.pass.view.number) grows found))
   where
     HeldBack : ℕ → List Turn → Type 0
@@ -269,7 +273,7 @@ collects_since m w x y q known later on first last (inl found) = inl (subst (λ 
     grows : (xs ys zs : List Turn) → ((i : ℕ) × HasFoundElsewhere x.pass.view.number i ys) ⊎ HasSighted x.pass.view.number ys last_number → ((i : ℕ) × HasFoundElsewhere x.pass.view.number i (xs ++ (ys ++ zs))) ⊎ HasSighted x.pass.view.number (xs ++ (ys ++ zs)) last_number
     grows xs ys zs (inl (i, at)) = inl (i, found_within x.pass.view.number i xs ys zs at)
     grows xs ys zs (inr sighted) = inr (sighted_within x.pass.view.number last_number xs ys zs sighted)
-collects_since m w x y q known later on first last (inr frees) = inr (λ h there e waited. freed_longer q.view.past y.view.past e.node last.past.goes_on (freed_now w x y m known later on first.past frees h there e waited))
+collects_since m w x y q known later on first last (inr frees) = inr (λ h there e waited. freed_longer q.view.past y.view.past e.node last.past.goes_on (freed_now w x y m known later on first frees h there e waited))
 
 -- ---- interference
 
@@ -389,8 +393,8 @@ insert_left : (L : Layout) (t k : ℕ) (w z : WorkerView) (r : Result Bool CallF
 insert_left L t k w z (Ok answer) none l = l.says.told.1
 insert_left L t k w z (Err fault.Busy) none l = l.says.told.1
 insert_left L t k w z (Err fault.Pending) none l = none_there w.pending none l.says.told.0
-insert_left L t k w z (Err fault.Full) none l = (refl, l.says.told.1)
-insert_left L t k w z (Err fault.NoMemory) none l = (λ no. (let which = no in cc), l.says.told.0.1)
+insert_left L t k w z (Err fault.Full) none l = (refl, l.says.told.0.1, l.says.told.1)
+insert_left L t k w z (Err fault.NoMemory) none l = (λ no. (let which = no in cc), l.says.told.0.1, l.says.told.1)
 insert_left L t k w z (Err fault.Unfinished) none l = absurd l.says.told
 insert_left L t k w z (Err fault.Pinned) none l = absurd l.says.told
 
@@ -399,7 +403,7 @@ delete_left L t k w z (Ok answer) none l = l.says.told.1
 delete_left L t k w z (Err fault.Busy) none l = l.says.told.1
 delete_left L t k w z (Err fault.Pending) none l = none_there w.pending none l.says.told.0
 delete_left L t k w z (Err fault.Full) none l = absurd l.says.told
-delete_left L t k w z (Err fault.NoMemory) none l = (λ no. (let which = no in cc), l.says.told.0.1)
+delete_left L t k w z (Err fault.NoMemory) none l = (λ no. (let which = no in cc), l.says.told.0.1, l.says.told.1)
 delete_left L t k w z (Err fault.Unfinished) none l = (refl, l.says.told.1, l.says.told.2)
 delete_left L t k w z (Err fault.Pinned) none l = absurd l.says.told
 
@@ -472,7 +476,7 @@ pub had_none_insert : (L : Layout) (t k : ℕ) (w z : WorkerView) (r : Result Bo
 had_none_insert L t k w z (Ok answer) other l = l.says.told.0
 had_none_insert L t k w z (Err fault.Busy) other l = l.says.told.0
 had_none_insert L t k w z (Err fault.Pending) other l = absurd (other refl)
-had_none_insert L t k w z (Err fault.Full) other l = l.says.told.0
+had_none_insert L t k w z (Err fault.Full) other l = l.says.told.0.0
 had_none_insert L t k w z (Err fault.NoMemory) other l = l.says.told.0.0
 had_none_insert L t k w z (Err fault.Unfinished) other l = absurd l.says.told
 had_none_insert L t k w z (Err fault.Pinned) other l = absurd l.says.told
@@ -503,19 +507,32 @@ moment_if : (o p q : PassView) (op : Op) (k : ℕ) (r : Result Bool CallFault) �
 moment_if o p q op k (Ok answer) past m = moment_since o p q op k answer past m
 moment_if o p q op k (Err f) past m = tt
 
-pub left_since : {A : Type 0} (op : Op) (k : ℕ) (w x z : WorkerView) (r : Result A CallFault) → x.pending ≡ None → IsLeft op k x z r → IsLeft op k w z r
-left_since op k w x z (Ok answer) none left = left
-left_since op k w x z (Err fault.Busy) none left = left
-left_since op k w x z (Err fault.Full) none left = left
-left_since op k w x z (Err fault.NoMemory) none left = left
-left_since op k w x z (Err fault.Unfinished) none left = left
-left_since op k w x z (Err fault.Pending) none left = none_there x.pending none left.0
-left_since op k w x z (Err fault.Pinned) none left = absurd left
+-- slots that were tried since a moment were tried since an earlier one
+found_since : (o p q : PassView) → HasSeenAllOf p o → FoundNoSlot p q → FoundNoSlot o q
+found_since o p q past (turns, is, finds) = (
+  past.goes_on.more ++ turns,
+  is ∙ (ap (λ (l : List Turn). l ++ turns) past.goes_on.is ∙ append_assoc o.view.past past.goes_on.more turns),
+  λ s low high. by s (finds s low high),
+)
+  where
+    by : (s : ℕ) → HasMade q.view.number turns (Claim s) Taken ⊎ HasMade q.view.number turns (Look s Birth) (BirthIs last_number)
+        → HasMade q.view.number (past.goes_on.more ++ turns) (Claim s) Taken ⊎ HasMade q.view.number (past.goes_on.more ++ turns) (Look s Birth) (BirthIs last_number)
+    by s (inl made) = inl (Contains-append_right past.goes_on.more turns _ made)
+    by s (inr made) = inr (Contains-append_right past.goes_on.more turns _ made)
+
+pub left_since : {A : Type 0} (op : Op) (k : ℕ) (w x z : WorkerView) (r : Result A CallFault) → HasSeenAllOf x.pass w.pass → x.pending ≡ None → IsLeft op k x z r → IsLeft op k w z r
+left_since op k w x z (Ok answer) past none left = left
+left_since op k w x z (Err fault.Busy) past none left = left
+left_since op k w x z (Err fault.Full) past none left = (left.0, left.1, found_since w.pass x.pass z.pass past left.2)
+left_since op k w x z (Err fault.NoMemory) past none left = left
+left_since op k w x z (Err fault.Unfinished) past none left = left
+left_since op k w x z (Err fault.Pending) past none left = none_there x.pending none left.0
+left_since op k w x z (Err fault.Pinned) past none left = absurd left
 
 pub answers_since : (op : Op) (k m n s t : ℕ) (w x z : WorkerView) (r : Result Bool CallFault) → IsOnward m w x → (r ≡ busy → MetInterference op w.pass z.pass t) → (RunsAlone w.pass z.pass → r ≡ busy → t ≡ 0) → Answers op k n s x z r → Answers op k (m + n) t w z r
 answers_since op k m n s t w x z r first met alone a = record {
   moment = moment_if w.pass x.pass z.pass op k r first.on.past a.moment;
-  left = left_since op k w x z r first.none a.left;
+  left = left_since op k w x z r first.on.past first.none a.left;
   won = wins_after (links_told_by op r) (flags_told_by op r) w x z first.won a.won;
   on = goes_then w x z first.on a.on;
   busy = met;
@@ -604,8 +621,8 @@ module _ (b : TreeView) (h : Options) (op : Op) where
 -- ---- going on with a remove
 
 module _ (b : TreeView) (h : Options) where
-  pub finishes_once : (w z : WorkerView) (r : Result Bool CallFault) → w.held ≡ None → (IsAlone w.pass z.pass → IfErr r (FailsAlone 1 1 h.tries z)) → SaysFinish b.layout h.tries w z r → FinishesIn b h 1 w z r
-  finishes_once w z r free alone l =
+  pub finishes_once : (w z : WorkerView) (r : Result Bool CallFault) → w.held ≡ None → (IsAlone w.pass z.pass → IfErr r (FailsAlone 1 1 h.tries z)) → FreesNone w z → SaysFinish b.layout h.tries w z r → FinishesIn b h 1 w z r
+  finishes_once w z r free alone frees l =
       let one = suc-mul 0 (round_bound h.tries b.layout) in
       record {
         on = goes_more (round_bound h.tries b.layout) (1 * round_bound h.tries b.layout) w z (omega (arith, one)) (record {
@@ -620,10 +637,11 @@ module _ (b : TreeView) (h : Options) where
         moment = l.moment;
         won = l.won;
         alone = alone;
+        frees = frees;
       }
 
   pub finishes_more : (m n : ℕ) (w z : WorkerView) (r : Result Bool CallFault) → m ≤ n → FinishesIn b h m w z r → FinishesIn b h n w z r
-  finishes_more m n w z r few a = record { on = goes_more (m * round_bound h.tries b.layout) (n * round_bound h.tries b.layout) w z (mul-le-mul_right (round_bound h.tries b.layout) few) a.on; told = a.told; moment = a.moment; won = a.won; alone = a.alone }
+  finishes_more m n w z r few a = record { on = goes_more (m * round_bound h.tries b.layout) (n * round_bound h.tries b.layout) w z (mul-le-mul_right (round_bound h.tries b.layout) few) a.on; told = a.told; moment = a.moment; won = a.won; alone = a.alone; frees = a.frees }
 
   told_since : (w x z : WorkerView) (r : Result Bool CallFault) → FinishTold w x (Err fault.Unfinished) → FinishTold x z r → FinishTold w z r
   told_since w x z (Ok true) first last = (first.0, last.1)
@@ -652,6 +670,7 @@ module _ (b : TreeView) (h : Options) where
         moment = moment_after w x z r (record { same = first.on.same; past = first.on.past }) first.told.1 last.moment;
         won = wins_after 0 0 w x z first.won last.won;
         alone = λ alone. last.alone (alone_later w.pass x.pass z.pass first.on.same first.on.past last.on.past alone);
+        frees = last.frees ∙ first.frees;
       }
 
   -- n calls so far left it pending: whatever comes after them comes after their rounds
@@ -762,8 +781,9 @@ pending_manages b h op k w z f =
       };
       full = λ is. absurd (let no = is in cc);
       begins = λ other. absurd (other refl);
-      alone = λ runs. tt;
+      alone = λ runs. subst IsSome (sym f.told.1) f.told.0;
       pending = λ alone is. f.alone alone;
+      frees = λ map. f.frees;
     }
 
 -- why it failed alone
@@ -771,16 +791,16 @@ managed_fails : (h : Options) (op : Op) (k m : ℕ) (y z : WorkerView) (r : Resu
 managed_fails h op k m y z (Ok answer) a runs last = tt
 managed_fails h op k m y z (Err fault.Busy) a runs last = let none = none_each (h.rounds + 1) h.tries (omega arith) (a.alone runs refl) in omega (arith, none)
 managed_fails h op k m y z (Err fault.Unfinished) a runs last = last refl
-managed_fails h op k m y z (Err fault.Full) a runs last = tt
-managed_fails h op k m y z (Err fault.NoMemory) a runs last = tt
-managed_fails h op k m y z (Err fault.Pending) a runs last = tt
-managed_fails h op k m y z (Err fault.Pinned) a runs last = tt
+managed_fails h op k m y z (Err fault.Full) a runs last = found_ever y.pass z.pass a.left.2
+managed_fails h op k m y z (Err fault.NoMemory) a runs last = a.left.2
+managed_fails h op k m y z (Err fault.Pending) a runs last = subst IsSome (sym a.left.1) a.left.0
+managed_fails h op k m y z (Err fault.Pinned) a runs last = absurd a.left
 
 -- the operation, after what came before it
 pub manages_in : (map : Bool) (b : TreeView) (h : Options) (op : Op) (k m n : ℕ) (w y z : WorkerView) (r : Result Bool CallFault) → m + n ≤ 3 * h.rounds + 5 → IsOnward (rounds_bound b h m) w y → IsReadyIn map h op w y.pass
     → Answers op k (rounds_bound b h n) ((h.rounds + 1) * h.tries) y z r → (r ≡ Err fault.Full → IsFullIn map w z)
-    → (IsAlone y.pass z.pass → r ≡ Err fault.Unfinished → FailsAlone 1 1 h.tries z fault.Unfinished) → ManagesIn map b h op k w z r
-manages_in map b h op k m n w y z r few on first a full last =
+    → (IsAlone y.pass z.pass → r ≡ Err fault.Unfinished → FailsAlone 1 1 h.tries z fault.Unfinished) → (map ≡ true → FreesNone w z) → ManagesIn map b h op k w z r
+manages_in map b h op k m n w y z r few on first a full last frees =
     let most = round_bound h.tries b.layout in
     let sum = add-mul m n most in
     let le = mul-le-mul_right most few in
@@ -791,6 +811,7 @@ manages_in map b h op k m n w y z r few on first a full last =
       begins = λ other. (y.pass, first, a.moment);
       alone = λ runs. (let more = runs_on w y z on.on a.on runs in managed_fails h op k (rounds_bound b h n) y z r a more (last more.alone));
       pending = λ mine is. still mine is;
+      frees = frees;
     }
   where
     still : IsAlone w.pass z.pass → (r ≡ Err fault.Pending) ⊎ (r ≡ Err fault.Unfinished) → FailsAlone 1 1 h.tries z fault.Unfinished
@@ -801,7 +822,7 @@ manages_in map b h op k m n w y z r few on first a full last =
 pub manages : (b : TreeView) (h : Options) (op : Op) (k m n : ℕ) (w y z : WorkerView) (r : Result Bool CallFault) → m + n ≤ 3 * h.rounds + 5 → IsOnward (rounds_bound b h m) w y → Prepares h op w y.pass
     → Answers op k (rounds_bound b h n) ((h.rounds + 1) * h.tries) y z r → (r ≡ Err fault.Full → (f : Fullness) × WasFull w z f)
     → (IsAlone y.pass z.pass → r ≡ Err fault.Unfinished → FailsAlone 1 1 h.tries z fault.Unfinished) → Manages b h op k w z r
-manages b h op k m n w y z r few on first a full last = manages_in false b h op k m n w y z r few on first a full last
+manages b h op k m n w y z r few on first a full last = manages_in false b h op k m n w y z r few on first a full last (λ is. absurd (true≢false (sym is)))
 
 -- which was the first thing that it did
 pub manages_at_once : (b : TreeView) (h : Options) (op : Op) (k n : ℕ) (w z : WorkerView) (r : Result Bool CallFault) → n ≤ 3 * h.rounds + 5 → w.held ≡ None → w.pending ≡ None → (op ≢ Has → h.collect_after ≤ waiting_in w.queues → ⊥)
@@ -869,10 +890,13 @@ module _ (b : TreeView) (h : Options) (k : ℕ) (w : WorkerView) where
     to_y : IsOnward ((h.rounds + 1) * round + round) w y
     to_y = onward_then ((h.rounds + 1) * round) round w x y to_x (relieved_in_round h.tries b.layout x y relieved.onward)
 
-    found : WasFull w z (record { waiting = waiting_in z.queues; behind = behind })
-    found = record {
+    found : r ≡ Err fault.Full → WasFull w z (record { waiting = waiting_in z.queues; behind = behind })
+    found is = record {
       finds = finds_since w.pass x.pass y.pass z.pass behind (record { same = first.on.same; past = first.on.past }) (record { same = last.on.same; past = last.on.past }) relieved.finds;
-      collects = collects_since (rounds_bound b h (h.rounds + 1)) w x y.pass z.pass known tried first.on (record { same = relieved.onward.on.same; past = relieved.onward.on.past }) (record { same = last.on.same; past = last.on.past }) relieved.collects;
+      collected = y.pass;
+      after = to_y.on.past;
+      collects = collects_since (rounds_bound b h (h.rounds + 1)) w x y.pass y.pass known tried first.on relieved.onward.on.past (follows_itself y.pass) relieved.collects;
+      tried = (subst (IsLeft Insert k y z) is last.left).2;
       waiting = refl;
     }
 
@@ -886,14 +910,17 @@ module _ (b : TreeView) (h : Options) (k : ℕ) (w : WorkerView) where
           answers = subst (λ (q : Result Bool CallFault). Answers Insert k (rounds_bound b h (2 * h.rounds + 3)) ((h.rounds + 1) * h.tries) w z q) (sym (fullness_told behind (waiting_in z.queues) r))
               (answers_more Insert k (((h.rounds + 1) * round + round) + (h.rounds + 1) * round) ((2 * h.rounds + 3) * round) ((h.rounds + 1) * h.tries) ((h.rounds + 1) * h.tries) w z r (omega (arith, sum, whole, le, single)) (λ _. refl)
               (answers_after Insert k ((h.rounds + 1) * round + round) ((h.rounds + 1) * round) ((h.rounds + 1) * h.tries) w y z r to_y last));
-          full = λ is. (record { waiting = waiting_in z.queues; behind = behind }, ap (with_fullness behind (waiting_in z.queues)) (sym (fullness_told behind (waiting_in z.queues) r) ∙ is), found);
+          full = λ is. (record { waiting = waiting_in z.queues; behind = behind }, ap (with_fullness behind (waiting_in z.queues)) (sym (fullness_told behind (waiting_in z.queues) r) ∙ is), found (sym (fullness_told behind (waiting_in z.queues) r) ∙ is));
         }
 
 -- what was full after something had come before
 pub full_since : (m : ℕ) (w y z : WorkerView) (f : Fullness) → IsKnown w → IsKnown y → GoesOn m w y → Follows y.pass z.pass → WasFull y z f → WasFull w z f
 full_since m w y z f known later on last full = record {
   finds = finds_since w.pass y.pass z.pass z.pass f.behind (record { same = on.same; past = on.past }) (follows_itself z.pass) full.finds;
-  collects = collects_since m w y z.pass z.pass known later on last (follows_itself z.pass) full.collects;
+  collected = full.collected;
+  after = seen_through w.pass y.pass full.collected on.past full.after;
+  collects = collects_since m w y full.collected full.collected known later on full.after (follows_itself full.collected) full.collects;
+  tried = full.tried;
   waiting = full.waiting;
 }
 

@@ -1,6 +1,6 @@
 -- What managed calls of a map leave, by what each part of them leaves.
-use Rattle.std.proofs.Common.{◌≡◌, ◌≢◌, ◌≤◌, inl, inr, ℕ, ◌+◌, ◌*◌, Bool, true, false, List, length, refl, sym, ap, subst, ◌∙◌, arith}
-use Rattle.std.specs.Prelude.{Option, Some, None, Result, Ok, Err, IfOk, IfErr}
+use Rattle.std.proofs.Common.{◌≡◌, ◌≢◌, ◌≤◌, inl, inr, ℕ, ◌+◌, ◌*◌, Bool, true, false, List, [], ◌∷◌, length, refl, sym, ap, subst, ◌∙◌, arith}
+use Rattle.std.specs.Prelude.{Option, Some, None, IsSome, Result, Ok, Err, IfOk, IfErr}
 use Rattle.std.proofs.Math.Nat.{add-mul, mul-add, zero-mul, mul-le-mul_right}
 use Rattle.std.proofs.lemmas.List.{length-append}
 use Rattle.std.proofs.lemmas.Option.{none-some}
@@ -14,12 +14,14 @@ use Rattle.nm_progress.proofs.RunningAlone.{alone_later}
 use Rattle.nm_steps.specs.Steps.{TreeView, PassView, HasSeen, HasSeenAllOf, IsSamePass}
 use Rattle.nm_steps.proofs.Seeing.{seen_itself, stores_same, stores_through}
 use Rattle.nm_walks.specs.Bounds.{reach}
+use Rattle.nm_calls.specs.InTurns.{GiveUp as GiveUpInTurns}
 use Rattle.nm_calls.specs.Maps.{HasTaken, MapGave}
 use Rattle.nm_calls.specs.PlainWalks.{most_looks}
 use Rattle.nm_calls.specs.declared.fault.CallFault.{CallFault}
 use Rattle.nm_calls.specs.declared.fault.CallFault.TheVariants as fault
 use Rattle.nm_calls.proofs.MadeLeaves.{put_earlier}
-use Rattle.nm_tree.specs.Answers.{FailsAlone, IfTaken}
+use Rattle.nm_tree.specs.Answers.{FailsAlone, FreesNone, IfTaken, freed_in}
+use Rattle.nm_tree.proofs.Unfreed.{in_turns_unfreed, seen_frees_none}
 use Rattle.nm_tree.specs.Calls.{LeavesGet}
 use Rattle.nm_tree.specs.Workers.{WorkerView}
 use Rattle.nm_set.specs.Asked.{Asked}
@@ -28,7 +30,7 @@ use Rattle.nm_set.specs.Managed.{IsLeft, ManagesIn, MetInterference, SaysManaged
 use Rattle.nm_set.specs.MapRounds.{GetsIn, KeepsStores, LooksWereBusy, MovesValue, SaysRemoved}
 use Rattle.nm_set.specs.Maps.{AnswersGet, ManagesGet, PopsValue, SaysChange, TookMeanwhile, look_bound}
 use Rattle.nm_set.specs.Rounds.{AnswersIn, FinishesIn, IsOnward, Removes, rounds_bound}
-use Rattle.nm_set.proofs.Managing.{finished, finished_nothing, finishes_first, goes_more, goes_then, left_since, lose_same, manages_in, met_nothing, met_since, met_then, never_unfinished, none_there, number_of_pass, onward_itself, onward_more, onward_then, wins_after}
+use Rattle.nm_set.proofs.Managing.{finished, finished_nothing, finishes_first, goes_more, goes_then, left_since, lose_same, manages_in, met_nothing, met_since, met_then, never_full, never_unfinished, none_there, number_of_pass, onward_itself, onward_more, onward_then, wins_after}
 
 -- ---- an earlier moment
 
@@ -111,6 +113,11 @@ pub removed_from_map : (b : TreeView) (h : Options) (k : ℕ) (w z : WorkerView)
 removed_from_map b h k w z r (inl pinned) = inl pinned
 removed_from_map b h k w z r (inr (free, m)) = inr (free, record { answers = m.answers; alone = m.alone })
 
+-- which frees no node
+pub change_frees_none : (b : TreeView) (h : Options) (k : ℕ) (w z : WorkerView) (r : Result Bool CallFault) → SaysChange Delete b h k w z r → FreesNone w z
+change_frees_none b h k w z r (inl pinned) = ap (λ (v : WorkerView). freed_in v.pass.view.log) pinned.2
+change_frees_none b h k w z r (inr did) = did.1.frees refl
+
 -- a pop took a value after all that had been seen earlier, too
 pub pops_earlier : (o p q : PassView) (v : ℕ) (r : Result (Option ℕ) CallFault) → HasSeenAllOf p o → PopsValue p q v r → PopsValue o q v r
 pops_earlier o p q v (Ok (Some k)) seen took = record { then = took.then; taken = taken_earlier o p took.then k v seen took.taken; seen = took.seen; until = took.until; same = took.same }
@@ -136,9 +143,13 @@ met_once p q t some (inl none) = absurd (omega (arith, some, none))
 met_once p q t some (inr (inl moved)) = (moved.turns, moved.is, let many = moved.moved in omega (arith, many, some))
 met_once p q t some (inr (inr (shape, r))) = (r.turns, r.is, let many = r.reshaped in omega (arith, many))
 
+-- a look-up of a value frees no node
+get_frees_none : (L : Layout) (t k : ℕ) (w z : WorkerView) (r : Result (Option ℕ) CallFault) → LeavesGet L t k w z r → FreesNone w z
+get_frees_none L t k w z r l = seen_frees_none (GiveUpInTurns L (k ∷ [])) (in_turns_unfreed L (k ∷ [])) t (most_looks (reach L) 1) w z r l.did
+
 -- one of them
 abbrev GetsOnce : Layout → ℕ → ℕ → WorkerView → WorkerView → Result (Option ℕ) CallFault → Type 0
-GetsOnce L t k w z r = AnswersGet k (look_bound t L) 1 t w z r × KeepsStores w z
+GetsOnce L t k w z r = AnswersGet k (look_bound t L) 1 t w z r × KeepsStores w z × FreesNone w z
 
 pub gets_once : (L : Layout) (t k : ℕ) (w z : WorkerView) (r : Result (Option ℕ) CallFault) → w.held ≡ None → w.pending ≡ None → Asked (LeavesGet L t k) w z r → GetsOnce L t k w z r
 gets_once L t k w z r free none (inl pinned) = none_there w.held free pinned.0
@@ -160,6 +171,7 @@ gets_once L t k w z r free none (inr did) =
         alone = λ mine is. l.alone mine is;
       },
       l.stores,
+      get_frees_none L t k w z r l,
     )
 
 module _ (b : TreeView) (h : Options) where
@@ -173,32 +185,35 @@ module _ (b : TreeView) (h : Options) where
         onward = onward_more 0 (0 * one) w w (omega (arith, nothing)) (onward_itself w none free);
         met = λ some. met_nothing Has w.pass;
         stores = stores_same w.pass.view.stores w.pass.view.stores refl;
+        frees = refl;
       }
 
   pub looked_again : (k n : ℕ) (w x z : WorkerView) → LooksWereBusy b h n w x → GetsOnce b.layout h.tries k x z (Err fault.Busy) → LooksWereBusy b h (n + 1) w z
-  looked_again k n w x z first (a, more) =
+  looked_again k n w x z first (a, more, none) =
       let steps = add-mul n 1 one in
       record {
         onward = onward_more (n * one + one) ((n + 1) * one) w z (omega (arith, steps)) (onward_then (n * one) one w x z first.onward (record { on = a.on; none = a.left; won = a.won }));
         met = λ some. met_then Has n 1 w.pass x.pass z.pass (number_of_pass w.pass x.pass first.onward.on.same) (first.met some) (a.busy refl some);
         stores = stores_through w.pass.view.stores x.pass.view.stores z.pass.view.stores first.stores more;
+        frees = none ∙ first.frees;
       }
 
   -- the last of at most `rounds` look-ups, after n that were busy
   pub looked_last : (k n rounds : ℕ) (w x z : WorkerView) (r : Result (Option ℕ) CallFault) → n + 1 ≤ rounds → (r ≡ Err fault.Busy → n + 1 ≡ rounds) → LooksWereBusy b h n w x → GetsOnce b.layout h.tries k x z r → GetsIn b h k rounds w z r
-  looked_last k n rounds w x z r few all first (a, more) =
+  looked_last k n rounds w x z r few all first (a, more, none) =
       let steps = add-mul n 1 one in
       let le = mul-le-mul_right one few in
       record {
         answers = record {
           moment = gave_if w.pass x.pass z.pass k r first.onward.on.past a.moment;
-          left = left_since Has k w x z r first.onward.none a.left;
+          left = left_since Has k w x z r first.onward.on.past first.onward.none a.left;
           won = wins_after 0 0 w x z first.onward.won a.won;
           on = goes_more (n * one + one) (rounds * one) w z (omega (arith, steps, le)) (goes_then w x z first.onward.on a.on);
           busy = λ is some. subst (MetInterference Has w.pass z.pass) (all is) (met_then Has n 1 w.pass x.pass z.pass (number_of_pass w.pass x.pass first.onward.on.same) (first.met some) (a.busy is some));
           alone = λ mine is. a.alone (alone_later w.pass x.pass z.pass first.onward.on.same first.onward.on.past a.on.past mine) is;
         };
         stores = stores_through w.pass.view.stores x.pass.view.stores z.pass.view.stores first.stores more;
+        frees = none ∙ first.frees;
       }
 
   -- one look-up that is not busy, or the only one
@@ -207,19 +222,20 @@ module _ (b : TreeView) (h : Options) where
 
   -- n look-ups after one that was busy
   pub gets_at_last : (k n : ℕ) (w x z : WorkerView) (r : Result (Option ℕ) CallFault) → GetsOnce b.layout h.tries k w x (Err fault.Busy) → GetsIn b h k n x z r → GetsIn b h k (1 + n) w z r
-  gets_at_last k n w x z r (first, seen) gets =
+  gets_at_last k n w x z r (first, seen, none) gets =
       let a = gets.answers in
       let steps = add-mul 1 n one in
       record {
         answers = record {
           moment = gave_if w.pass x.pass z.pass k r first.on.past a.moment;
-          left = left_since Has k w x z r first.left a.left;
+          left = left_since Has k w x z r first.on.past first.left a.left;
           won = wins_after 0 0 w x z first.won a.won;
           on = goes_more (one + n * one) ((1 + n) * one) w z (omega (arith, steps)) (goes_then w x z first.on a.on);
           busy = λ is some. met_then Has 1 n w.pass x.pass z.pass (number_of_pass w.pass x.pass first.on.same) (first.busy refl some) (a.busy is some);
           alone = λ mine is. a.alone (alone_later w.pass x.pass z.pass first.on.same first.on.past a.on.past mine) is;
         };
         stores = stores_through w.pass.view.stores x.pass.view.stores z.pass.view.stores seen gets.stores;
+        frees = gets.frees ∙ none;
       }
 
 -- ---- the three calls
@@ -229,10 +245,10 @@ get_fails : (b : TreeView) (h : Options) (k n : ℕ) (y z : WorkerView) (r : Res
 get_fails b h k n y z (Ok answer) a mine = tt
 get_fails b h k n y z (Err fault.Busy) a mine = let none = a.alone mine refl in omega (arith, none)
 get_fails b h k n y z (Err fault.Unfinished) a mine = absurd (let no = a.left.0 in cc)
-get_fails b h k n y z (Err fault.Full) a mine = tt
-get_fails b h k n y z (Err fault.NoMemory) a mine = tt
-get_fails b h k n y z (Err fault.Pending) a mine = tt
-get_fails b h k n y z (Err fault.Pinned) a mine = tt
+get_fails b h k n y z (Err fault.Full) a mine = absurd (let no = a.left.0 in cc)
+get_fails b h k n y z (Err fault.NoMemory) a mine = a.left.2
+get_fails b h k n y z (Err fault.Pending) a mine = subst IsSome (sym a.left.1) a.left.0
+get_fails b h k n y z (Err fault.Pinned) a mine = absurd a.left
 
 module _ (b : TreeView) (h : Options) (k : ℕ) (w y : WorkerView) (answer : Bool) (f : FinishesIn b h (h.rounds + 1) w y (Ok answer)) where
   abbrev came : IsOnward (rounds_bound b h (h.rounds + 1)) w y
@@ -247,7 +263,7 @@ module _ (b : TreeView) (h : Options) (k : ℕ) (w y : WorkerView) (answer : Boo
       record {
         answers = record {
           moment = gave_if w.pass y.pass z.pass k r came.on.past a.moment;
-          left = left_since Has k w y z r came.none a.left;
+          left = left_since Has k w y z r came.on.past came.none a.left;
           won = wins_after 0 0 w y z came.won a.won;
           on = goes_more ((h.rounds + 1) * round + (h.rounds + 1) * looks) ((h.rounds + 1) * (round + looks)) w z (omega (arith, sum)) (goes_then w y z came.on a.on);
           busy = λ is some. met_since Has (h.rounds + 1) w.pass y.pass z.pass (record { same = came.on.same; past = came.on.past }) (a.busy is some);
@@ -257,14 +273,15 @@ module _ (b : TreeView) (h : Options) (k : ℕ) (w y : WorkerView) (answer : Boo
         stores = λ none. subst (λ (v : WorkerView). KeepsStores v z) (finished_nothing b h (h.rounds + 1) w y answer none f) gets.stores;
         alone = λ mine. get_fails b h k ((h.rounds + 1) * looks) y z r a (alone_later w.pass y.pass z.pass came.on.same came.on.past a.on.past mine);
         pending = λ mine is. none_there y.pending came.none (subst (IsLeft Has k y z) is a.left).0;
+        frees = gets.frees ∙ f.frees;
       }
 
-  pub inserts_then : (z : WorkerView) (r : Result Bool CallFault) → AnswersIn b h Insert k (h.rounds + 1) y z r → ManagesIn true b h Insert k w z r
-  inserts_then z r a = manages_in true b h Insert k (h.rounds + 1) (h.rounds + 1) w y z r (omega arith) came (finishes_first b h (h.rounds + 1) w y answer f) a (λ is. tt)
-      (λ runs. never_unfinished Insert k _ _ y z r (λ is. (let no = is in cc)) a)
+  pub inserts_then : (z : WorkerView) (r : Result Bool CallFault) → FreesNone y z → AnswersIn b h Insert k (h.rounds + 1) y z r → ManagesIn true b h Insert k w z r
+  inserts_then z r none a = manages_in true b h Insert k (h.rounds + 1) (h.rounds + 1) w y z r (omega arith) came (finishes_first b h (h.rounds + 1) w y answer f) a (λ is. (left_since {A = Bool} Insert k w y z (Err fault.Full) came.on.past came.none (subst (IsLeft Insert k y z) is a.left)).2)
+      (λ runs. never_unfinished Insert k _ _ y z r (λ is. (let no = is in cc)) a) (λ map. none ∙ f.frees)
 
-  pub removes_then : (z : WorkerView) (r : Result Bool CallFault) → Removes b h k y z r → ManagesIn true b h Delete k w z r
-  removes_then z r a = manages_in true b h Delete k (h.rounds + 1) (2 * h.rounds + 2) w y z r (omega arith) came (finishes_first b h (h.rounds + 1) w y answer f) a.answers (λ is. tt) a.alone
+  pub removes_then : (z : WorkerView) (r : Result Bool CallFault) → FreesNone y z → Removes b h k y z r → ManagesIn true b h Delete k w z r
+  removes_then z r none a = manages_in true b h Delete k (h.rounds + 1) (2 * h.rounds + 2) w y z r (omega arith) came (finishes_first b h (h.rounds + 1) w y answer f) a.answers (never_full Delete k _ _ y z r (λ is. (let no = is in cc)) a.answers) a.alone (λ map. none ∙ f.frees)
 
 -- ---- a look-up with nothing to do first
 
@@ -311,6 +328,7 @@ gets_now b h k w z r free none gets =
       stores = λ none'. gets.stores;
       alone = λ mine. get_fails b h k ((h.rounds + 1) * looks) w z r a mine;
       pending = λ mine is. none_there w.pending none (subst (IsLeft Has k w z) is a.left).0;
+      frees = gets.frees;
     }
 
 -- a look-up that was answered, or the only one, which was busy
@@ -336,6 +354,7 @@ pending_get b h k w z f =
       };
       begins = λ other. absurd (other refl);
       stores = λ none. none_there w.pending none f.told.0;
-      alone = λ mine. tt;
+      alone = λ mine. subst IsSome (sym f.told.1) f.told.0;
       pending = λ mine is. f.alone mine;
+      frees = f.frees;
     }

@@ -1,6 +1,6 @@
 -- A key is taken by managed calls: what each round leaves, and what the call leaves after all of them.
 use Rattle.std.proofs.Common.{◌≡◌, ◌∙◌, ◌≤◌, inl, inr, ℕ, suc, ◌+◌, ◌*◌, Bool, true, false, [], append-nil, length, refl, sym, ap, subst, arith}
-use Rattle.std.specs.Prelude.{Option, Some, None, Result, Ok, Err, IfOk}
+use Rattle.std.specs.Prelude.{Option, Some, None, IsSome, Result, Ok, Err, IfOk}
 use Rattle.std.proofs.Math.Nat.{add-mul, suc-mul, mul-add, mul-le-mul_right}
 use Rattle.nm_edge.specs.Layouts.{Layout, IsLayout}
 use Rattle.nm_model.specs.declared.event.Op.TheVariants.{Delete}
@@ -153,7 +153,7 @@ module _ (end : End) (b : TreeView) (h : Options) (w : WorkerView) (none : w.pen
           alone = λ runs. (let less = t.alone (later t.answers.on runs) in omega (arith, less));
           pending = λ mine is. absurd (let no = is in cc);
         }
-        by fault.NoMemory t = record { took = tt; left = t.answers.left.1; won = wins_after 0 0 w x z l.won t.answers.won; on = both (Err fault.NoMemory) t; busy = λ is two. absurd (let no = is in cc); alone = λ runs. tt; pending = λ mine is. absurd (let no = is in cc) }
+        by fault.NoMemory t = record { took = tt; left = (t.answers.left.1, t.answers.left.2); won = wins_after 0 0 w x z l.won t.answers.won; on = both (Err fault.NoMemory) t; busy = λ is two. absurd (let no = is in cc); alone = λ runs. t.answers.left.2; pending = λ mine is. absurd (let no = is in cc) }
         by fault.Full t = absurd (let no = t.answers.left.0 in cc)
         by fault.Pinned t = absurd t.answers.left
         by fault.Pending t = none_there x.pending l.did.0.1 t.answers.left.0
@@ -248,4 +248,4 @@ pub pending_pops : (Among : ℕ → Type 0) (Before : ℕ → ℕ → Type 0) (b
 pending_pops Among Before b h w z f =
     let most = round_bound h.tries b.layout in
     let sum = mul-add (h.rounds + 1) most (pop_round_bound h b.layout) in
-    record { took = tt; left = f.told; won = f.won; on = goes_more ((h.rounds + 1) * most) (pop_rounds_bound h b.layout) w z (omega (arith, sum)) f.on; busy = λ is two. absurd (let no = is in cc); alone = λ runs. tt; pending = λ mine is. f.alone mine }
+    record { took = tt; left = f.told; won = f.won; on = goes_more ((h.rounds + 1) * most) (pop_rounds_bound h b.layout) w z (omega (arith, sum)) f.on; busy = λ is two. absurd (let no = is in cc); alone = λ runs. subst IsSome (sym f.told.1) f.told.0; pending = λ mine is. f.alone mine }

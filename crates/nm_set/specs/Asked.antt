@@ -4,7 +4,7 @@ use Rattle.std.specs.Prelude.{◌≡◌, ◌⊎◌, ℕ, Bool, None, IsSome, Res
 use Rattle.nm_edge.specs.Layouts.{Layout}
 use Rattle.nm_progress.specs.Alone.{IsAlone, RunsAlone}
 use Rattle.nm_progress.specs.Lost.{ChangeWasBusy}
-use Rattle.nm_tree.specs.Answers.{DeleteWasLost, FailsAlone, FinishWasLost}
+use Rattle.nm_tree.specs.Answers.{DeleteWasLost, FailsAlone, FinishWasLost, FreesNone}
 use Rattle.nm_calls.specs.declared.fault.CallFault.{CallFault}
 use Rattle.nm_calls.specs.declared.fault.CallFault.TheVariants as fault
 use Rattle.nm_tree.specs.declared.fault.PinFault.{PinFault}
@@ -36,7 +36,8 @@ AskedToUnpin w z (Err _) = (w.held ≡ None) × (z ≡ w)
 
 -- `SaysTryInsert`, `SaysTryRemove`, `SaysGoOn`: what a caller learns from an insert of the tree, and
 -- why it was busy; from a remove, and why it was busy or is not finished; and from a call that goes
--- on with a remove, and why that is not finished. `alone` is why the call failed if it ran alone
+-- on with a remove, and why that is not finished. `alone` is why the call failed if it ran alone. A call that
+-- goes on with a remove frees no node (`frees`)
 pub record SaysTryInsert (L : Layout) (tries k : ℕ) (w z : WorkerView) (r : Result Bool CallFault) : Type 0 where
   pub says : Asked (SaysInsert L tries k) w z r
   pub busy : r ≡ Err fault.Busy → ChangeWasBusy w.pass z.pass tries
@@ -52,3 +53,4 @@ pub record SaysGoOn (L : Layout) (tries : ℕ) (w z : WorkerView) (r : Result Bo
   pub says : SaysFinish L tries w z r
   pub unfinished : r ≡ Err fault.Unfinished → FinishWasLost tries w z
   pub alone : IsAlone w.pass z.pass → IfErr r (FailsAlone 1 1 tries z)
+  pub frees : FreesNone w z

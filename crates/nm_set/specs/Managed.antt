@@ -26,7 +26,8 @@ use Rattle.nm_calls.specs.Won.{HasWon}
 use Rattle.nm_calls.specs.declared.deleting.Unfinished.{Unfinished}
 use Rattle.nm_calls.specs.declared.fault.CallFault.{CallFault}
 use Rattle.nm_calls.specs.declared.fault.CallFault.TheVariants as fault
-use Rattle.nm_tree.specs.Answers.{FailsAlone}
+pub use Rattle.nm_tree.specs.Answers.{HasMade}
+use Rattle.nm_tree.specs.Answers.{FailsAlone, FoundNoSlot, FreesNone, LacksRoom}
 use Rattle.nm_tree.specs.Workers.{WorkerView, waiting_in}
 use Rattle.nm_set.specs.Asked.{UnlessPinned}
 use Rattle.nm_set.specs.declared.fault.Fullness.{Fullness}
@@ -69,10 +70,6 @@ abbrev pub MetInterference : Op → PassView → PassView → ℕ → Type 0
 MetInterference op p q times = Since p q (λ ts. times ≤ number_of (moves_of_others p.view.number) ts
     + number_of (interfering op p.view.number) ts)
 
--- among these turns worker w has made this event, with this reply
-abbrev pub HasMade : ℕ → List Turn → Event → Reply → Type 0
-HasMade w turns e r = Contains turns (record { worker = w; event = e; outcome = Ok r })
-
 -- among these turns worker w has read this epoch
 abbrev pub HasSighted : ℕ → List Turn → ℕ → Type 0
 HasSighted w turns epoch = (r : Reply) × (sight_epoch r ≡ Some epoch) × HasMade w turns Sight r
@@ -106,11 +103,13 @@ of_insert (Err (inserting.Other f)) = Err f
 
 -- which operation returns which error, and what is pending then: nothing, except after `Unfinished`
 -- and `Pending`. After `Unfinished` the key of this call is pending, after `Pending` the same key
--- as before
+-- as before. After `Full` the call has tried each slot, and after `NoMemory` the worker's own queue has
+-- less room than a try needs
 abbrev pub IsLeft : {A : Type 0} → Op → ℕ → WorkerView → WorkerView → Result A CallFault → Type 0
 IsLeft op k w z (Err fault.Pending) = IsSome w.pending × (z.pending ≡ w.pending)
-IsLeft op k w z (Err fault.Full) = (op ≡ Insert) × (z.pending ≡ None)
-IsLeft op k w z (Err fault.NoMemory) = (op ≢ Has) × (z.pending ≡ None)
+IsLeft op k w z (Err fault.Full) =
+    (op ≡ Insert) × (z.pending ≡ None) × FoundNoSlot w.pass z.pass
+IsLeft op k w z (Err fault.NoMemory) = (op ≢ Has) × (z.pending ≡ None) × LacksRoom z
 IsLeft op k w z (Err fault.Unfinished) =
     (op ≡ Delete) × (leaf : NodeId) × (z.pending ≡ Some (record { key = k; leaf = leaf }))
 IsLeft op k w z (Err fault.Pinned) = ⊥
@@ -160,28 +159,32 @@ pub record Prepares (h : Options) (op : Op) (w : WorkerView) (begun : PassView) 
   pub collects : op ≢ Has → w.pending ≡ None → h.collect_after ≤ waiting_in w.queues
       → Collects w begun
 
--- an insert that found no free slot found what holds memory back, and collected; `waiting` is how
--- many nodes wait when it returns
+-- an insert that found no free slot found what holds memory back, and collected. After the collection it
+-- tried each slot again, and got none; `waiting` is how many nodes wait when it returns
 pub record WasFull (w z : WorkerView) (f : Fullness) : Type 0 where
   pub finds : Since w.pass z.pass (FindsBehind w.pass.view.number f.behind)
-  pub collects : Collects w z.pass
+  pub collected : PassView
+  pub after : HasSeenAllOf collected w.pass
+  pub collects : Collects w collected
+  pub tried : FoundNoSlot collected z.pass
   pub waiting : f.waiting ≡ waiting_in z.queues
 
 -- `IsReadyIn`, `IsFullIn`: with what pass the operation begins, and what was so if no slot was free:
--- in a set (`false`), and in a map, where no managed call collects
+-- in a set (`false`), and in a map, where no managed call collects, and the call has tried each slot
 abbrev pub IsReadyIn : Bool → Options → Op → WorkerView → PassView → Type 0
 IsReadyIn false h op w begun = Prepares h op w begun
 IsReadyIn true h op w begun = FinishesFirst w begun
 
 abbrev pub IsFullIn : Bool → WorkerView → WorkerView → Type 0
 IsFullIn false w z = (f : Fullness) × WasFull w z f
-IsFullIn true w z = Unit {0}
+IsFullIn true w z = FoundNoSlot w.pass z.pass
 
 -- a managed call, of at most 3 `rounds` + 5 rounds: its answer, and what came before its operation,
 -- which is not made if an earlier remove stays pending. If it is `Busy`, the epoch was advanced or
 -- turns have interfered with it at least (`rounds` + 1) * `tries` times. If the worker ran alone, an
 -- error is due to a number of tries that is 0, to a lack of room, or to a full pool (`alone`). A
--- remove then stays pending for such a reason too, even if others have removes pending (`pending`)
+-- remove then stays pending for such a reason too, even if others have removes pending (`pending`). In
+-- a map the worker has freed no node (`frees`)
 pub record ManagesIn (map : Bool) (b : TreeView) (h : Options) (op : Op) (k : ℕ) (w z : WorkerView)
     (r : Result Bool CallFault) : Type 0 where
   pub answers : Answers op k ((3 * h.rounds + 5) * round_bound h.tries b.layout)
@@ -192,6 +195,7 @@ pub record ManagesIn (map : Bool) (b : TreeView) (h : Options) (op : Op) (k : �
   pub alone : RunsAlone w.pass z.pass → IfErr r (FailsAlone 1 1 h.tries z)
   pub pending : IsAlone w.pass z.pass → (r ≡ Err fault.Pending) ⊎ (r ≡ Err fault.Unfinished)
       → FailsAlone 1 1 h.tries z fault.Unfinished
+  pub frees : map ≡ true → FreesNone w z
 
 -- a managed call of a set
 abbrev pub Manages : TreeView → Options → Op → ℕ → WorkerView → WorkerView → Result Bool CallFault → Type 0

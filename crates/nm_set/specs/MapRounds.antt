@@ -7,7 +7,7 @@ use Rattle.nm_steps.specs.Steps.{PassView, TreeView}
 use Rattle.nm_calls.specs.Maps.{HasPut, HasTaken, MapGave}
 use Rattle.nm_calls.specs.declared.fault.CallFault.{CallFault}
 use Rattle.nm_progress.specs.Alone.{RunsAlone}
-use Rattle.nm_tree.specs.Answers.{FailsAlone, IfTaken}
+use Rattle.nm_tree.specs.Answers.{FailsAlone, FreesNone, IfTaken}
 use Rattle.nm_tree.specs.Workers.{WorkerView}
 use Rattle.nm_set.specs.declared.managed.Options.{Options}
 use Rattle.nm_set.specs.Asked.{UnlessPinned}
@@ -32,11 +32,13 @@ pub record LooksWereBusy (b : TreeView) (h : Options) (n : ℕ) (w z : WorkerVie
   pub onward : IsOnward (n * look_bound h.tries b.layout) w z
   pub met : 1 ≤ h.tries → MetInterference Has w.pass z.pass n
   pub stores : KeepsStores w z
+  pub frees : FreesNone w z
 
 -- at most n look-ups of a value, made until one is not busy
 pub record GetsIn (b : TreeView) (h : Options) (k n : ℕ) (w z : WorkerView) (r : Result (Option ℕ) CallFault) : Type 0 where
   pub answers : AnswersGet k (n * look_bound h.tries b.layout) n h.tries w z r
   pub stores : KeepsStores w z
+  pub frees : FreesNone w z
 
 -- `Removed`, `SaysRemoved`: what a pop learns from a managed remove, of a set or of a map
 pub record Removed (b : TreeView) (h : Options) (k : ℕ) (w z : WorkerView) (r : Result Bool CallFault) : Type 0 where

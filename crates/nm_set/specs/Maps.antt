@@ -16,7 +16,7 @@ use Rattle.nm_calls.specs.declared.fault.CallFault.{CallFault}
 use Rattle.nm_calls.specs.declared.fault.CallFault.TheVariants as fault
 use Rattle.nm_epoch.specs.declared.answers.Advance.{Advance}
 use Rattle.nm_epoch.specs.declared.handing.HandedOut.{HandedOut}
-use Rattle.nm_tree.specs.Answers.{FailsAlone}
+use Rattle.nm_tree.specs.Answers.{FailsAlone, FreesNone}
 use Rattle.nm_tree.specs.Calls.{LeavesAdvance, LeavesPinnedGet, LeavesPinnedGetMany}
 use Rattle.nm_tree.specs.Handing.{LeavesCollectValues}
 use Rattle.nm_tree.specs.Workers.{WorkerView}
@@ -95,7 +95,7 @@ pub record AnswersGet (k most rounds tries : ℕ) (w z : WorkerView) (r : Result
 -- a managed look-up of a value: its answer, and the remove of an earlier call, which it finished
 -- first. If the worker ran alone, an error is due to a number of tries that is 0 (`alone`), or the
 -- remove stays pending for a lack of room (`pending`). If no remove was pending, the worker has seen
--- all stores that it had seen (`stores`)
+-- all stores that it had seen (`stores`). It has freed no node (`frees`)
 pub record ManagesGet (b : TreeView) (h : Options) (k : ℕ) (w z : WorkerView) (r : Result (Option ℕ) CallFault) : Type 0 where
   pub answers : AnswersGet k
       ((h.rounds + 1) * (round_bound h.tries b.layout + look_bound h.tries b.layout)) (h.rounds + 1)
@@ -105,6 +105,7 @@ pub record ManagesGet (b : TreeView) (h : Options) (k : ℕ) (w z : WorkerView) 
   pub stores : w.pending ≡ None → ExtendsStores z.pass.view.stores w.pass.view.stores
   pub alone : IsAlone w.pass z.pass → IfErr r (FailsAlone 1 1 h.tries z)
   pub pending : IsAlone w.pass z.pass → r ≡ Err fault.Pending → FailsAlone 1 1 h.tries z fault.Unfinished
+  pub frees : FreesNone w z
 
 -- what a caller learns from a managed look-up of a value
 abbrev pub SaysGet : TreeView → Options → ℕ → WorkerView → WorkerView → Result (Option ℕ) CallFault → Type 0

@@ -10,7 +10,7 @@ use Rattle.nm_calls.specs.declared.deleting.Unfinished.{Unfinished}
 use Rattle.nm_calls.specs.declared.fault.CallFault.{CallFault}
 use Rattle.nm_calls.specs.declared.fault.CallFault.TheVariants as fault
 use Rattle.nm_progress.specs.Alone.{IsAlone, RunsAlone}
-use Rattle.nm_tree.specs.Answers.{FailsAlone}
+use Rattle.nm_tree.specs.Answers.{FailsAlone, LacksRoom}
 use Rattle.nm_tree.specs.Popping.{TakesOf, WereMissing}
 use Rattle.nm_tree.specs.Workers.{WorkerView}
 use Rattle.nm_set.specs.Asked.{UnlessPinned}
@@ -18,15 +18,17 @@ use Rattle.nm_set.specs.declared.managed.Options.{Options}
 use Rattle.nm_set.specs.Managed.{GoesOn, MetInterference, round_bound}
 
 -- which errors a pop returns, and what is pending then: nothing, except after `Unfinished` and
--- `Pending`. After `Unfinished` one of these keys is pending that was in the set at a moment
--- (linearization point) of the call, and each key before it was absent at a moment of its own; after
--- `Pending` the same key is pending as before
+-- `Pending`. After `NoMemory` the worker's own queue has less room than a try needs. After
+-- `Unfinished` one of these keys is pending that was in the set at a moment (linearization point) of
+-- the call, and each key before it was absent at a moment of its own; after `Pending` the same key is
+-- pending as before
 abbrev pub PopLeft : (ℕ → Type 0) → (ℕ → ℕ → Type 0) → WorkerView → WorkerView
     → Result (Option ℕ) CallFault → Type 0
 PopLeft Among Before w z (Err fault.Unfinished) =
     (n : Unfinished) × (z.pending ≡ Some n) × Among n.key × WasSo w.pass z.pass n.key true
     × WereMissing Before w.pass z.pass n.key
 PopLeft Among Before w z (Err fault.Pending) = IsSome w.pending × (z.pending ≡ w.pending)
+PopLeft Among Before w z (Err fault.NoMemory) = (z.pending ≡ None) × LacksRoom z
 PopLeft Among Before w z (Err fault.Full) = ⊥
 PopLeft Among Before w z (Err fault.Pinned) = ⊥
 PopLeft Among Before w z _ = z.pending ≡ None

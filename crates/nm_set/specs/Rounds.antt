@@ -10,7 +10,7 @@ use Rattle.nm_epoch.specs.declared.answers.Advance.TheVariants as advance
 use Rattle.nm_calls.specs.Won.{HasWon}
 use Rattle.nm_calls.specs.declared.fault.CallFault.{CallFault}
 use Rattle.nm_calls.specs.declared.fault.CallFault.TheVariants as fault
-use Rattle.nm_tree.specs.Answers.{FailsAlone, FinishHasMoment, FinishTold}
+use Rattle.nm_tree.specs.Answers.{FailsAlone, FinishHasMoment, FinishTold, FreesNone}
 use Rattle.nm_tree.specs.Workers.{WorkerView, IsBetweenCalls}
 use Rattle.nm_set.specs.declared.fault.Fullness.{Fullness}
 use Rattle.nm_set.specs.declared.fault.InsertFault.{InsertFault}
@@ -44,13 +44,15 @@ abbrev pub AnswersIn : TreeView → Options → Op → ℕ → ℕ → WorkerVie
 AnswersIn b h op k n = Answers op k (rounds_bound b h n) (n * h.tries)
 
 -- a call that goes on with a pending remove, in at most n rounds. If the worker ran alone and the
--- remove is not finished, the number of tries is 0, or the worker lacks room (`alone`)
+-- remove is not finished, the number of tries is 0, or the worker lacks room (`alone`). It has freed no
+-- node (`frees`)
 pub record FinishesIn (b : TreeView) (h : Options) (n : ℕ) (w z : WorkerView) (r : Result Bool CallFault) : Type 0 where
   pub on : GoesOn (rounds_bound b h n) w z
   pub told : FinishTold w z r
   pub moment : FinishHasMoment w z r
   pub won : HasWon w.pass.view.log z.pass.view.log 0 0
   pub alone : IsAlone w.pass z.pass → IfErr r (FailsAlone 1 1 h.tries z)
+  pub frees : FreesNone w z
 
 -- the worker that an advance found announcing another epoch than the one that it read; of two
 -- advances the one that the second found, or else the one that the first found

@@ -3,6 +3,7 @@
 ghost use Rattle.std.specs.Prelude.{◌≡◌, ◌≢◌, ◌≤◌, ◌<◌, ◌+◌, ◌-◌, true, false, None, IfOk, IfErr, Err};
 ghost use Rattle.nm_model.specs.declared.event.Op.TheVariants.{Has, Insert, Delete};
 ghost use Rattle.nm_calls.specs.declared.fault.CallFault.TheVariants as call;
+ghost use Rattle.nm_tree.specs.Answers.{FreesNone};
 ghost use Rattle.nm_tree.specs.Calls.{LeavesHas, LeavesInsert, LeavesDelete};
 ghost use Rattle.nm_steps.specs.Values.{HasValues};
 ghost use Rattle.nm_tree.specs.Workers.{IsIdle, WorkerView, waiting_in};
@@ -129,7 +130,8 @@ impl Member {
     ///
     /// It retries a look-up that lost each of its tries, at most `rounds` times. If the remove of
     /// an earlier call is pending, it finishes that one first, by at most `rounds` and one calls of
-    /// `finish`. So nothing is pending after an answer, and after `Busy`.
+    /// `finish`. So nothing is pending after an answer, and after `Busy`. Proved (`frees`): it frees no
+    /// node.
     ///
     /// Errors: `Pinned`: the caller has pinned the worker; nothing has changed. `Pending`: the
     /// earlier remove is not finished, and this call has done nothing else. `Busy`: each look-up
@@ -142,6 +144,7 @@ impl Member {
         ensures tree { self.new.tree ≡ self.old.tree }
         ensures says { SaysManaged Has self.old.tree options.now key self.old.worker
             self.new.worker result }
+        ensures frees { FreesNone self.old.worker self.new.worker }
     {
         if self.pinned().is_some() {
             return Err(CallFault::Pinned);
@@ -165,11 +168,12 @@ impl Member {
     /// `Full` and `NoMemory`.
     ///
     /// Errors: `Pinned`, `Pending`, `Busy`: as of `contains`. `Full`: no slot was free for a new
-    /// node, before a collection and after it. It names the worker that was found to hold the epoch back,
+    /// node, before a collection and after it. Proved (`full`): after the collection the call tried each
+    /// slot, and got none. It names the worker that was found to hold the epoch back,
     /// or says that none was found; then the epoch was advanced twice during the call, or it is the
     /// last one. It also says how many removed nodes wait when the call ends. (The tree's own `Full`
     /// is not returned.) `NoMemory`: the memory for a try was refused; of the insert nothing remains
-    /// but help given to others. Proved (`alone`, `pending`): no other error, as for `contains`.
+    /// but help given to others. Proved: the worker's own queue then has less room than a try needs. Proved (`alone`, `pending`): no other error, as for `contains`.
     #[inline(always)]
     pub fn insert(&mut self, key: Key, options: &Options) -> Result<bool, InsertFault>
         ensures tree { self.new.tree ≡ self.old.tree }
@@ -256,6 +260,7 @@ impl Member {
         ensures says { (w : WorkerView) → w.held ≡ None
             → LeavesHas self.old.tree.layout options.now.tries key w self.old.worker (Err fault)
             → Manages self.old.tree options.now Has key w self.new.worker result }
+        ensures frees { FreesNone self.old.worker self.new.worker }
     {
         if !is_pending(fault) {
             return self.retry(Op::Has, key, options, fault);
@@ -470,6 +475,7 @@ impl Member {
             self.old.worker (Err fault)
             → AnswersIn self.old.tree options.now op key (options.now.rounds + 1) w
             self.new.worker result }
+        ensures frees { FreesNone self.old.worker self.new.worker }
     {
         let told = Err(fault);
         if !is_busy(&told) || options.rounds == 0 {
@@ -488,6 +494,7 @@ impl Member {
         ensures tree { self.new.tree ≡ self.old.tree }
         ensures says { AnswersIn self.old.tree options.now op key (options.now.rounds + 1)
             self.old.worker self.new.worker result }
+        ensures frees { FreesNone self.old.worker self.new.worker }
     {
         let mut found = 0;
         self.ask_value_with_retries(op, key, 0, &mut found, options)
@@ -512,6 +519,7 @@ impl Member {
             self.old.worker self.new.worker result }
         ensures moves { HasValues self.old.tree → MovesValue op key value found.new
             self.old.worker.pass self.new.worker.pass result }
+        ensures frees { FreesNone self.old.worker self.new.worker }
     {
         for _round in 0..options.rounds {
             let told = self.ask(op, key, value, found, options.tries);
@@ -540,6 +548,7 @@ impl Member {
             self.old.worker self.new.worker result }
         ensures moves { HasValues self.old.tree → MovesValue op key value found.new
             self.old.worker.pass self.new.worker.pass result }
+        ensures frees { FreesNone self.old.worker self.new.worker }
     {
         let tree = self.home.tree();
         match op {

@@ -1,5 +1,5 @@
 //! Managed calls of a map: a call that lost its tries is retried, and a remove that has begun is
-//! finished. They free no leaf; `MapMember::reclaim` does, and hands out the values.
+//! finished. Proved: they free no node. `MapMember::reclaim` does, and hands out the values.
 ghost use Rattle.std.specs.Prelude.{◌≡◌, ◌≢◌, ◌+◌, true, false, None, Some, Ok, Err};
 ghost use Rattle.nm_model.specs.declared.event.Op.TheVariants.{Insert, Delete};
 ghost use Rattle.nm_steps.specs.Values.{HasValues};
@@ -42,8 +42,8 @@ impl MapMember {
     /// Returns the value that the map has under `key`, or `None` if it does not have the key.
     ///
     /// Like `Member::contains`, it finishes the remove of an earlier call first, and retries a look-up
-    /// that lost each of its tries, at most `rounds` times. It frees no node, and takes no memory for
-    /// the look-up.
+    /// that lost each of its tries, at most `rounds` times. It takes no memory for the look-up. Proved
+    /// (`frees`, in `says`): it frees no node; nor does `insert` or `remove`.
     ///
     /// Errors: `Pinned`: the caller has pinned the worker; nothing has changed (`get_pinned` is for
     /// that). `Pending`: as of `Member::contains`. `Busy`: each look-up lost each of its tries, or the
@@ -68,9 +68,10 @@ impl MapMember {
     /// Like `get`, it finishes the remove of an earlier call first, and retries an insert that lost
     /// each of its tries. Nothing is pending after an answer, `Busy`, `Full` and `NoMemory`.
     ///
-    /// Errors: `Pinned`, `Pending`, `Busy`: as of `get`. `Full`: no slot was free for a new node. Call
-    /// `reclaim`, take the values that it writes, and insert again. `NoMemory`: the memory for a try
-    /// was refused. Proved (`alone`): no other error, as for `get`, if no other worker has a remove
+    /// Errors: `Pinned`, `Pending`, `Busy`: as of `get`. `Full`: no slot was free for a new node. Proved
+    /// (`full`): the call tried each slot, and got none. Call `reclaim`, take the values that it writes,
+    /// and insert again. `NoMemory`: the memory for a try was refused. Proved: the worker's own queue then
+    /// has less room than a try needs. Proved (`alone`): no other error, as for `get`, if no other worker has a remove
     /// pending.
     #[inline(always)]
     pub fn insert(

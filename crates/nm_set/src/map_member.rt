@@ -7,7 +7,7 @@ ghost use Rattle.nm_steps.specs.Rules.{Extends, ExtendsStores};
 ghost use Rattle.nm_steps.specs.Steps.{HasHeard, HasSeen, HasSeenAllOf, IsNoteOf, IsOfRun};
 ghost use Rattle.nm_steps.specs.Values.{HasSeenStores, HasValues};
 ghost use Rattle.nm_calls.specs.Maps.{HasPut, HasTaken};
-ghost use Rattle.nm_tree.specs.Answers.{IfTaken};
+ghost use Rattle.nm_tree.specs.Answers.{FreesNone, IfTaken};
 ghost use Rattle.nm_calls.specs.declared.deleting.Unfinished.{Unfinished as Delete};
 ghost use Rattle.nm_tree.specs.Calls.{SaysHas, LeavesAdvance, LeavesBehind, LeavesGet};
 ghost use Rattle.nm_tree.specs.Resigning.{HasResigned};
@@ -147,8 +147,8 @@ impl MapMember {
     }
 
     /// Returns whether the map has the key, by a managed call: `Member::contains`, which retries a
-    /// look-up that lost its tries, and first finishes the remove of an earlier call. It frees no
-    /// node.
+    /// look-up that lost its tries, and first finishes the remove of an earlier call. Proved (`frees`):
+    /// it frees no node.
     ///
     /// Errors: `Pinned`, `Pending`, `Busy`: as of `Member::contains`.
     #[inline(always)]
@@ -156,6 +156,7 @@ impl MapMember {
         ensures tree { self.new.tree ≡ self.old.tree }
         ensures says { SaysManaged Has self.old.tree options.now key self.old.worker
             self.new.worker result }
+        ensures frees { FreesNone self.old.worker self.new.worker }
     {
         self.member.contains(key, options)
     }

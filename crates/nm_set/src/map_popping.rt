@@ -1,6 +1,7 @@
 //! Managed calls of a map that remove the least or the greatest key with its value.
 ghost use Rattle.std.specs.Prelude.{◌≡◌, ◌<◌, ◌≤◌};
 ghost use Rattle.nm_edge.specs.Keys.{IsKey};
+ghost use Rattle.nm_tree.specs.Answers.{FreesNone};
 ghost use Rattle.nm_set.specs.Maps.{PopsValue};
 ghost use Rattle.nm_set.specs.Popping.{SaysManagedPop, SaysManagedPopOf};
 
@@ -12,8 +13,8 @@ use nm_tree::{CallFault, End};
 impl MapMember {
     /// Removes the least key of the map, and returns it; `None` if the map is empty. It is
     /// `Member::pop_first`, and writes the value that the key had to `taken`. Proved (`takes`): the map
-    /// had the key with this value at a moment of the call. The value comes back by `reclaim` too. It
-    /// frees no leaf.
+    /// had the key with this value at a moment of the call. The value comes back by `reclaim` too. Proved
+    /// (`frees`): it frees no node.
     ///
     /// Errors: as of `Member::pop_first`.
     pub fn pop_first(
@@ -25,6 +26,7 @@ impl MapMember {
         ensures says { SaysManagedPop ◌<◌ self.old.tree options.now self.old.worker self.new.worker
             result }
         ensures takes { PopsValue self.old.worker.pass self.new.worker.pass taken.new result }
+        ensures frees { FreesNone self.old.worker self.new.worker }
     {
         self.member.pop(End::First, true, taken, options)
     }
@@ -35,6 +37,7 @@ impl MapMember {
         ensures says { SaysManagedPop (λ j key. key < j) self.old.tree options.now self.old.worker
             self.new.worker result }
         ensures takes { PopsValue self.old.worker.pass self.new.worker.pass taken.new result }
+        ensures frees { FreesNone self.old.worker self.new.worker }
     {
         self.member.pop(End::Last, true, taken, options)
     }
@@ -51,6 +54,7 @@ impl MapMember {
         ensures says { SaysManagedPopOf (λ j. IsKey j × (j < below)) ◌<◌ self.old.tree options.now
             self.old.worker self.new.worker result }
         ensures takes { PopsValue self.old.worker.pass self.new.worker.pass taken.new result }
+        ensures frees { FreesNone self.old.worker self.new.worker }
     {
         self.member
             .pop(End::FirstBelow(below), true, taken, options)
@@ -68,6 +72,7 @@ impl MapMember {
         ensures says { SaysManagedPopOf (λ j. IsKey j × (from ≤ j)) (λ j key. key < j) self.old.tree
             options.now self.old.worker self.new.worker result }
         ensures takes { PopsValue self.old.worker.pass self.new.worker.pass taken.new result }
+        ensures frees { FreesNone self.old.worker self.new.worker }
     {
         self.member.pop(End::LastFrom(from), true, taken, options)
     }

@@ -4,7 +4,7 @@ ghost use Rattle.std.specs.Prelude.{◌≡◌, ◌≢◌, ◌<◌, ◌≤◌, �
 ghost use Rattle.nm_edge.specs.Keys.{IsKey};
 ghost use Rattle.nm_calls.specs.declared.fault.CallFault.TheVariants as fault;
 ghost use Rattle.nm_steps.specs.Values.{HasValues};
-ghost use Rattle.nm_tree.specs.Answers.{IfTaken};
+ghost use Rattle.nm_tree.specs.Answers.{FreesNone, IfTaken};
 ghost use Rattle.nm_tree.specs.Popping.{Finds, among, comes_before};
 ghost use Rattle.nm_set.specs.MapRounds.{SaysRemoved};
 ghost use Rattle.nm_set.specs.Maps.{PopsValue, TookMeanwhile};
@@ -107,6 +107,7 @@ impl Member {
             self.old.worker self.new.worker result }
         ensures takes { in_map ≡ true → PopsValue self.old.worker.pass self.new.worker.pass taken.new
             result }
+        ensures frees { in_map ≡ true → FreesNone self.old.worker self.new.worker }
     {
         if self.pinned().is_some() {
             return Err(CallFault::Pinned);
@@ -134,6 +135,7 @@ impl Member {
             options.now.tries (options.now.rounds + 1) self.old.worker self.new.worker result }
         ensures takes { in_map ≡ true → PopsValue self.old.worker.pass self.new.worker.pass taken.new
             result }
+        ensures frees { in_map ≡ true → FreesNone self.old.worker self.new.worker }
     {
         for _round in 0..options.rounds {
             let told = self.pop_once(end, in_map, taken, options);
@@ -160,6 +162,7 @@ impl Member {
             options.now.tries 1 self.old.worker self.new.worker result }
         ensures takes { in_map ≡ true → PopsValue self.old.worker.pass self.new.worker.pass taken.new
             result }
+        ensures frees { in_map ≡ true → FreesNone self.old.worker self.new.worker }
     {
         self.know_run();
         let Some(key) = self.key_at(end, options.tries)? else {
@@ -191,6 +194,7 @@ impl Member {
             result }
         ensures takes { in_map ≡ true → IfTaken result (TookMeanwhile self.old.worker.pass
             self.new.worker.pass key taken.new) }
+        ensures frees { in_map ≡ true → FreesNone self.old.worker self.new.worker }
     {
         if in_map {
             self.remove_managed(key, taken, options)
@@ -204,6 +208,7 @@ impl Member {
         requires free { self.old.worker.held ≡ None }
         ensures tree { self.new.tree ≡ self.old.tree }
         ensures says { Finds end self.old.tree.layout tries self.old.worker self.new.worker result }
+        ensures frees { FreesNone self.old.worker self.new.worker }
     {
         let tree = self.home.tree();
         match end {

@@ -4,6 +4,7 @@ use Rattle.std.specs.Prelude.{◌≡◌, ◌≢◌, ◌<◌, ◌≤◌, ◌⊎�
 use Rattle.nm_edge.specs.Keys.{IsKey}
 use Rattle.nm_steps.specs.Steps.{TreeView}
 use Rattle.nm_calls.specs.declared.fault.CallFault.{CallFault}
+use Rattle.nm_tree.specs.Answers.{FreesNone}
 use Rattle.nm_tree.specs.Workers.{WorkerView}
 use Rattle.nm_set.specs.declared.managed.Options.{Options}
 use Rattle.nm_set.specs.Maps.{FindsValue, PopsValue}
@@ -50,7 +51,7 @@ TellsPrevEntry tries key = TellsEntry key (λ b. AskedPrev b.layout tries key)
 
 -- the worker's call is made, and the outcome is that of its answer. If a key was popped, it is written
 -- with a value that the map had under it at a moment of the call; after `Unfinished` the key is
--- written that is pending then
+-- written that is pending then. The worker has freed no node
 pub record PopsEntry (asked : TreeView → WorkerView → WorkerView → Result (Option ℕ) CallFault → Type 0)
     (old taken old_value value : ℕ) (m n : MemberView) (o : Outcome) : Type 0 where
   pub answer : Result (Option ℕ) CallFault
@@ -61,6 +62,7 @@ pub record PopsEntry (asked : TreeView → WorkerView → WorkerView → Result 
   pub says : asked m.tree m.worker n.worker answer
   pub there : ℕ
   pub takes : PopsValue m.worker.pass n.worker.pass there answer
+  pub frees : FreesNone m.worker n.worker
   pub valued : value ≡ value_written answer there old_value
 
 -- `PopsFirst`, `PopsLast`, `PopsFirstBelow`, `PopsLastFrom`: such a call for all keys, or for those up to

@@ -1,7 +1,14 @@
 -- What a call of the tree shows of its worker, by the answer of the function below it.
-use Rattle.std.proofs.Common.{◌≡◌, ◌+◌, ◌*◌, arith, ℕ, Bool, List, refl, sym, subst}
-use Rattle.std.specs.Prelude.{Result, Ok, Err, IfOk, IfErr, IsErrOf}
+use Rattle.std.proofs.Common.{◌≡◌, ◌⊎◌, inl, inr, ◌+◌, ◌*◌, arith, ℕ, Bool, List, ◌++◌, refl, sym, subst}
+use Rattle.std.specs.Prelude.{Result, Ok, Err, IfOk, IfErr, IsErrOf, IsSome}
+use Rattle.std.proofs.lemmas.List.Elements.{Contains-append_right}
 use Rattle.nm_edge.specs.Layouts.{Layout}
+use Rattle.nm_model.specs.declared.event.Event.TheVariants.{Claim, Look}
+use Rattle.nm_model.specs.declared.event.Field.TheVariants.{Birth}
+use Rattle.nm_model.specs.declared.reply.Reply.TheVariants.{BirthIs, Taken}
+use Rattle.nm_model.specs.declared.trace.Turn.{Turn}
+use Rattle.nm_model.specs.Step.{last_number}
+use Rattle.nm_steps.specs.Steps.{PassView}
 use Rattle.nm_model.specs.Walks.{Entry}
 use Rattle.nm_calls.specs.declared.fault.CallFault.{CallFault}
 use Rattle.nm_calls.specs.declared.fault.CallFault.TheVariants as fault
@@ -10,7 +17,7 @@ use Rattle.nm_calls.specs.Inserts.{InsertDid}
 use Rattle.nm_calls.specs.PlainWalks.{LooksUnderPin, PlainMissed}
 use Rattle.nm_calls.specs.Scans.{count_of}
 use Rattle.nm_calls.specs.declared.scanning.Scanned.{Scanned}
-use Rattle.nm_tree.specs.Answers.{IsFree, LacksRoom, HasTold, HasAnswered, InsertTold, HasInserted, FailsAlone}
+use Rattle.nm_tree.specs.Answers.{IsFree, LacksRoom, HasTold, HasAnswered, InsertTold, HasInserted, FailsAlone, FindsNoSlot, FoundNoSlot, HasMade}
 use Rattle.nm_tree.specs.Looked.{HasSeenMore}
 use Rattle.nm_tree.specs.Workers.{WorkerView}
 
@@ -24,14 +31,23 @@ pub look_fails : (tries : ℕ) (z : WorkerView) (r : Result Bool CallFault) → 
 look_fails tries z (Ok b) busy none = tt
 look_fails tries z (Err e) busy none = subst (FailsAlone 1 1 tries z) (sym busy) (let zero = none (let P : CallFault → Type 0 = λ f. IsErrOf {T = Bool} (Err f) fault.Busy in subst P (sym busy) refl) in omega (arith, zero))
 
+-- a worker that found no slot since a moment found none in all
+pub found_ever : (p q : PassView) → FoundNoSlot p q → FindsNoSlot q.view.layout.nodes q.view.number q.view.past
+found_ever p q (turns, is, finds) = λ s low high. subst (λ (ts : List Turn). HasMade q.view.number ts (Claim s) Taken ⊎ HasMade q.view.number ts (Look s Birth) (BirthIs last_number)) (sym is) (by s (finds s low high))
+  where
+    by : (s : ℕ) → HasMade q.view.number turns (Claim s) Taken ⊎ HasMade q.view.number turns (Look s Birth) (BirthIs last_number)
+        → HasMade q.view.number (p.view.past ++ turns) (Claim s) Taken ⊎ HasMade q.view.number (p.view.past ++ turns) (Look s Birth) (BirthIs last_number)
+    by s (inl made) = inl (Contains-append_right p.view.past turns _ made)
+    by s (inr made) = inr (Contains-append_right p.view.past turns _ made)
+
 pub insert_fails : (tries : ℕ) (w z : WorkerView) (r : Result Bool CallFault) → InsertTold w z r → (IsErrOf r fault.Busy → tries ≡ 0) → IfErr r (FailsAlone 1 1 tries z)
 insert_fails tries w z (Ok b) told none = tt
 insert_fails tries w z (Err fault.Busy) told none = let zero = none refl in omega (arith, zero)
 insert_fails tries w z (Err fault.Unfinished) told none = absurd told
-insert_fails tries w z (Err fault.Full) told none = tt
-insert_fails tries w z (Err fault.NoMemory) told none = tt
-insert_fails tries w z (Err fault.Pending) told none = tt
-insert_fails tries w z (Err fault.Pinned) told none = tt
+insert_fails tries w z (Err fault.Full) told none = found_ever w.pass z.pass told.1
+insert_fails tries w z (Err fault.NoMemory) told none = told.1
+insert_fails tries w z (Err fault.Pending) told none = subst (λ (v : WorkerView). IsSome v.pending) (sym told.1) told.0
+insert_fails tries w z (Err fault.Pinned) told none = absurd told
 
 -- ---- what a call shows of its worker
 
@@ -44,14 +60,14 @@ module _ (L : Layout) (tries k : ℕ) (w z : WorkerView) (free : IsFree w z) whe
   has_answered (Ok b) did missed busy = (free, did)
   has_answered (Err e) did missed busy = subst (λ (f : CallFault). HasAnswered L tries k w z (Err f)) (sym busy) (free, missed)
 
-  pub insert_told : (r : Result Bool CallFault) → (IsErrOf r fault.NoMemory → LacksRoom z) → InsertDid w.fit L tries k w.pass.view.log z.pass.view.log r → InsertTold w z r
-  insert_told (Ok b) lacks did = free
-  insert_told (Err fault.Busy) lacks did = free
-  insert_told (Err fault.Full) lacks did = free
-  insert_told (Err fault.NoMemory) lacks did = (free, lacks refl)
-  insert_told (Err fault.Pending) lacks did = absurd did.3
-  insert_told (Err fault.Pinned) lacks did = absurd did.3
-  insert_told (Err fault.Unfinished) lacks did = absurd did.3
+  pub insert_told : (r : Result Bool CallFault) → (IsErrOf r fault.Full → FoundNoSlot w.pass z.pass) → (IsErrOf r fault.NoMemory → LacksRoom z) → InsertDid w.fit L tries k w.pass.view.log z.pass.view.log r → InsertTold w z r
+  insert_told (Ok b) full lacks did = free
+  insert_told (Err fault.Busy) full lacks did = free
+  insert_told (Err fault.Full) full lacks did = (free, full refl)
+  insert_told (Err fault.NoMemory) full lacks did = (free, lacks refl)
+  insert_told (Err fault.Pending) full lacks did = absurd did.3
+  insert_told (Err fault.Pinned) full lacks did = absurd did.3
+  insert_told (Err fault.Unfinished) full lacks did = absurd did.3
 
   pub has_inserted : (r : Result Bool CallFault) → InsertDid w.fit L tries k w.pass.view.log z.pass.view.log r → HasInserted L tries k w z r
   has_inserted (Ok b) did = (free, did)

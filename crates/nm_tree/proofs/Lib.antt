@@ -40,3 +40,6 @@ pub mod Pools
 pub mod Parts
 pub mod LeavesFound
 pub mod Answered
+pub mod Unfreed
+pub mod MadeInTurns
+pub mod FullPools

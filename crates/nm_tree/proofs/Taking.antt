@@ -428,7 +428,7 @@ module _ (end : End) (L : Layout) (tries : ℕ) (w : WorkerView) (none : w.pendi
           record { same = on.same; past = on.past; told = (none, did.says.told.1); took = tt; won = on.won; steps = on.steps; queues = on.queues; blocks = on.blocks; held = on.held; fit = on.fit; alone = λ runs. (let few = did.alone (later runs did) in omega (arith, few)) }
       by fault.NoMemory did =
           let on = so_far n 0 x z less gone (goes_round end L tries key x y z (Err fault.NoMemory) found did) in
-          record { same = on.same; past = on.past; told = ((none, did.says.told.0.1), did.says.told.1); took = tt; won = on.won; steps = on.steps; queues = on.queues; blocks = on.blocks; held = on.held; fit = on.fit; alone = λ runs. tt }
+          record { same = on.same; past = on.past; told = ((none, did.says.told.0.1), did.says.told.1); took = tt; won = on.won; steps = on.steps; queues = on.queues; blocks = on.blocks; held = on.held; fit = on.fit; alone = λ runs. did.says.told.1 }
       by fault.Unfinished did =
           let on = so_far n 1 x z less gone (goes_round end L tries key x y z (Err fault.Unfinished) found did) in
           let was = found_so x y z key gone.on.past found (Err fault.Unfinished) did in
@@ -466,7 +466,7 @@ module _ (end : End) (L : Layout) (tries : ℕ) (w : WorkerView) (none : w.pendi
 by_pending : (end : End) (L : Layout) (tries : ℕ) (w : WorkerView) → w.held ≡ None → IsSome w.pending → SaysPopOf (among end) (comes_before end) L tries w w (Err fault.Pending)
 by_pending end L tries w free some =
     let on = goes_more 0 (pop_bound L tries) 0 w w (omega arith) (goes_nowhere w free) in
-    record { same = on.same; past = on.past; told = (some, refl); took = tt; won = on.won; steps = on.steps; queues = on.queues; blocks = on.blocks; held = on.held; fit = on.fit; alone = λ runs. tt }
+    record { same = on.same; past = on.past; told = (some, refl); took = tt; won = on.won; steps = on.steps; queues = on.queues; blocks = on.blocks; held = on.held; fit = on.fit; alone = λ runs. some }
 
 -- where a worker that runs alone cannot lose so many rounds
 abbrev pub LosesNoneAlone : End → Layout → ℕ → WorkerView → WorkerView → Type 0

@@ -30,7 +30,7 @@ module _ (L : Layout) (tries k : ℕ) (w : WorkerView) (there : IsSome w.pending
       fit = refl;
     };
     did = (there, refl);
-    alone = λ alone. tt;
+    alone = λ alone. there;
   }
 
   pub get_pending : LeavesGet L tries k w w (Err fault.Pending)
@@ -65,7 +65,7 @@ module _ (L : Layout) (tries k : ℕ) (w : WorkerView) (there : IsSome w.pending
     };
     did = (there, refl);
     interfered = λ is. absurd (let no = is in cc);
-    alone = λ alone. tt;
+    alone = λ alone. there;
   }
 
   pub delete_pending : LeavesDelete L tries k w w (Err fault.Pending)
@@ -86,7 +86,7 @@ module _ (L : Layout) (tries k : ℕ) (w : WorkerView) (there : IsSome w.pending
     lacks = tt;
     interfered = λ is. absurd (let no = is in cc);
     lost = λ is. absurd (let no = is in cc);
-    alone = λ alone. tt;
+    alone = λ alone. there;
   }
 
 pub finishes_none : (L : Layout) (tries : ℕ) (w : WorkerView) → w.pending ≡ None → LeavesFinish L tries w w (Ok false)

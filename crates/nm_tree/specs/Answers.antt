@@ -1,5 +1,5 @@
 -- What each call of the set changes in its worker, for each answer.
-use Rattle.std.specs.Prelude.{◌≡◌, ◌⊎◌, ◌<◌, ℕ, ◌-◌, Bool, true, false, Some, None, IsSome, Result, Ok, Err}
+use Rattle.std.specs.Prelude.{◌≡◌, ◌⊎◌, ◌<◌, ◌≤◌, ℕ, ◌-◌, Bool, true, false, List, [], ◌∷◌, ◌++◌, Some, None, IsSome, Result, Ok, Err, Contains}
 use Rattle.nm_edge.specs.Layouts.{Layout}
 use Rattle.nm_edge.specs.declared.node.NodeId.{NodeId}
 use Rattle.nm_calls.specs.Calls.{HasDid, HasMissed}
@@ -8,8 +8,15 @@ use Rattle.nm_calls.specs.Inserts.{InsertDid}
 use Rattle.nm_calls.specs.Moments.{AnswerHasMoment, HadNoCall}
 use Rattle.nm_calls.specs.Won.{links_of_insert, flags_of_delete}
 use Rattle.nm_epoch.specs.Tries.{IsPinnedBy as PinsSo, IsMoved}
-use Rattle.nm_model.specs.declared.event.Event.TheVariants.{Sight}
+use Rattle.nm_model.specs.declared.event.Event.{Event}
+use Rattle.nm_model.specs.declared.event.Event.TheVariants.{Claim, Give, Look, Sight}
+use Rattle.nm_model.specs.declared.event.Field.TheVariants.{Birth}
 use Rattle.nm_model.specs.declared.event.Op.TheVariants.{Delete}
+use Rattle.nm_model.specs.declared.reply.Reply.{Reply}
+use Rattle.nm_model.specs.declared.reply.Reply.TheVariants.{BirthIs, Freed, Taken}
+use Rattle.nm_model.specs.declared.trace.Turn.{Turn}
+use Rattle.nm_model.specs.Step.{last_number}
+use Rattle.nm_model.specs.Walks.{Entry}
 use Rattle.nm_progress.specs.Lost.{Interference, WasChanged}
 use Rattle.nm_tree.specs.declared.fault.PinFault.{PinFault}
 use Rattle.nm_tree.specs.declared.fault.PinFault.TheVariants as pinning
@@ -33,6 +40,34 @@ IsFree w z = (w.pending ≡ None) × (z.pending ≡ None)
 abbrev pub LacksRoom : WorkerView → Type 0
 LacksRoom z = HasLittleRoom z.pass.view.number z.queues
 
+-- among these turns worker w has made this event, with this reply
+abbrev pub HasMade : ℕ → List Turn → Event → Reply → Type 0
+HasMade w turns e r = Contains turns (record { worker = w; event = e; outcome = Ok r })
+
+-- among these turns worker w has tried each slot above 5 and got none to keep: a claim found it taken,
+-- or the last birth in it was used. An insert needs two, and may have claimed one of them itself
+abbrev pub FindsNoSlot : ℕ → ℕ → List Turn → Type 0
+FindsNoSlot nodes w turns = (s : ℕ) → 6 ≤ s → s ≤ nodes
+    → HasMade w turns (Claim s) Taken ⊎ HasMade w turns (Look s Birth) (BirthIs last_number)
+
+-- so it was between p and q
+abbrev pub FoundNoSlot : PassView → PassView → Type 0
+FoundNoSlot p q = (turns : List Turn) × (q.view.past ≡ p.view.past ++ turns)
+    × FindsNoSlot q.view.layout.nodes q.view.number turns
+
+-- `freed_of_entry`, `freed_in`: the nodes that a worker has freed, by one entry of its log, and by all
+abbrev pub freed_of_entry : Entry → List NodeId
+freed_of_entry (Give slot, Freed n) = n ∷ []
+freed_of_entry _ = []
+
+abbrev pub freed_in : List Entry → List NodeId
+freed_in [] = []
+freed_in (e ∷ es) = freed_of_entry e ++ freed_in es
+
+-- the worker has freed no node
+abbrev pub FreesNone : WorkerView → WorkerView → Type 0
+FreesNone w z = freed_in z.pass.view.log ≡ freed_in w.pass.view.log
+
 -- a look-up, by its answer: either a key was pending and nothing has changed, or no key was pending
 -- before or after
 abbrev pub HasTold : WorkerView → WorkerView → Result Bool CallFault → Type 0
@@ -41,11 +76,12 @@ HasTold w z (Err fault.Busy) = IsFree w z
 HasTold w z (Err fault.Pending) = IsPendingStill w z
 HasTold w z (Err _) = ⊥
 
--- an insert, in the same way; after `NoMemory` its own queue has little room
+-- an insert, in the same way; after `Full` it has found no slot, and after `NoMemory` its own queue
+-- has little room
 abbrev pub InsertTold : WorkerView → WorkerView → Result Bool CallFault → Type 0
 InsertTold w z (Ok b) = IsFree w z
 InsertTold w z (Err fault.Busy) = IsFree w z
-InsertTold w z (Err fault.Full) = IsFree w z
+InsertTold w z (Err fault.Full) = IsFree w z × FoundNoSlot w.pass z.pass
 InsertTold w z (Err fault.NoMemory) = IsFree w z × LacksRoom z
 InsertTold w z (Err fault.Pending) = IsPendingStill w z
 InsertTold w z (Err fault.Unfinished) = ⊥
@@ -165,11 +201,16 @@ FinishWasLost tries w z = LacksRoom z ⊎ WasChanged w.pass z.pass tries
 
 -- why a call with this number of tries failed although it ran alone: it was `Busy` with fewer tries
 -- than `first`; or a delete is not finished, because there were fewer than `all`, or because the
--- worker's own queue lacks room (obstruction freedom: Herlihy, Luchangco and Moir)
+-- worker's own queue lacks room; or the pool had no slot; or that queue lacks room; or a key is
+-- pending; or the caller has pinned the worker (obstruction freedom: Herlihy, Luchangco and Moir)
 abbrev pub FailsAlone : ℕ → ℕ → ℕ → WorkerView → CallFault → Type 0
 FailsAlone first all tries z fault.Busy = tries < first
 FailsAlone first all tries z fault.Unfinished = (tries < all) ⊎ LacksRoom z
-FailsAlone first all tries z _ = Unit {0}
+FailsAlone first all tries z fault.Full =
+    FindsNoSlot z.pass.view.layout.nodes z.pass.view.number z.pass.view.past
+FailsAlone first all tries z fault.NoMemory = LacksRoom z
+FailsAlone first all tries z fault.Pending = IsSome z.pending
+FailsAlone first all tries z fault.Pinned = IsSome z.held
 
 -- if the call has finished the pending delete, the answer true has a moment (linearization point).
 -- It is later than all that the worker had seen at any time when it had no call, as before the call

@@ -12,7 +12,8 @@ use nm_calls::{CallFault, Deletion, Unfinished, delete, finish, insert};
 use nm_edge::Key;
 
 impl Tree {
-    /// Inserts `key`; returns true if it was absent. In a tree with values the value is 0.
+    /// Inserts `key`; returns true if it was absent. In a tree with values the value is 0. Proved
+    /// (`puts`): if the result is `Ok(true)`, the map had the key with 0 at a moment of the call.
     ///
     /// Each try is a walk that ends with the answer, or a link of two new nodes. If the link is
     /// lost, the try helps with at most one cleanup. Before each try the call makes room for 128
@@ -21,8 +22,9 @@ impl Tree {
     /// worker.
     ///
     /// Errors: `Pending`: a key is pending. `Busy`, `Full`, `NoMemory`: see `CallFault`. Proved
-    /// (`alone`): a call that has at least one try is not `Busy` if no other worker has a delete
-    /// pending before it or makes a transition during it.
+    /// (`says`): after `Full` its last claims found no slot, and after `NoMemory` the worker's own queue
+    /// has less room than a try needs. Proved (`alone`): a call that has at least one try is not `Busy`
+    /// if no other worker has a delete pending before it or makes a transition during it.
     ///
     /// Cost: at most `tries` * (4 `reach` + 512) + 6 `nodes` + 10 steps. A walk's reach is 66 nodes
     /// in a radix tree, and the number of nodes otherwise. (The insert of Natarajan and Mittal,
@@ -32,6 +34,8 @@ impl Tree {
         requires { MayCall self.now worker.old }
         ensures says { SaysInsert self.now.layout tries key worker.old worker.new result }
         ensures leaves { LeavesInsert self.now.layout tries key worker.old worker.new result }
+        ensures puts { HasValues self.now → result ≡ Ok true
+            → HasPut worker.old.pass worker.new.pass key 0 }
     {
         let mut found = 0;
         self.insert_with_value(worker, key, 0, &mut found, tries)

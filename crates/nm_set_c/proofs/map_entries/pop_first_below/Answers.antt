@@ -14,6 +14,7 @@ returns c = record {
     says = c.pop_first_below-answer.ensures.says;
     there = c.pop_first_below-answer.new.taken;
     takes = c.pop_first_below-answer.ensures.takes;
+    frees = c.pop_first_below-answer.ensures.frees;
     valued = c.write_value.ensures;
   };
 }

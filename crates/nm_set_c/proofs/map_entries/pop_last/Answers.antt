@@ -14,6 +14,7 @@ returns c = record {
     says = c.pop_last-answer.ensures.says;
     there = c.pop_last-answer.new.taken;
     takes = c.pop_last-answer.ensures.takes;
+    frees = c.pop_last-answer.ensures.frees;
     valued = c.write_value.ensures;
   };
 }

@@ -14,6 +14,7 @@ returns c = record {
     says = c.pop_last_from-answer.ensures.says;
     there = c.pop_last_from-answer.new.taken;
     takes = c.pop_last_from-answer.ensures.takes;
+    frees = c.pop_last_from-answer.ensures.frees;
     valued = c.write_value.ensures;
   };
 }

@@ -5,6 +5,7 @@ use Rattle.nm_tree.specs.Calls.{LeavesHas, LeavesInsert, LeavesDelete}
 use Rattle.nm_steps.specs.Values.{HasValues}
 use Rattle.nm_calls.specs.Maps.{HasPut, HasTaken, MapGave}
 use Rattle.nm_tree.specs.Answers.{IfTaken}
+use Rattle.nm_tree.proofs.Unfreed.{delete_frees_none, has_frees_none, insert_frees_none}
 use Rattle.nm_set.specs.Managed.{Answers, round_bound}
 use Rattle.nm_set.specs.MapRounds.{MovesValue}
 use Rattle.nm_set.proofs.Inside.{of_member}
@@ -37,6 +38,26 @@ returns-in-Delete-clause-says c =
     let r = c.delete_with_value.result in
     let did = of_member (λ b v. LeavesDelete b.layout c.args.tries c.args.key v z r) _ _ _ c.self.view_is c.tree-tree.ensures c.delete_with_value.ensures.leaves in
     subst (λ (op : Op). Answers op c.args.key (round_bound c.args.tries L) c.args.tries w z r) (sym c.in-Delete.is) (delete_answers L c.args.tries c.args.key w z r c.requires.none did)
+
+pub returns-in-Has-clause-frees : goal.returns-in-Has-clause-frees
+returns-in-Has-clause-frees c =
+    let z = c.has.new.worker in
+    let did = of_member (λ b v. LeavesHas b.layout c.args.tries c.args.key v z c.has.result) _ _ _ c.self.view_is c.tree-tree.ensures c.has.ensures.leaves in
+    has_frees_none c.args.self.now.tree.layout c.args.tries c.args.key c.args.self.now.worker z c.has.result did.did
+
+pub returns-in-Insert-clause-frees : goal.returns-in-Insert-clause-frees
+returns-in-Insert-clause-frees c =
+    let z = c.insert_with_value.new.worker in
+    let r = c.insert_with_value.result in
+    let did = of_member (λ b v. LeavesInsert b.layout c.args.tries c.args.key v z r) _ _ _ c.self.view_is c.tree-tree.ensures c.insert_with_value.ensures.leaves in
+    insert_frees_none c.args.self.now.tree.layout c.args.tries c.args.key c.args.self.now.worker z r did.did
+
+pub returns-in-Delete-clause-frees : goal.returns-in-Delete-clause-frees
+returns-in-Delete-clause-frees c =
+    let z = c.delete_with_value.new.worker in
+    let r = c.delete_with_value.result in
+    let did = of_member (λ b v. LeavesDelete b.layout c.args.tries c.args.key v z r) _ _ _ c.self.view_is c.tree-tree.ensures c.delete_with_value.ensures.leaves in
+    delete_frees_none c.args.self.now.tree.layout c.args.tries c.args.key c.args.self.now.worker z r did.did
 
 pub returns-in-Has-clause-moves : goal.returns-in-Has-clause-moves
 returns-in-Has-clause-moves c = λ has. subst (λ (op : Op). MovesValue op c.args.key c.args.value c.args.found.now c.args.self.now.worker.pass c.has.new.worker.pass c.has.result) (sym c.in-Has.is) tt

@@ -21,7 +21,7 @@ pub ask-requires-clause-none : goal.ask-requires-clause-none
 ask-requires-clause-none c = c.loop-round.invariant.busy.onward.none
 
 pub loop-round-init : goal.loop-round-init
-loop-round-init c = record { tree = refl; busy = not_yet_busy c.args.self.now.tree c.args.options.now c.args.op c.args.self.now.worker c.requires.none c.requires.free }
+loop-round-init c = record { tree = refl; busy = not_yet_busy c.args.self.now.tree c.args.options.now c.args.op c.args.self.now.worker c.requires.none c.requires.free; frees = refl }
 
 pub loop-round-preserved : goal.loop-round-preserved
 loop-round-preserved c =
@@ -33,6 +33,7 @@ loop-round-preserved c =
     record {
       tree = c.ask-told.ensures.tree ∙ at.invariant.tree;
       busy = busy_again c.args.self.now.tree h c.args.op c.args.key at._round c.args.self.now.worker at.self.worker c.ask-told.new.self.worker at.invariant.busy last;
+      frees = c.ask-told.ensures.frees ∙ at.invariant.frees;
     }
 
 pub returns-then-not-is_busy-clause-says : goal.returns-then-not-is_busy-clause-says
@@ -50,6 +51,12 @@ returns-clause-says c =
     let within = at.auto._round-end in
     let P : TreeView → Type 0 = λ b. Answers c.args.op c.args.key (round_bound h.tries b.layout) h.tries at.self.worker c.ask.new.self.worker c.ask.result in
     answers_last c.args.self.now.tree h c.args.op c.args.key at._round (h.rounds + 1) c.args.self.now.worker at.self.worker c.ask.new.self.worker c.ask.result (omega (arith, within)) (λ is. omega (arith, past, within)) at.invariant.busy (subst P at.invariant.tree c.ask.ensures.says)
+
+pub returns-then-not-is_busy-clause-frees : goal.returns-then-not-is_busy-clause-frees
+returns-then-not-is_busy-clause-frees c = c.ask-told.ensures.frees ∙ c.loop-round.invariant.frees
+
+pub returns-clause-frees : goal.returns-clause-frees
+returns-clause-frees c = c.ask.ensures.frees ∙ c.loop-round.invariant.frees
 
 pub returns-then-not-is_busy-clause-moves : goal.returns-then-not-is_busy-clause-moves
 returns-then-not-is_busy-clause-moves c = λ has.

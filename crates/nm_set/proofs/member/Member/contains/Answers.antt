@@ -1,9 +1,10 @@
-use Rattle.std.proofs.Common.{rules, ◌≡◌, inr, subst, Bool}
+use Rattle.std.proofs.Common.{rules, ◌≡◌, ◌∙◌, inr, subst, Bool}
 use Rattle.std.specs.Prelude.{Result, Ok, Err, None}
 use Rattle.nm_model.specs.declared.event.Op.TheVariants.{Has}
 use Rattle.nm_steps.specs.Steps.{TreeView}
 use Rattle.nm_tree.specs.Calls.{LeavesHas}
 use Rattle.nm_tree.specs.Workers.{WorkerView}
+use Rattle.nm_tree.proofs.Unfreed.{has_frees_none}
 use Rattle.nm_set.specs.Managed.{Manages}
 use Rattle.nm_set.specs.Seats.{MemberView}
 use Rattle.nm_set.proofs.Inside.{of_member}
@@ -14,6 +15,25 @@ pub contains_after-requires : goal.contains_after-requires
 contains_after-requires c = record {
   begun = (c.self.inside.sealed.worker, subst (λ (b : TreeView). LeavesHas b.layout c.args.options.now.tries c.args.key c.self.inside.sealed.worker c.has.new.worker (Err c.in-Err.fault)) c.tree.ensures c.in-Err.ensures.leaves);
 }
+
+-- the first look-up freed no node
+pub returns-in-Ok-clause-frees : goal.returns-in-Ok-clause-frees
+returns-in-Ok-clause-frees c =
+    let b = c.args.self.now.tree in
+    let h = c.args.options.now in
+    let z = c.has.new.worker in
+    let r : Result Bool _ = Ok c.in-Ok.answer in
+    let l = of_member (λ d v. LeavesHas d.layout h.tries c.args.key v z r) _ _ _ c.self.view_is c.tree.ensures c.in-Ok.ensures.leaves in
+    has_frees_none b.layout h.tries c.args.key c.args.self.now.worker z r l.did
+
+pub returns-in-Err-clause-frees : goal.returns-in-Err-clause-frees
+returns-in-Err-clause-frees c =
+    let b = c.args.self.now.tree in
+    let h = c.args.options.now in
+    let m = c.has.new.worker in
+    let r : Result Bool _ = Err c.in-Err.fault in
+    let l = of_member (λ d v. LeavesHas d.layout h.tries c.args.key v m r) _ _ _ c.self.view_is c.tree.ensures c.in-Err.ensures.leaves in
+    c.contains_after.ensures.frees ∙ has_frees_none b.layout h.tries c.args.key c.args.self.now.worker m r l.did
 
 pub returns-in-Ok-clause-says : goal.returns-in-Ok-clause-says
 returns-in-Ok-clause-says c =

@@ -1,4 +1,4 @@
-use Rattle.std.proofs.Common.{◌+◌, refl, subst, arith}
+use Rattle.std.proofs.Common.{◌∙◌, ◌+◌, refl, subst, arith}
 use Rattle.std.specs.Prelude.{Err}
 use Rattle.nm_model.specs.declared.event.Op.TheVariants.{Has}
 use Rattle.nm_steps.specs.Steps.{TreeView}
@@ -15,6 +15,12 @@ retry-requires c = record { begun = (c.requires.begun.0, (has_failed c.args.self
 
 pub finish_with_retries-requires : goal.finish_with_retries-requires
 finish_with_retries-requires c = record { free = c.requires.begun.1.says.held }
+
+pub returns-in_default-clause-frees : goal.returns-in_default-clause-frees
+returns-in_default-clause-frees c = c.in_default.ensures.says.frees
+
+pub returns-clause-frees : goal.returns-clause-frees
+returns-clause-frees c = c.ask_with_retries.ensures.frees ∙ c.in-Ok.ensures.says.frees
 
 pub returns-then-not-is_pending-clause-says : goal.returns-then-not-is_pending-clause-says
 returns-then-not-is_pending-clause-says c = λ w free l.

@@ -45,5 +45,5 @@ returns-clause-says c = λ w free l.
     let busy = subst (λ (f : CallFault). LeavesGet b.layout h.tries k w x (Err f)) failed.0 l in
     let once = gets_once b.layout h.tries k w x _ free failed.1 (inr (free, busy)) in
     let rest = subst (λ (g : Options). GetsIn b g k (g.rounds + 1) x z r) c.without_one.ensures c.get_again.ensures.says in
-    let same : GetsIn b h k ((h.rounds - 1) + 1) x z r = record { answers = rest.answers; stores = rest.stores } in
+    let same : GetsIn b h k ((h.rounds - 1) + 1) x z r = record { answers = rest.answers; stores = rest.stores; frees = rest.frees } in
     gets_now b h k w z r free failed.1 (subst (λ (n : ℕ). GetsIn b h k n w z r) (omega (arith, some)) (gets_at_last b h k ((h.rounds - 1) + 1) w x z r once same))

@@ -18,7 +18,7 @@ returns-clause-says c =
     let z = c.ask_value_with_retries.new.self.worker in
     let r = c.ask_value_with_retries.result in
     let free : w.held ≡ None = search rules in
-    inr (free, inserts_then b h c.args.key w y c.in-Ok._done c.in-Ok.ensures.says z r (subst (λ (d : TreeView). AnswersIn d h Insert c.args.key (h.rounds + 1) y z r) c.finish_with_retries.ensures.tree c.ask_value_with_retries.ensures.says))
+    inr (free, inserts_then b h c.args.key w y c.in-Ok._done c.in-Ok.ensures.says z r c.ask_value_with_retries.ensures.frees (subst (λ (d : TreeView). AnswersIn d h Insert c.args.key (h.rounds + 1) y z r) c.finish_with_retries.ensures.tree c.ask_value_with_retries.ensures.says))
 
 pub returns-clause-puts : goal.returns-clause-puts
 returns-clause-puts c =

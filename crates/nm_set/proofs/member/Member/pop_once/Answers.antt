@@ -1,4 +1,4 @@
-use Rattle.std.proofs.Common.{ℕ, Bool, subst}
+use Rattle.std.proofs.Common.{◌∙◌, ℕ, Bool, subst}
 use Rattle.std.specs.Prelude.{Option, Some, Ok, Err}
 use Rattle.std.proofs.lemmas.Result.{err_from_is_err_and}
 use Rattle.nm_steps.specs.Steps.{TreeView}
@@ -60,6 +60,24 @@ returns-then-not-has-clause-says c =
     let x = c.key_at.new.self.worker in
     let found = subst (λ (f : Option ℕ). Finds c.args.end c.args.self.now.tree.layout c.args.options.now.tries w x (Ok f)) c.in-Some.is c.in_ok-key.ensures.says in
     pops_outside c.args.end c.args.self.now.tree c.args.options.now w c.requires.none x c.in-Some.key found (c.has.ensures.no c.if-not-has.true)
+
+pub returns-in_err-key-clause-frees : goal.returns-in_err-key-clause-frees
+returns-in_err-key-clause-frees c = λ map. c.key_at.ensures.frees
+
+pub returns-in_default-clause-frees : goal.returns-in_default-clause-frees
+returns-in_default-clause-frees c = λ map. c.key_at.ensures.frees
+
+pub returns-then-not-has-clause-frees : goal.returns-then-not-has-clause-frees
+returns-then-not-has-clause-frees c = λ map. c.key_at.ensures.frees
+
+pub returns-in_err-remove_popped-clause-frees : goal.returns-in_err-remove_popped-clause-frees
+returns-in_err-remove_popped-clause-frees c = λ map. c.remove_popped.ensures.frees map ∙ c.key_at.ensures.frees
+
+pub returns-then-branch-clause-frees : goal.returns-then-branch-clause-frees
+returns-then-branch-clause-frees c = λ map. c.remove_popped.ensures.frees map ∙ c.key_at.ensures.frees
+
+pub returns-else-branch-clause-frees : goal.returns-else-branch-clause-frees
+returns-else-branch-clause-frees c = λ map. c.remove_popped.ensures.frees map ∙ c.key_at.ensures.frees
 
 pub returns-then-branch-clause-takes : goal.returns-then-branch-clause-takes
 returns-then-branch-clause-takes c = λ map.

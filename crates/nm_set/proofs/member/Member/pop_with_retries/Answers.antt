@@ -21,7 +21,7 @@ pub pop_once-requires-clause-none : goal.pop_once-requires-clause-none
 pop_once-requires-clause-none c = c.loop-round.invariant.lost.onward.none
 
 pub loop-round-init : goal.loop-round-init
-loop-round-init c = record { tree = refl; lost = no_round_yet (among c.args.end) (comes_before c.args.end) c.args.options.now.tries (pop_round_bound c.args.options.now c.args.self.now.tree.layout) c.args.self.now.worker c.requires.none c.requires.free }
+loop-round-init c = record { tree = refl; lost = no_round_yet (among c.args.end) (comes_before c.args.end) c.args.options.now.tries (pop_round_bound c.args.options.now c.args.self.now.tree.layout) c.args.self.now.worker c.requires.none c.requires.free; frees = λ map. refl }
 
 pub loop-round-preserved : goal.loop-round-preserved
 loop-round-preserved c =
@@ -36,6 +36,7 @@ loop-round-preserved c =
     record {
       tree = c.pop_once-told.ensures.tree ∙ at.invariant.tree;
       lost = one_round_more Among Before h.tries most at._round c.args.self.now.worker at.self.worker c.pop_once-told.new.self.worker at.invariant.lost last;
+      frees = λ map. c.pop_once-told.ensures.frees map ∙ at.invariant.frees map;
     }
 
 pub returns-then-not-is_busy-clause-says : goal.returns-then-not-is_busy-clause-says
@@ -61,6 +62,12 @@ returns-clause-says c =
     let r = c.pop_once.result in
     let P : TreeView → Type 0 = λ b. Pops Among Before (pop_round_bound h b.layout) h.tries 1 at.self.worker z r in
     last_round Among Before h.tries (pop_round_bound h c.args.self.now.tree.layout) at._round (h.rounds + 1) c.args.self.now.worker at.self.worker z r (omega (arith, within)) (λ is. omega (arith, past, within)) at.invariant.lost (subst P at.invariant.tree c.pop_once.ensures.says)
+
+pub returns-then-not-is_busy-clause-frees : goal.returns-then-not-is_busy-clause-frees
+returns-then-not-is_busy-clause-frees c = λ map. c.pop_once-told.ensures.frees map ∙ c.loop-round.invariant.frees map
+
+pub returns-clause-frees : goal.returns-clause-frees
+returns-clause-frees c = λ map. c.pop_once.ensures.frees map ∙ c.loop-round.invariant.frees map
 
 pub returns-then-not-is_busy-clause-takes : goal.returns-then-not-is_busy-clause-takes
 returns-then-not-is_busy-clause-takes c = λ map.

@@ -22,7 +22,7 @@ returns-then-not-is_unfinished-clause-says c =
     let r = c.ask_value_with_retries-told.result in
     let free : w.held ≡ None = search rules in
     let a = subst (λ (d : TreeView). AnswersIn d h Delete k (h.rounds + 1) y z r) c.finish_with_retries.ensures.tree c.ask_value_with_retries-told.ensures.says in
-    inr (free, removes_then b h k w y c.in-Ok._done c.in-Ok.ensures.says z r (removes_plain b h k y z r (c.if-not-is_unfinished.ensures.no refl) a))
+    inr (free, removes_then b h k w y c.in-Ok._done c.in-Ok.ensures.says z r c.ask_value_with_retries-told.ensures.frees (removes_plain b h k y z r (c.if-not-is_unfinished.ensures.no refl) a))
 
 pub returns-then-not-is_unfinished-clause-takes : goal.returns-then-not-is_unfinished-clause-takes
 returns-then-not-is_unfinished-clause-takes c =
@@ -48,7 +48,7 @@ returns-clause-says c =
     let flagged = subst P (c.if-not-is_unfinished.ensures.yes refl) (subst (λ (d : TreeView). AnswersIn d h Delete k (h.rounds + 1) y x c.ask_value_with_retries-told.result) came c.ask_value_with_retries-told.ensures.says) in
     let last = subst (λ (d : TreeView). FinishesIn d h (h.rounds + 1) x z r) (c.ask_value_with_retries-told.ensures.tree ∙ came) c.finish_with_retries-2.ensures.says in
     let none = (finished b h (h.rounds + 1) w y c.in-Ok._done c.in-Ok.ensures.says).none in
-    inr (free, removes_then b h k w y c.in-Ok._done c.in-Ok.ensures.says z r (removes_at_last b h k y x z c.know_run.ensures.idle none flagged r last))
+    inr (free, removes_then b h k w y c.in-Ok._done c.in-Ok.ensures.says z r (last.frees ∙ c.ask_value_with_retries-told.ensures.frees) (removes_at_last b h k y x z c.know_run.ensures.idle none flagged r last))
 
 pub returns-clause-takes : goal.returns-clause-takes
 returns-clause-takes c =

@@ -136,7 +136,10 @@ returns-in-Err-clause-leaves c =
             );
         interfered = λ is. absurd (let no = is in cc);
         lost = λ is. absurd (let no = is in cc);
-        alone = λ runs. tt;
+        alone = λ runs. (
+            let P : CallFault → Type 0 = λ m. LacksRoomOr (LosesAfterFlag c.self.inside.shared.layout c.args.tries c.args.key c.worker.inside.pass.view.log c.delete.new.pass.view.log) c.delete.new.held.queue.spare (Err m) in
+            lacks_after c.worker.inside.home _ _ c.worker.inside.queues.items c.delete.new.held c.worker.invariant.own c.delete.ensures.kept.own (subst P out c.in-Err.ensures.refused)
+            );
       })
     ]
 

@@ -1,7 +1,9 @@
-use Rattle.std.proofs.Common.{rules, Bool, ap, refl, subst, ◌∙◌, arith}
-use Rattle.std.specs.Prelude.{Result}
+use Rattle.std.proofs.Common.{rules, Bool, ap, refl, subst, sym, ◌∙◌, arith}
+use Rattle.std.specs.Prelude.{Result, slice_set}
 use Rattle.nm_steps.proofs.Seeing.{seen_all}
-use Rattle.nm_tree.specs.Workers.{WorkerView}
+use Rattle.nm_steps.specs.Steps.{PassView, TreeView}
+use Rattle.nm_tree.specs.Workers.{WorkerView, held_in, pending_in}
+use Rattle.nm_tree.proofs.FullPools.{found_no_slot}
 use Rattle.nm_tree.proofs.QueueLists.{lacks_after, stands_within, room_after}
 use Rattle.nm_tree.proofs.Staying.{resting_in, rests_in, rests_as, free_in}
 use Rattle.nm_tree.proofs.Interfered.{insert_interfered, insert_alone}
@@ -40,6 +42,12 @@ returns-clause-says c = record {
   same = search rules;
   past = search (rules, seen_all);
   told = rw (← c.worker.view_is) (insert_told c.self.inside.shared.layout c.args.tries c.args.key _ _ (free_in c.worker.inside.standing (resting_in c.worker.inside.standing (ap (λ (w : WorkerView). w.held) c.worker.view_is ∙ c.requires.free) c.in_default.not-Pending)) c.insert-answer.result
+      (λ full. found_no_slot c.self.inside.shared.layout c.args.tries c.args.key
+      (record { pass = c.worker.inside.pass; queues = c.worker.inside.queues.items; pending = pending_in c.worker.inside.standing; held = held_in c.worker.inside.standing; fit = c.worker.inside.workspace.placement })
+      (record { pass = c.insert-answer.new.pass; queues = slice_set c.worker.inside.queues.items c.worker.inside.home c.insert-answer.new.held; pending = pending_in c.worker.inside.standing; held = held_in c.worker.inside.standing; fit = c.insert-answer.new.workspace.placement })
+      (ap (λ (p : PassView). p.view.layout) c.insert-answer.ensures.after.same ∙ (ap (λ (x : WorkerView). x.pass.view.layout) c.worker.view_is ∙ (c.requires.own.layout ∙ ap (λ (b : TreeView). b.layout) (sym c.self.view_is))))
+      c.know_run.ensures.seen c.know_run-2.ensures.seen c.insert-answer.ensures.after.same c.insert-answer.ensures.after.past
+      (subst (λ (r : Result Bool CallFault). InsertDid c.worker.inside.workspace.placement c.self.inside.shared.layout c.args.tries c.args.key c.worker.inside.pass.view.log c.insert-answer.new.pass.view.log r) full c.insert-answer.ensures.after.did))
       (λ none'. lacks_after c.worker.inside.home _ _ c.worker.inside.queues.items c.insert-answer.new.held c.worker.invariant.own c.insert-answer.ensures.kept.own (c.insert-answer.ensures.refused none')) c.insert-answer.ensures.after.did);
   moment = search rules;
   won = search rules;

@@ -1,0 +1,84 @@
+//! Managed calls of a set and of a map that are answered, because slots and memory suffice, proved from
+//! the clauses of `nm_set` and the page alone.
+ghost use Rattle.std.specs.Prelude.{◌≡◌, ◌≤◌, None};
+ghost use Rattle.nm_progress.specs.Alone.{RunsAlone};
+ghost use Rattle.nm_tree.specs.Answers.{LacksRoom};
+ghost use Rattle.nm_set.specs.Managed.{of_insert};
+ghost use Rattle.nm_callers.specs.Enough.{IsAnswer, StaysFree};
+
+use nm_edge::Key;
+use nm_set::{InsertFault, MapMember, Member, Options};
+use nm_tree::CallFault;
+
+/// Inserts a key into a set, with at least one try. Proved: the call returns an answer if no other
+/// worker has a remove pending before it or makes a transition during it, if a slot stays free all the
+/// time, and if the worker's own queue has the room of a try afterwards.
+pub fn insert_with_enough(
+    member: &mut Member,
+    key: Key,
+    options: &Options,
+) -> Result<bool, InsertFault>
+    requires free { member.old.worker.held ≡ None }
+    requires some { 1 ≤ options.now.tries }
+    ensures tree { member.new.tree ≡ member.old.tree }
+    ensures answered { RunsAlone member.old.worker.pass member.new.worker.pass
+        → StaysFree member.old.worker.pass member.new.worker.pass
+        → (LacksRoom member.new.worker → ⊥) → IsAnswer (of_insert result) }
+{
+    let inserted = member.insert(key, options);
+    member.know_run();
+    inserted
+}
+
+/// Removes a key from a set, with at least one try. Proved: the call returns an answer if no other worker
+/// has a remove pending before it or makes a transition during it, and if the worker's own queue has the
+/// room of a try afterwards.
+pub fn remove_with_enough(
+    member: &mut Member,
+    key: Key,
+    options: &Options,
+) -> Result<bool, CallFault>
+    requires free { member.old.worker.held ≡ None }
+    requires some { 1 ≤ options.now.tries }
+    ensures tree { member.new.tree ≡ member.old.tree }
+    ensures answered { RunsAlone member.old.worker.pass member.new.worker.pass
+        → (LacksRoom member.new.worker → ⊥) → IsAnswer result }
+{
+    member.remove(key, options)
+}
+
+/// Inserts a key with a value into a map. Proved: the same as of `insert_with_enough`.
+pub fn put_with_enough(
+    member: &mut MapMember,
+    key: Key,
+    value: u64,
+    options: &Options,
+) -> Result<bool, CallFault>
+    requires free { member.old.worker.held ≡ None }
+    requires some { 1 ≤ options.now.tries }
+    ensures tree { member.new.tree ≡ member.old.tree }
+    ensures answered { RunsAlone member.old.worker.pass member.new.worker.pass
+        → StaysFree member.old.worker.pass member.new.worker.pass
+        → (LacksRoom member.new.worker → ⊥) → IsAnswer result }
+{
+    let mut found = 0;
+    let inserted = member.insert(key, value, &mut found, options);
+    member.know_run();
+    inserted
+}
+
+/// Removes a key from a map. Proved: the same as of `remove_with_enough`.
+pub fn take_with_enough(
+    member: &mut MapMember,
+    key: Key,
+    taken: &mut u64,
+    options: &Options,
+) -> Result<bool, CallFault>
+    requires free { member.old.worker.held ≡ None }
+    requires some { 1 ≤ options.now.tries }
+    ensures tree { member.new.tree ≡ member.old.tree }
+    ensures answered { RunsAlone member.old.worker.pass member.new.worker.pass
+        → (LacksRoom member.new.worker → ⊥) → IsAnswer result }
+{
+    member.remove(key, taken, options)
+}
