@@ -435,8 +435,9 @@ static void cancel(void *(*call)(void *), nm_pool *pool, nm_handle *worker) {
     CHECK(pthread_join(thread, &result) == 0 && result == PTHREAD_CANCELED);
 }
 
-/* A thread that is cancelled in a close, a detach or an end of the pool goes on until that ended, and
- * leaves nothing half done. (The address sanitizer does not know the stack of a cancelled thread.) */
+/* A thread that is cancelled in a close, a detach or an end of the pool goes on until that ended,
+ * and leaves nothing half done. (The address sanitizer does not know the stack of a thread that was
+ * cancelled.) */
 static void waiting_threads_are_cancelled(void) {
     nm_pool *pool = made(64, 1);
     nm_handle report = NM_CLOSED_HANDLE;
