@@ -132,7 +132,7 @@ nm_outcome __wrap_nm_worker_pinned(nm_handle *worker, uint64_t *epoch) {
 
 /* ---- a call that does not end, beside a set that is to grow ---- */
 
-#define INSERT_MS 3000u
+#define INSERT_MS 4000u
 
 struct inserter {
     nm_pool *pool;
@@ -354,7 +354,7 @@ static void *waits_for_a_key(void *of) {
  * over. */
 static void a_wake_is_passed_on(bool is_cancelled) {
     nm_pool *pool = made(64, 1);
-    struct popper poppers[2] = {{pool, is_cancelled ? SOON : 2000, NM_DONE, 77},
+    struct popper poppers[2] = {{pool, is_cancelled ? SOON : 4000, NM_DONE, 77},
                                 {pool, SOON, NM_DONE, 77}};
     pthread_t threads[2];
     uint32_t worker;
@@ -382,7 +382,7 @@ static void a_wake_is_passed_on(bool is_cancelled) {
 /* A key of which no pop was told is found by a last look. */
 static void a_pop_looks_once_more(void) {
     nm_pool *pool = made(64, 1);
-    struct popper popper = {pool, 2000, NM_DONE, 77};
+    struct popper popper = {pool, 4000, NM_DONE, 77};
     pthread_t thread;
     uint32_t worker;
     CHECK(nm_pool_attach(pool, &worker, SOON) == NM_DONE);
@@ -398,10 +398,12 @@ static void a_pop_looks_once_more(void) {
 
 #ifndef __SANITIZE_ADDRESS__
 static uint32_t lent;
+static atomic_bool is_over;
 
 static void *closes(void *pool) {
     nm_handle report = NM_CLOSED_HANDLE;
     (void)nm_pool_close(pool, 300, &report, NULL);
+    atomic_store(&is_over, true);
     pthread_testcancel();
     return NULL;
 }
@@ -418,7 +420,8 @@ static void *frees(void *pool) {
     return NULL;
 }
 
-/* Cancels a thread while its call waits for another one, and lets it go on. */
+/* Cancels a thread while its call waits for another one, and then ends that one. A close has failed
+ * before, because its time was over. */
 static void cancel(void *(*call)(void *), nm_pool *pool, nm_handle *worker) {
     pthread_t thread;
     void *result;
@@ -426,14 +429,15 @@ static void cancel(void *(*call)(void *), nm_pool *pool, nm_handle *worker) {
     CHECK(pthread_create(&thread, NULL, call, pool) == 0);
     sleep_for(100);
     CHECK(pthread_cancel(thread) == 0);
-    sleep_for(call == closes ? 400 : 0);
+    for (int turn = 0; call == closes && !atomic_load(&is_over) && turn < 10000; turn++)
+        sleep_for(1);
     hold(worker, false);
     CHECK(pthread_join(thread, &result) == 0 && result == PTHREAD_CANCELED);
 }
 
-/* A thread that is cancelled in a close, a detach or an end of the pool goes on until that has
- * ended, and so leaves nothing half done. (The address sanitizer does not know the stack of a thread
- * that was cancelled.) */
+/* A thread that is cancelled in a close, a detach or an end of the pool goes on until that ended,
+ * and leaves nothing half done. (The address sanitizer does not know the stack of a thread that was
+ * cancelled.) */
 static void waiting_threads_are_cancelled(void) {
     nm_pool *pool = made(64, 1);
     nm_handle report = NM_CLOSED_HANDLE;
