@@ -25,9 +25,9 @@ uint32_t nm_map_collect_after(uint32_t nodes, uint32_t workers) {
     return after < 8 ? 8 : after < 64 ? (uint32_t)after : 64;
 }
 
-/* Attaches the worker of a number, or any with NM_ANY. It takes the handle of the map by the exchange
- * that each call of the library makes. So the library never looks for long at a handle that a
- * preempted thread has. NM_IN_USE: other calls had the handle for some microseconds. */
+/* Attaches the worker of a number, or any with NM_ANY. It takes the handle of the map by the
+ * exchange that each call of the library makes. So the library never looks for long at a handle
+ * that a preempted thread has. NM_IN_USE: other calls had the handle for some microseconds. */
 static nm_outcome attach_soon(nm_handle *map, nm_handle *worker, uint32_t number) {
     for (int look = 0; look < LOOKS + YIELDS; look++) {
         if (look >= LOOKS) (void)sched_yield();
