@@ -25,27 +25,21 @@ uint32_t nm_map_collect_after(uint32_t nodes, uint32_t workers) {
     return after < 8 ? 8 : after < 64 ? (uint32_t)after : 64;
 }
 
-/* Attaches the worker of a number, or any with NM_ANY, if no other call has the handle of the map
- * at this moment: else NM_IN_USE. It takes the handle by the exchange that each call of the library
- * makes. So the library never looks for long at a handle that a preempted thread has. */
-static nm_outcome attach_alone(nm_handle *map, nm_handle *worker, uint32_t number) {
-    if (__atomic_exchange_n(&map->in_use, 1, __ATOMIC_SEQ_CST) != 0) return NM_IN_USE;
-    nm_handle own = {map->at, 0};
-    nm_outcome outcome =
-        number == NM_ANY ? nm_map_attach(&own, worker) : nm_map_worker(&own, worker, number);
-    map->at = own.at;
-    __atomic_store_n(&map->in_use, 0, __ATOMIC_SEQ_CST);
-    return outcome;
-}
-
-/* Does the same, and looks again while other calls have the handle, for some microseconds. */
+/* Attaches the worker of a number, or any with NM_ANY. It takes the handle of the map by the
+ * exchange that each call of the library makes. So the library never looks for long at a handle
+ * that a preempted thread has. NM_IN_USE: other calls had the handle for some microseconds. */
 static nm_outcome attach_soon(nm_handle *map, nm_handle *worker, uint32_t number) {
-    nm_outcome outcome = NM_IN_USE;
-    for (int look = 0; outcome == NM_IN_USE && look < LOOKS + YIELDS; look++) {
+    for (int look = 0; look < LOOKS + YIELDS; look++) {
         if (look >= LOOKS) (void)sched_yield();
-        outcome = attach_alone(map, worker, number);
+        if (__atomic_exchange_n(&map->in_use, 1, __ATOMIC_SEQ_CST) != 0) continue;
+        nm_handle own = {map->at, 0};
+        nm_outcome outcome =
+            number == NM_ANY ? nm_map_attach(&own, worker) : nm_map_worker(&own, worker, number);
+        map->at = own.at;
+        __atomic_store_n(&map->in_use, 0, __ATOMIC_SEQ_CST);
+        return outcome;
     }
-    return outcome;
+    return NM_IN_USE;
 }
 
 nm_outcome nm_map_wait_attach(nm_handle *map, nm_handle *worker, uint32_t timeout_ms) {
@@ -355,16 +349,14 @@ nm_outcome nm_map_put(nm_handle *map, nm_handle *worker, uint64_t key, uint64_t 
     if (outcome < 0) return outcome;
     outcome = nm_map_insert(worker, key, value, options);
     if (outcome != NM_FULL) return outcome;
-    bool was_brimful = is_brimful(counts), is_asked = map == NULL;
+    bool is_full = is_brimful(counts), was_full, is_asked = map == NULL;
     do {
-        if (!is_asked && !was_brimful) is_asked = has_asked_all(map, release, context);
+        if (!is_asked && !is_full) is_asked = has_asked_all(map, release, context);
         (void)nm_map_take_back(worker, release, context, NULL);
         outcome = nm_map_insert(worker, key, value, options);
-        if (outcome != NM_FULL) return outcome;
-        bool is_still = was_brimful;
-        was_brimful = is_brimful(counts);
-        if (is_still && was_brimful) return outcome;
-    } while (nm_wait_on(&wait, timeout_ms));
+        was_full = is_full;
+        is_full = is_brimful(counts);
+    } while (outcome == NM_FULL && !(was_full && is_full) && nm_wait_on(&wait, timeout_ms));
     return outcome;
 }
 

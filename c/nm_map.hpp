@@ -506,8 +506,8 @@ public:
     // Removes a key; returns whether it was present. Its object is freed later, when no guard can
     // return it, by the thread whose call finds that: by an `insert`, a `remove`, a `reclaim` or
     // the end of a worker, or by the end of the map. NM_UNFINISHED: the key will be removed by this
-    // call and no other. Until the next call by this worker it is found, and an insert of it returns
-    // false. So remove it again: after false it is gone.
+    // call and no other. Until the next call by this worker it is found, and an insert of it
+    // returns false. So remove it again: after false it is gone.
     bool remove(Key key) {
         std::uint64_t unused = 0;
         return detail::answered_by_map(removed_with_value(key, unused), key);
@@ -884,8 +884,8 @@ public:
     Map &operator=(Map &&from) noexcept = default;
 
     // Attaches a worker to this thread, the least number first. While each worker is attached, or
-    // another thread attaches one, it waits, for `most` at most, and then throws NM_NO_WORKER. If no
-    // time is given, it waits for `timeout_ms` of the options. It also throws NM_NO_MEMORY.
+    // another thread attaches one, it waits, for `most` at most, and then throws NM_NO_WORKER. If
+    // no time is given, it waits for `timeout_ms` of the options. It also throws NM_NO_MEMORY.
     [[nodiscard]] Worker attach(std::chrono::milliseconds most) {
         check_open();
         Worker taken;

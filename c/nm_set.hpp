@@ -558,8 +558,8 @@ public:
     }
 
     // Removes the least keys that are below a bound, one by one and at most `room`, and returns
-    // them. SIZE_MAX is allowed: it takes memory for the keys that it returns. It waits for each key
-    // like `pop_first`. It throws a fault only if it has removed no key.
+    // them. SIZE_MAX is allowed: it takes memory for the keys that it returns. It waits for each
+    // key like `pop_first`. It throws a fault only if it has removed no key.
     std::vector<std::uint64_t> pop_first_many(Key below, std::size_t room) {
         std::vector<std::uint64_t> popped;
         nm_outcome outcome = NM_YES;
@@ -1198,9 +1198,10 @@ public:
 
     // ---- a key, with nothing thrown ----
     // These make the managed calls of nm_set.h, with the bounds of the options. They wait for no
-    // worker and for no nodes. If their thread is cancelled in them, asynchronously, the process
-    // ends, because they are noexcept. NM_NO_WORKER: each worker is in a call or pinned. If another thread
-    // is stopped while it makes the first call by a worker, they take some tenths of a second.
+    // worker and for no nodes. NM_NO_WORKER: each worker is in a call or pinned. If another thread
+    // is stopped while it makes the first call by a worker, they take some tenths of a second. If
+    // their own thread is cancelled in them, asynchronously, the process ends, because they are
+    // noexcept.
 
     // Inserts the key; returns NM_YES if it was absent, and else NM_NO. Errors: NM_FULL: no nodes
     // are free, and a collection freed none. NM_KEY, NM_BUSY, NM_NO_MEMORY, NM_NO_WORKER,

@@ -1,8 +1,8 @@
 /* Functions of nm_set.h that wait, for C. Each makes the call of its name, and repeats it while the
  * outcome says to call again, for at most timeout_ms milliseconds. In between it sleeps, from 20
  * microseconds up to a millisecond, twice as long each time. With 0 milliseconds it makes one call.
- * The functions of nm_set.h never sleep. All of this is code of this header, which c/waits.c tests; it is
- * not proved. C++ has the waits in nm_set.hpp.
+ * The functions of nm_set.h never sleep. All of this is code of this header, which c/waits.c tests;
+ * it is not proved. C++ has the waits in nm_set.hpp.
  *
  *     nm_wait_attach(&set, &worker, 1000);                    attaches a worker, within a second
  *     nm_wait_insert(&worker, 5, &nm_default_options, 1000);  NM_YES: the key was absent
