@@ -1,5 +1,5 @@
 //! Sets that are made of keys: one member inserts them before any other member can act.
-ghost use Rattle.std.specs.Prelude.{◌≡◌, ◌+◌, ◌<◌, ℕ, [], true, false, length, None, IfOk, IfSome, IsErrOf, Ok};
+ghost use Rattle.std.specs.Prelude.{◌≡◌, ◌+◌, ◌<◌, ℕ, [], true, length, None, IfOk, IfSome, Ok};
 ghost use Rattle.nm_edge.specs.Layouts.{in_radix, spaced};
 ghost use Rattle.nm_model.specs.declared.event.Op.TheVariants.{Insert};
 ghost use Rattle.nm_order.specs.Logs.{part_of};
@@ -51,7 +51,7 @@ impl Set {
     /// transition (turn), and have seen all that it has seen: so each call that they make comes
     /// after the inserts.
     ///
-    /// Errors: `New`: as of `with_members`. `Order`: the keys do not ascend, which is proved (`order`). `Full`: n keys take
+    /// Errors: `New`: as of `with_members`. `Order`: the keys do not ascend. `Full`: n keys take
     /// 2 n + 5 nodes. `Busy`: an insert reached the bounds of the options. Nothing is kept.
     /// Cost: an insert for each key.
     pub fn of_keys(
@@ -65,7 +65,6 @@ impl Set {
             (λ r. IsNewSet (in_radix (spaced nodes workers)) Fit.NextFit r.set) }
         ensures count { IfOk result (λ r. length r.others.items + 1 ≡ workers) }
         ensures ascend { IfOk result (λ _. RiseFrom 0 keys.now) }
-        ensures order { IsErrOf result OfKeysError.Order → RiseFrom 0 keys.now → ⊥ }
         ensures filler { IfOk result
             (λ r. HasFilled r.set.tree r.set.fit (length r.others.items) keys.now r.filler) }
         ensures others { IfOk result
@@ -98,8 +97,7 @@ impl Set {
 
 /// Returns whether each key is above the one before it.
 fn ascend(keys: &[Key]) -> bool
-    ensures yes { result ≡ true → RiseFrom 0 keys.now }
-    ensures no { result ≡ false → RiseFrom 0 keys.now → ⊥ }
+    ensures { result ≡ true → RiseFrom 0 keys.now }
 {
     let mut least = 0;
     for key in keys {

@@ -56,7 +56,7 @@ returns-clause-filler c =
     (subst (λ (x : MemberView). HasInserted ks m.worker x.worker) same c.in_default-fill.ensures.did)
     (ap (λ (x : MemberView). x.worker.held) (sym same) ∙ c.in_default-fill.ensures.free)
     (ap (λ (x : MemberView). x.worker.pending) (sym same) ∙ c.in_default-fill.ensures.settled)
-    c.know_run.ensures.seen c.know_run.ensures.turns c.know_run.ensures.fits (omega (arith, layout, size, given, count)) rested (c.ascend.ensures.yes c.if-not-ascend.false)
+    c.know_run.ensures.seen c.know_run.ensures.turns c.know_run.ensures.fits (omega (arith, layout, size, given, count)) rested (c.ascend.ensures c.if-not-ascend.false)
 
 pub returns-clause-others : goal.returns-clause-others
 returns-clause-others c =
