@@ -1,5 +1,6 @@
-/* The pool of nm_pool.h. Each worker has a seat, and a call takes a seat by an atomic exchange. No
- * function has a lock, so a thread that is lost inside one keeps at most the seat that it has. */
+/* The pool of nm_pool.h. Each worker has a seat, and a call takes a seat by an atomic exchange. A
+ * thread that is lost inside a call keeps at most the seat that it has. Only a thread that is lost
+ * while it closes the set, or gives it a new size, keeps others from that, or from calls. */
 #define _GNU_SOURCE
 #include "nm_pool.h"
 

@@ -130,15 +130,15 @@ impl Member {
     ///
     /// It retries a look-up that lost each of its tries, at most `rounds` times. If the remove of
     /// an earlier call is pending, it finishes that one first, by at most `rounds` and one calls of
-    /// `finish`. So nothing is pending after an answer, and after `Busy`. Proved (`frees`): it frees no
-    /// node.
+    /// `finish`. So nothing is pending after an answer, and after `Busy`. Proved (`frees`): it
+    /// frees no node.
     ///
     /// Errors: `Pinned`: the caller has pinned the worker; nothing has changed. `Pending`: the
     /// earlier remove is not finished, and this call has done nothing else. `Busy`: each look-up
     /// lost each of its tries, or the options allow none; other workers have advanced the epoch, or
     /// linked or cut off nodes, at least that often meanwhile. Proved (`alone`, `pending`): a call
-    /// with at least one try is answered if no other worker has a remove pending before it or makes a
-    /// transition during it. The exception is that the room for the earlier remove is refused.
+    /// with at least one try is answered if no other worker has a remove pending before it or makes
+    /// a transition during it. The exception is that the room for the earlier remove is refused.
     #[inline(always)]
     pub fn contains(&mut self, key: Key, options: &Options) -> Result<bool, CallFault>
         ensures tree { self.new.tree ≡ self.old.tree }
@@ -168,12 +168,13 @@ impl Member {
     /// `Full` and `NoMemory`.
     ///
     /// Errors: `Pinned`, `Pending`, `Busy`: as of `contains`. `Full`: no slot was free for a new
-    /// node, before a collection and after it. Proved (`full`): after the collection the call tried each
-    /// slot, and got none. It names the worker that was found to hold the epoch back,
-    /// or says that none was found; then the epoch was advanced twice during the call, or it is the
-    /// last one. It also says how many removed nodes wait when the call ends. (The tree's own `Full`
-    /// is not returned.) `NoMemory`: the memory for a try was refused; of the insert nothing remains
-    /// but help given to others. Proved: the worker's own queue then has less room than a try needs. Proved (`alone`, `pending`): no other error, as for `contains`.
+    /// node, before a collection and after it. Proved (`full`): after the collection the call tried
+    /// each slot, and got none. It names the worker that was found to hold the epoch back, or says
+    /// that none was found; then the epoch was advanced twice during the call, or it is the last
+    /// one. It also says how many removed nodes wait when the call ends. (The tree's own `Full` is
+    /// not returned.) `NoMemory`: the memory for a try was refused; of the insert nothing remains
+    /// but help given to others. Proved: the worker's own queue then has less room than a try
+    /// needs. Proved (`alone`, `pending`): no other error, as for `contains`.
     #[inline(always)]
     pub fn insert(&mut self, key: Key, options: &Options) -> Result<bool, InsertFault>
         ensures tree { self.new.tree ≡ self.old.tree }
@@ -209,9 +210,9 @@ impl Member {
     /// Errors: `Pinned`, `Pending`, `Busy`: as of `contains`. `NoMemory`: the memory for a try was
     /// refused before the leaf was flagged. `Unfinished`: the leaf is flagged and not known to be
     /// cut off. The key will be removed, and no other remove of it returns true. It is pending, and
-    /// the next managed call finishes it first. Proved (`alone`, `pending`): a call with at least one
-    /// try returns an answer or `NoMemory` if no other worker has a remove pending before it or makes
-    /// a transition during it. The exception is that the room of a try is refused later.
+    /// the next managed call finishes it first. Proved (`alone`, `pending`): a call with at least
+    /// one try returns an answer or `NoMemory` if no other worker has a remove pending before it or
+    /// makes a transition during it. The exception is that the room of a try is refused later.
     #[inline(always)]
     pub fn remove(&mut self, key: Key, options: &Options) -> Result<bool, CallFault>
         ensures tree { self.new.tree ≡ self.old.tree }
@@ -501,8 +502,8 @@ impl Member {
     }
 
     /// Makes the call of that operation until one does not lose each of its tries: at most `rounds`
-    /// and one times. In a map an insert gives the key this value, or writes the value that was there to
-    /// `found`, and a remove writes the value of its key to it.
+    /// and one times. In a map an insert gives the key this value, or writes the value that was
+    /// there to `found`, and a remove writes the value of its key to it.
     #[inline(always)]
     pub(crate) fn ask_value_with_retries(
         &mut self,

@@ -25,8 +25,8 @@ pub struct Reclaimed {
     /// The epoch that was read, and how many values were written.
     pub handed: HandedOut,
     /// The worker that was found to hold the epoch back. It is the member's own if its caller has
-    /// pinned it. `None`: no worker was found so. Then the epoch was advanced twice during the call,
-    /// or it is the last one.
+    /// pinned it. `None`: no worker was found so. Then the epoch was advanced twice during the
+    /// call, or it is the last one.
     pub behind: Option<u32>,
 }
 
@@ -41,16 +41,16 @@ fn is_busy(told: &Result<Option<u64>, CallFault>) -> bool
 impl MapMember {
     /// Returns the value that the map has under `key`, or `None` if it does not have the key.
     ///
-    /// Like `Member::contains`, it finishes the remove of an earlier call first, and retries a look-up
-    /// that lost each of its tries, at most `rounds` times. It takes no memory for the look-up. Proved
-    /// (`frees`, in `says`): it frees no node; nor does `insert` or `remove`.
+    /// Like `Member::contains`, it finishes the remove of an earlier call first, and retries a
+    /// look-up that lost each of its tries, at most `rounds` times. It takes no memory for the
+    /// look-up. Proved (`frees`, in `says`): it frees no node; nor does `insert` or `remove`.
     ///
     /// Errors: `Pinned`: the caller has pinned the worker; nothing has changed (`get_pinned` is for
-    /// that). `Pending`: as of `Member::contains`. `Busy`: each look-up lost each of its tries, or the
-    /// options allow none. Proved (`busy`): if they allow one, other workers have meanwhile advanced
-    /// the epoch, or linked or cut off nodes, at least `rounds` and one times. Proved (`alone`): a call
-    /// with at least one try is answered if no other worker makes a transition during it. The
-    /// exception is that the room for the earlier remove is refused.
+    /// that). `Pending`: as of `Member::contains`. `Busy`: each look-up lost each of its tries, or
+    /// the options allow none. Proved (`busy`): if they allow one, other workers have meanwhile
+    /// advanced the epoch, or linked or cut off nodes, at least `rounds` and one times. Proved
+    /// (`alone`): a call with at least one try is answered if no other worker makes a transition
+    /// during it. The exception is that the room for the earlier remove is refused.
     #[inline(always)]
     pub fn get(&mut self, key: Key, options: &Options) -> Result<Option<u64>, CallFault>
         ensures tree { self.new.tree ≡ self.old.tree }
@@ -60,19 +60,19 @@ impl MapMember {
     }
 
     /// Inserts `key` with `value`; returns true if the key was absent. Otherwise the key keeps its
-    /// value, and the call writes this value to `found`. Proved (`puts`): if the result is `Ok(true)`,
-    /// the map had the key with `value` at a moment of the call. Proved (`finds`): if the result is
-    /// `Ok(false)`, the map had the key with the value in `found` at a moment of the call. After an
-    /// error `found` may be anything.
+    /// value, and the call writes this value to `found`. Proved (`puts`): if the result is
+    /// `Ok(true)`, the map had the key with `value` at a moment of the call. Proved (`finds`): if
+    /// the result is `Ok(false)`, the map had the key with the value in `found` at a moment of the
+    /// call. After an error `found` may be anything.
     ///
     /// Like `get`, it finishes the remove of an earlier call first, and retries an insert that lost
     /// each of its tries. Nothing is pending after an answer, `Busy`, `Full` and `NoMemory`.
     ///
-    /// Errors: `Pinned`, `Pending`, `Busy`: as of `get`. `Full`: no slot was free for a new node. Proved
-    /// (`full`): the call tried each slot, and got none. Call `reclaim`, take the values that it writes,
-    /// and insert again. `NoMemory`: the memory for a try was refused. Proved: the worker's own queue then
-    /// has less room than a try needs. Proved (`alone`): no other error, as for `get`, if no other worker has a remove
-    /// pending.
+    /// Errors: `Pinned`, `Pending`, `Busy`: as of `get`. `Full`: no slot was free for a new node.
+    /// Proved (`full`): the call tried each slot, and got none. Call `reclaim`, take the values
+    /// that it writes, and insert again. `NoMemory`: the memory for a try was refused. Proved: the
+    /// worker's own queue then has less room than a try needs. Proved (`alone`): no other error, as
+    /// for `get`, if no other worker has a remove pending.
     #[inline(always)]
     pub fn insert(
         &mut self,
@@ -92,17 +92,18 @@ impl MapMember {
         self.member.insert_managed(key, value, found, options)
     }
 
-    /// Removes `key`; returns true if it was present, after the leaf with the key was cut off. Then,
-    /// and after `Unfinished`, it has written the value that the key had to `taken`. Proved (`takes`):
-    /// the map had the key with this value at a moment of the call, in the slot of a leaf that the
-    /// worker has flagged. The value comes back by `reclaim` too, once nobody can read it.
+    /// Removes `key`; returns true if it was present, after the leaf with the key was cut off.
+    /// Then, and after `Unfinished`, it has written the value that the key had to `taken`. Proved
+    /// (`takes`): the map had the key with this value at a moment of the call, in the slot of a
+    /// leaf that the worker has flagged. The value comes back by `reclaim` too, once nobody can
+    /// read it.
     ///
     /// Like `get`, it finishes the remove of an earlier call first, and retries a remove that lost
-    /// each of its tries. One that has flagged its leaf goes on by at most `rounds` and one calls of
-    /// `finish`.
+    /// each of its tries. One that has flagged its leaf goes on by at most `rounds` and one calls
+    /// of `finish`.
     ///
-    /// Errors: those of `Member::remove`. After `Unfinished` the key is pending, and the next managed
-    /// call finishes it first.
+    /// Errors: those of `Member::remove`. After `Unfinished` the key is pending, and the next
+    /// managed call finishes it first.
     #[inline(always)]
     pub fn remove(
         &mut self,
@@ -120,9 +121,9 @@ impl MapMember {
     }
 
     /// Tries twice to advance the epoch, and then collects: `advance` and `collect`. It writes the
-    /// value of each freed leaf to `out`, and stops before a leaf if `out` is full: if as many values
-    /// were written as `out` has room for, call again. It may be called at any time. Cost: at most
-    /// `nodes` + 2 `workers` + 2 steps, and a look for each value.
+    /// value of each freed leaf to `out`, and stops before a leaf if `out` is full: if as many
+    /// values were written as `out` has room for, call again. It may be called at any time. Cost:
+    /// at most `nodes` + 2 `workers` + 2 steps, and a look for each value.
     pub fn reclaim(&mut self, out: &mut [u64]) -> Reclaimed
         ensures tree { self.new.tree ≡ self.old.tree }
         ensures says { LeavesReclaim self.old.tree.layout out.old out.new self.old.worker
@@ -164,8 +165,8 @@ impl Member {
     }
 
     /// Goes on after a look-up that failed with this error. If the remove of an earlier call is
-    /// pending, it finishes that one, and then looks up. It makes what the cold calls keep in memory,
-    /// apart from the code of a look-up that is answered at once.
+    /// pending, it finishes that one, and then looks up. It makes what the cold calls keep in
+    /// memory, apart from the code of a look-up that is answered at once.
     #[inline(always)]
     fn get_after(
         &mut self,

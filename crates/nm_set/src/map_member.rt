@@ -147,8 +147,8 @@ impl MapMember {
     }
 
     /// Returns whether the map has the key, by a managed call: `Member::contains`, which retries a
-    /// look-up that lost its tries, and first finishes the remove of an earlier call. Proved (`frees`):
-    /// it frees no node.
+    /// look-up that lost its tries, and first finishes the remove of an earlier call. Proved
+    /// (`frees`): it frees no node.
     ///
     /// Errors: `Pinned`, `Pending`, `Busy`: as of `Member::contains`.
     #[inline(always)]
@@ -197,9 +197,10 @@ impl MapMember {
         self.member.prev(key, tries)
     }
 
-    /// Returns the least key of the map that is not below `key`, like `next`, and writes its value to
-    /// `value`: `Tree::next_with_value` of `nm_tree`. Proved (`finds`): the map had the key that is
-    /// returned with this value at a moment of the call. After any other result `value` may be anything.
+    /// Returns the least key of the map that is not below `key`, like `next`, and writes its value
+    /// to `value`: `Tree::next_with_value` of `nm_tree`. Proved (`finds`): the map had the key that
+    /// is returned with this value at a moment of the call. After any other result `value` may be
+    /// anything.
     ///
     /// Errors: those of `next`.
     pub fn next_with_value(
@@ -216,8 +217,8 @@ impl MapMember {
         self.member.next_value(key, value, tries)
     }
 
-    /// Returns the greatest key of the map that is not above `key`, like `prev`, and writes its value
-    /// to `value`, like `next_with_value`.
+    /// Returns the greatest key of the map that is not above `key`, like `prev`, and writes its
+    /// value to `value`, like `next_with_value`.
     ///
     /// Errors: those of `prev`.
     pub fn prev_with_value(
@@ -303,10 +304,10 @@ impl MapMember {
         self.member.try_remove(key, tries)
     }
 
-    /// Removes `key` as `try_remove` does, and writes the value that it had to `taken` if it returns
-    /// true or `Unfinished`: `Tree::delete_with_value` of `nm_tree`. Proved (`takes`): the map had the
-    /// key with this value at a moment of the call, in the slot of a leaf that the worker has flagged.
-    /// The value comes back by `collect` too.
+    /// Removes `key` as `try_remove` does, and writes the value that it had to `taken` if it
+    /// returns true or `Unfinished`: `Tree::delete_with_value` of `nm_tree`. Proved (`takes`): the
+    /// map had the key with this value at a moment of the call, in the slot of a leaf that the
+    /// worker has flagged. The value comes back by `collect` too.
     ///
     /// Errors: those of `try_remove`.
     #[inline(always)]
@@ -341,9 +342,9 @@ impl MapMember {
     }
 
     /// Returns the value that the map has under `key`, or `None` if it does not have the key, to a
-    /// member that its caller has pinned: `Tree::get_pinned` of `nm_tree`. Proved (`says`): it was so at
-    /// a moment of that pin. The value does not come back before `unpin`, so until then the caller may
-    /// use what it refers to.
+    /// member that its caller has pinned: `Tree::get_pinned` of `nm_tree`. Proved (`says`): it was
+    /// so at a moment of that pin. The value does not come back before `unpin`, so until then the
+    /// caller may use what it refers to.
     ///
     /// Errors: `NotPinned`: the caller has not pinned the worker. `Busy`: see `PinnedGetFault`.
     #[inline(always)]
@@ -355,12 +356,13 @@ impl MapMember {
         self.member.get_value_pinned(key)
     }
 
-    /// Looks up the value of each of these keys like `get_pinned`, and writes the answers into their
-    /// `found` and `value`: `Tree::get_many_pinned` of `nm_tree`. Proved (`says`): each answer was right
-    /// at a moment of the caller's pin. No value that it finds comes back before `unpin`.
+    /// Looks up the value of each of these keys like `get_pinned`, and writes the answers into
+    /// their `found` and `value`: `Tree::get_many_pinned` of `nm_tree`. Proved (`says`): each
+    /// answer was right at a moment of the caller's pin. No value that it finds comes back before
+    /// `unpin`.
     ///
-    /// Errors: no answer means anything then. `NotPinned`: the caller has not pinned the worker; the
-    /// queries are unchanged. `Busy`: see `PinnedGetFault`.
+    /// Errors: no answer means anything then. `NotPinned`: the caller has not pinned the worker;
+    /// the queries are unchanged. `Busy`: see `PinnedGetFault`.
     pub fn get_many_pinned(&mut self, queries: &mut [Query]) -> Result<(), PinnedGetFault>
         ensures tree { self.new.tree ≡ self.old.tree }
         ensures says { SaysPinnedGetMany self.old.tree.layout queries.old queries.new self.old.worker
@@ -400,9 +402,9 @@ impl MapMember {
 
     /// Frees what has waited long enough at the front of each queue that the worker holds, and
     /// writes the value of each freed leaf to `out`: `Tree::collect_values` of `nm_tree`. It stops
-    /// before a leaf if `out` is full, and a later call goes on there. Proved (`says`): each value is
-    /// the one that its leaf had right before the leaf was cut off, and all workers that were pinned
-    /// then have unpinned since.
+    /// before a leaf if `out` is full, and a later call goes on there. Proved (`says`): each value
+    /// is the one that its leaf had right before the leaf was cut off, and all workers that were
+    /// pinned then have unpinned since.
     pub fn collect(&mut self, out: &mut [u64]) -> HandedOut
         ensures tree { self.new.tree ≡ self.old.tree }
         ensures says { HandsInto self.old.tree.layout.nodes out.old out.new self.old.worker

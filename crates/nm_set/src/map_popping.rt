@@ -12,9 +12,9 @@ use nm_tree::{CallFault, End};
 
 impl MapMember {
     /// Removes the least key of the map, and returns it; `None` if the map is empty. It is
-    /// `Member::pop_first`, and writes the value that the key had to `taken`. Proved (`takes`): the map
-    /// had the key with this value at a moment of the call. The value comes back by `reclaim` too. Proved
-    /// (`frees`): it frees no node.
+    /// `Member::pop_first`, and writes the value that the key had to `taken`. Proved (`takes`): the
+    /// map had the key with this value at a moment of the call. The value comes back by `reclaim`
+    /// too. Proved (`frees`): it frees no node.
     ///
     /// Errors: as of `Member::pop_first`.
     pub fn pop_first(
@@ -42,8 +42,8 @@ impl MapMember {
         self.member.pop(End::Last, true, taken, options)
     }
 
-    /// Removes the least key of the map, if it is below `below`, like `Member::pop_first_below`, and
-    /// writes its value.
+    /// Removes the least key of the map, if it is below `below`, like `Member::pop_first_below`,
+    /// and writes its value.
     pub fn pop_first_below(
         &mut self,
         below: u64,
@@ -60,8 +60,8 @@ impl MapMember {
             .pop(End::FirstBelow(below), true, taken, options)
     }
 
-    /// Removes the greatest key of the map, if it is not below `from`, like `Member::pop_last_from`,
-    /// and writes its value.
+    /// Removes the greatest key of the map, if it is not below `from`, like
+    /// `Member::pop_last_from`, and writes its value.
     pub fn pop_last_from(
         &mut self,
         from: u64,

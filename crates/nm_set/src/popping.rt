@@ -38,13 +38,13 @@ impl Member {
     ///
     /// Errors: `Pinned`, `Pending`, `NoMemory`: as of `remove`. `Busy`: each round came to nothing,
     /// because others removed the key that was found, or because a call lost each of its tries.
-    /// Proved (`busy`): a call with at least two tries is `Busy` only if turns have interfered with it,
-    /// or others have advanced the epoch, at least once for each round.
-    /// `Unfinished`: the least key, as above, will be removed by this call, and is pending; the
-    /// next managed call finishes it first. Proved (`alone`, `pending`): a call with at least two tries
-    /// returns an answer or `NoMemory` if no other worker has a remove pending before it or makes a
-    /// transition during it. The exception is that the room of a try is refused later. (The name is
-    /// that of Rust's `BTreeSet`.)
+    /// Proved (`busy`): a call with at least two tries is `Busy` only if turns have interfered with
+    /// it, or others have advanced the epoch, at least once for each round. `Unfinished`: the least
+    /// key, as above, will be removed by this call, and is pending; the next managed call finishes
+    /// it first. Proved (`alone`, `pending`): a call with at least two tries returns an answer or
+    /// `NoMemory` if no other worker has a remove pending before it or makes a transition during
+    /// it. The exception is that the room of a try is refused later. (The name is that of Rust's
+    /// `BTreeSet`.)
     pub fn pop_first(&mut self, options: &Options) -> Result<Option<Key>, CallFault>
         ensures tree { self.new.tree ≡ self.old.tree }
         ensures says { SaysManagedPop ◌<◌ self.old.tree options.now self.old.worker self.new.worker
@@ -179,7 +179,8 @@ impl Member {
         }
     }
 
-    /// Removes the key: in a map it writes its value to `taken`, and otherwise it may collect first.
+    /// Removes the key: in a map it writes its value to `taken`, and otherwise it may collect
+    /// first.
     #[inline(always)]
     fn remove_popped(
         &mut self,

@@ -90,9 +90,9 @@ pub enum KeepReturnedError {
 
 impl Set {
     /// Makes the empty set, in a radix tree with room for `nodes` nodes, 7 to 268,435,456, for 1 to
-    /// 64 workers, each of which announces in a page of its own. No walk passes more than 66 nodes,
-    /// whatever keys come in whatever order. Each worker reuses the slots that it gave back, and
-    /// otherwise searches from where it found the last one: `Fit::NextFit`.
+    /// 64 workers, each of which announces in a page of its own. No walk goes over more than 66
+    /// edges, whatever keys come in whatever order. Each worker reuses the slots that it gave back,
+    /// and otherwise searches from where it found the last one: `Fit::NextFit`.
     ///
     /// Errors: `Nodes`, `Workers`, `NoMemory`: nothing is kept.
     pub fn new(alloc: Global, nodes: u32, workers: u32) -> Result<Set, NewError>
@@ -165,9 +165,9 @@ impl Set {
     }
 
     /// Gives out any worker that is not attached, with all that it held when it was returned. The
-    /// caller has not pinned it. If it was never returned, it has done nothing yet. It looks at each
-    /// seat once, in the order of their numbers, and takes the first worker that it finds (tested:
-    /// which one that is).
+    /// caller has not pinned it. If it was never returned, it has done nothing yet. It looks at
+    /// each seat once, in the order of their numbers, and takes the first worker that it finds
+    /// (tested: which one that is).
     ///
     /// Errors: `NoWorker`: each seat was empty when it was looked at, one after the other. That no
     /// worker was free at one moment is not said: one may have been returned to a seat after the
@@ -235,8 +235,8 @@ impl Set {
         }
     }
 
-    /// Keeps a worker that was returned, for `close`: it is taken again by its ticket, as it was, and
-    /// kept as by `keep`. So the report of the set goes on from all that it had done and seen.
+    /// Keeps a worker that was returned, for `close`: it is taken again by its ticket, as it was,
+    /// and kept as by `keep`. So the report of the set goes on from all that it had done and seen.
     ///
     /// The worker must be one of this set, like the member of `keep`.
     ///

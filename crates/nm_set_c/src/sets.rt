@@ -14,7 +14,7 @@ use nm_set::{Fit, Set};
 use std::alloc::Global;
 
 /// Makes the empty set, in a radix tree with room for `nodes` nodes, 7 to 268,435,456, for 1 to 64
-/// workers: `Set::new` of `nm_set`. No walk passes more than 66 nodes, whatever keys come in
+/// workers: `Set::new` of `nm_set`. No walk goes over more than 66 edges, whatever keys come in
 /// whatever order. Returns `Done`, and the handle is open. Errors: `Open`, `InUse`, `Nodes`,
 /// `Workers`, `NoMemory`.
 #[unsafe(no_mangle)]
