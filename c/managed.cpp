@@ -9,6 +9,7 @@
 #include <list>
 #include <numeric>
 #include <optional>
+#include <set>
 #include <thread>
 #include <vector>
 
@@ -39,6 +40,8 @@ void keys_are_kept(Of &of) {
           of.at_most(UINT64_MAX) == 9u);
     CHECK(of.first() == 3u && of.last() == 9u && of.pop_first() == 3u && of.pop_last() == 9u &&
           !of.empty() && of.insert(9u));
+    CHECK(of.at_least(4u) == 5u && of.at_least(5u) == 5u && !of.at_least(10u) &&
+          !of.at_least(UINT64_MAX));
     std::vector<nm_lookup> lookups{{9, 77}, {4, 77}}, none;
     of.contains_many(none);
     of.contains_many(lookups);
@@ -49,6 +52,27 @@ void keys_are_kept(Of &of) {
     CHECK(*step++ == 1 && *step == 2 && step != of.begin());
     of.clear();
     CHECK(of.empty());
+}
+
+// The names of std::set answer as there.
+template <typename Of>
+void keys_have_the_names_of_std(Of &of) {
+    const std::set<std::uint64_t> peer{0, 3, 5, 9, nm::most_key - 1, nm::most_key};
+    CHECK(of.insert(peer.begin(), peer.end()) == peer.size());
+    for (std::uint64_t key : {0ul, 1ul, 3ul, 4ul, 9ul, 10ul, nm::most_key - 2, nm::most_key - 1,
+                              nm::most_key}) {
+        auto found = of.find(key), above = of.upper_bound(key);
+        auto wanted = peer.upper_bound(key);
+        CHECK(of.count(key) == peer.count(key) && (found != of.end()) == (peer.count(key) == 1));
+        CHECK(found == of.end() || (*found == key && ++found == of.upper_bound(key)));
+        CHECK(wanted == peer.end() ? above == of.end() : above != of.end() && *above == *wanted);
+    }
+    CHECK(of.find(UINT64_MAX) == of.end() && of.upper_bound(UINT64_MAX) == of.end());
+    CHECK(thrown([&] { (void)of.count(UINT64_MAX); }) == NM_KEY);
+    auto found = of.find(3u);
+    CHECK(of.erase(3u) == 1 && of.erase(3u) == 0 && *found == 3 && *++found == 5);
+    CHECK(thrown([&] { of.erase(UINT64_MAX); }) == NM_KEY);
+    of.clear();
 }
 
 // A range has the keys that are not below one key and are below another, including the greatest
@@ -346,9 +370,11 @@ void many_threads_share_few_workers() {
 int main() {
     nm::Set set(65536);
     keys_are_kept(set);
+    keys_have_the_names_of_std(set);
     ranges_are_told(set);
     nm::Worker worker = set.attach();
     keys_are_kept(worker);
+    keys_have_the_names_of_std(worker);
     ranges_are_told(worker);
     a_walk_goes_on();
     sets_are_made_of_keys();

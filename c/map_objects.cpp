@@ -190,6 +190,18 @@ void atomics_are_objects() {
     CHECK(one.emplace(5u, 1u, 2u) && one.pin().get(5u)->other == 2);
 }
 
+// After try_emplace a program has its arguments as before, whether the key was absent or present.
+void arguments_stay() {
+    nm::Map<std::string> map{64, 1};
+    auto worker = map.attach();
+    std::string text(100, 'a');
+    CHECK(worker.try_emplace(5u, std::move(text)) && text.size() == 100);
+    CHECK(!worker.try_emplace(5u, std::move(text)) && text.size() == 100);
+    CHECK(worker.try_emplace(6u, 3, 'b') && *worker.pin().get(6u) == "bbb");
+    CHECK(worker.erase(5u) == 1 && worker.erase(5u) == 0 && map.size() == 1);
+    CHECK(thrown([&] { worker.erase(UINT64_MAX); }) == NM_KEY);
+}
+
 void a_null_object_is_refused() {
     Objects map{64, 1};
     Objects::Worker worker = map.attach();
@@ -401,6 +413,7 @@ int main() {
     a_refused_insert_leaves_the_object();
     a_full_map_is_reported_at_once();
     atomics_are_objects();
+    arguments_stay();
     a_null_object_is_refused();
     nodes_of_a_returned_worker_are_freed();
     wrong_sizes_and_workers_are_refused();

@@ -54,6 +54,18 @@ void reads_like(Numbers &map, Numbers::Worker &worker, const Plain &plain, std::
     auto wanted = plain.lower_bound(from);
     CHECK((least == worker.end()) == (wanted == plain.end()));
     CHECK(wanted == plain.end() || (least->key == wanted->first && least->value == wanted->second));
+    auto above = worker.upper_bound(from);
+    CHECK(is(above == worker.end() ? std::nullopt : std::optional(*above), plain,
+             plain.upper_bound(from)));
+    auto found = worker.find(from);
+    CHECK(is(found == worker.end() ? std::nullopt : std::optional(*found), plain, plain.find(from)));
+    CHECK(is(worker.at_least(from), plain, wanted) && worker.count(from) == plain.count(from));
+    Plain scanned;
+    auto scan = worker.scan(from, 100);
+    for (auto [key, value] : scan.entries) scanned.emplace_hint(scanned.end(), key, value);
+    auto rest = std::next(wanted, std::min<std::ptrdiff_t>(100, std::distance(wanted, plain.end())));
+    CHECK(scanned == Plain(wanted, rest) && (scan.next || rest == plain.end()));
+    CHECK(!scan.next || is(worker.at_least(*scan.next), plain, rest));
     Plain read, back;
     for (auto [key, value] : worker.range(from, below)) read.emplace_hint(read.end(), key, value);
     auto range = worker.range(from, below);
@@ -103,6 +115,8 @@ void a_map_answers_like_a_map() {
             break;
         }
         case 5: CHECK(worker.remove(key) == (plain.erase(key) == 1)); break;
+        case 6: CHECK(worker.erase(key) == plain.erase(key)); break;
+        case 7: CHECK(worker.try_emplace(key, call) == plain.try_emplace(key, call).second); break;
         default: CHECK(worker.insert(key, call) == plain.emplace(key, call).second);
         }
         if (call % 200 == 0) reads_like(map, worker, plain, key, key + random() % 1500);
@@ -122,7 +136,12 @@ void the_ends_of_the_keys_are_read() {
     CHECK(worker.first()->key == 0 && worker.last()->key == nm::most_key);
     CHECK(worker.range(1u).begin()->key == nm::most_key && worker.count() == 2);
     CHECK(worker.range(0u, nm::most_key).rbegin()->key == 0 && worker.count(0u, nm::most_key) == 1);
-    CHECK(worker.range(7u, 7u).begin() == worker.end() && worker.count(UINT64_MAX) == 0);
+    CHECK(worker.range(7u, 7u).begin() == worker.end() && worker.count(7u, 7u) == 0);
+    CHECK(worker.find(UINT64_MAX) == worker.end() && worker.upper_bound(UINT64_MAX) == worker.end());
+    CHECK(worker.upper_bound(nm::most_key) == worker.end() && worker.find(nm::most_key)->value == 2);
+    CHECK(worker.upper_bound(nm::most_key - 1)->value == 2 && worker.count(nm::most_key) == 1);
+    CHECK(thrown([&] { (void)worker.count(UINT64_MAX); }) == NM_KEY);
+    CHECK(worker.scan(UINT64_MAX, 5).entries.empty() && !worker.scan(nm::most_key, 1).next);
     CHECK(worker.lower_bound(UINT64_MAX) == worker.end() && worker.at_most(UINT64_MAX)->value == 2);
     CHECK(thrown([&] { (void)worker.get_many({5, UINT64_MAX}); }) == NM_KEY);
     CHECK(!worker.pop_last(UINT64_MAX) && !worker.pop_first(0u));
@@ -191,6 +210,11 @@ void objects_are_read_and_popped_under_a_guard() {
         CHECK(all.size() == 600 && calls.get(5u) == all[5] && calls.get(600u) == nullptr);
         CHECK(calls.first()->value == all[0] && calls.last()->value == all[599]);
         CHECK(calls.lower_bound(7u)->value == all[7] && calls.at_most(9u)->value == all[9]);
+        CHECK(calls.find(7u)->value == all[7] && calls.find(600u) == calls.end());
+        CHECK(calls.upper_bound(7u)->value == all[8] && calls.at_least(9u)->value == all[9]);
+        CHECK(calls.count(599u) == 1 && calls.count(600u) == 0 && calls.count() == 600);
+        auto scan = calls.scan(598u, 1);
+        CHECK(scan.entries[0].value == all[598] && calls.scan(*scan.next, 9).entries.size() == 1);
         std::vector<Canary *> some{calls.get(3u), nullptr, calls.get(4u)};
         CHECK(guard.get_many({3, 700, 4}) == some);
         auto popped = calls.pop_first();

@@ -268,9 +268,14 @@ public:
 
     bool insert(const T &value) { return of_.insert(detail::checked_key(value)); }
     bool remove(const T &value) { return of_.remove(detail::checked_key(value)); }
+    std::size_t erase(const T &value) { return remove(value) ? 1 : 0; }
     [[nodiscard]] bool contains(const T &value) const {
         std::uint64_t key = Map::key(value);
         return key <= most_key && of_.contains(key);
+    }
+    [[nodiscard]] std::size_t count(const T &value) const { return contains(value) ? 1 : 0; }
+    [[nodiscard]] std::uint64_t count(const T &from, const T &below) const {
+        return of_.count(Map::key(from), Map::key(below));
     }
 
     template <typename Input, typename = typename std::iterator_traits<Input>::iterator_category>
@@ -285,8 +290,16 @@ public:
     }
 
     [[nodiscard]] iterator lower_bound(const T &value) const {
-        std::uint64_t key = Map::key(value);
-        return key > most_key ? end() : iterator(of_.lower_bound(key));
+        return iterator(of_.lower_bound(Map::key(value)));
+    }
+    [[nodiscard]] iterator upper_bound(const T &value) const {
+        return iterator(of_.upper_bound(Map::key(value)));
+    }
+    [[nodiscard]] iterator find(const T &value) const {
+        return iterator(of_.find(Map::key(value)));
+    }
+    [[nodiscard]] std::optional<T> at_least(const T &value) const {
+        return value_of(of_.at_least(Map::key(value)));
     }
     [[nodiscard]] std::optional<T> at_most(const T &value) const {
         return value_of(of_.at_most(std::min(Map::key(value), most_key)));
@@ -308,7 +321,22 @@ public:
             }
             [[nodiscard]] reverse_iterator rend() const noexcept { return reverse_iterator(); }
         };
-        return Values{of_.range(std::min(Map::key(from), most_key), Map::key(below))};
+        return Values{of_.range(Map::key(from), Map::key(below))};
+    }
+
+    // Reads the least values that are not below `from`, at most `room`: see nm::Set::scan. `next` is
+    // a value that the set had, so that it is one of the type: a scan reads one key more than `room`.
+    [[nodiscard]] Scanned<T, T> scan(const T &from, std::size_t room) const {
+        Scanned<T, T> read{{}, std::nullopt};
+        std::vector<std::uint64_t> keys =
+            of_.scan(Map::key(from), room + (room < SIZE_MAX ? 1 : 0)).entries;
+        if (keys.size() > room) {
+            read.next = Map::value(keys.back());
+            keys.pop_back();
+        }
+        detail::in_memory([&] { read.entries.reserve(keys.size()); });
+        for (std::uint64_t key : keys) read.entries.push_back(Map::value(key));
+        return read;
     }
 
     [[nodiscard]] std::optional<T> first() const { return value_of(of_.first()); }

@@ -319,9 +319,18 @@ public:
     // Removes the greatest key that is not below a bound and returns it, in the same way.
     std::optional<Entry> pop_last(Key from = 0u) { return popped(nm_map_pop_last_from, from); }
 
+    // Returns 1 if the map has the key, and else 0, like `std::map::count`.
+    [[nodiscard]] std::size_t count(Key key) const {
+        if (key > most_key) detail::answered_by_map(NM_KEY, key);
+        return next(key, key + 1) ? 1 : 0;
+    }
+
+    // Returns how many keys there are, counted like those of a range.
+    [[nodiscard]] std::uint64_t count() const { return count(0u, UINT64_MAX); }
+
     // Returns how many keys are not below `from` and are below `below`. While others change the
     // map, it counts each key as it finds it.
-    [[nodiscard]] std::uint64_t count(Key from = 0u, Key below = UINT64_MAX) const {
+    [[nodiscard]] std::uint64_t count(Key from, Key below) const {
         std::uint64_t found = 0;
         worker().done(from, [&](nm_handle *it, const nm_options *options) {
             return nm_map_count(it, from, below, &found, options);
@@ -489,6 +498,17 @@ public:
             return insert(key, made(std::forward<Args>(args)...));
     }
 
+    // Does the same, and takes nothing from its arguments: it copies from them, so a program has
+    // them unchanged also if the key was present. Unlike `std::map::try_emplace` it returns no
+    // iterator, and makes the object before it knows whether the key is absent.
+    template <typename... Args>
+    bool try_emplace(Key key, const Args &...args) {
+        static_assert(std::is_constructible_v<T, const Args &...>,
+                      "try_emplace copies from its arguments: to move, write emplace, or insert "
+                      "with a unique_ptr");
+        return emplace(key, args...);
+    }
+
     // Inserts these pairs of a key and a value, one by one; returns how many keys were absent. It
     // makes an object of a value, or takes it if it is a `unique_ptr` and the iterator moves
     // (`std::make_move_iterator`). If it throws a fault, the pairs before that one are inserted.
@@ -512,6 +532,9 @@ public:
         std::uint64_t unused = 0;
         return detail::answered_by_map(removed_with_value(key, unused), key);
     }
+
+    // Removes a key like `remove`; returns 1 if it was present, and else 0.
+    std::size_t erase(Key key) { return remove(key) ? 1 : 0; }
 
     // Removes a key, and returns the value that it had, or nothing if it was absent. No two calls
     // return one value, unless it was inserted again in between. It returns the value too if the

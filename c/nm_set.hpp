@@ -327,10 +327,11 @@ template <typename Of, typename Entry>
 class InOrder;
 
 // An input iterator over the keys of a set that may be in use. The keys may change between two
-// passes. The iterator finds its first key by one call, and then reads keys ahead, in blocks of 8,
-// 64 and 512, each by one call that waits like any call. It may return or skip a key that is
+// passes. The iterator finds its first key by one call, and then reads keys ahead, in blocks of 8, 16
+// and so on to 512, each by one call that waits like any call. It may return or skip a key that is
 // inserted or removed meanwhile. It does not return a key that was removed before its block was
-// read. It must end before its set or its worker.
+// read. It has a copy of its key: another thread may remove the key, and the iterator still goes on.
+// It must end before its set or its worker.
 template <typename Of, Order order = Order::ascending, typename Entry = std::uint64_t>
 class Iterator {
 public:
@@ -417,6 +418,14 @@ private:
     std::uint64_t below_;
 };
 
+// What a `scan` has read: keys, or keys of a map with their values, ascending. The next scan goes on
+// at `next`; without it these are all.
+template <typename Entry, typename Next = std::uint64_t>
+struct Scanned {
+    std::vector<Entry> entries;
+    std::optional<Next> next;
+};
+
 // What goes over keys in order. An entry is a key; of a map it may be a key with its value. `Of`
 // has the calls `next`, `prev` and `fill`, of which these are made.
 template <typename Of, typename Entry>
@@ -431,8 +440,36 @@ public:
     // Returns an iterator at the least key that is not below this one, or end().
     [[nodiscard]] iterator lower_bound(Key key) const { return ascending(key, UINT64_MAX); }
 
+    // Returns an iterator at the least key that is above this one, or end().
+    [[nodiscard]] iterator upper_bound(Key key) const {
+        return key < most_key ? ascending(key + 1, UINT64_MAX) : end();
+    }
+
+    // Returns an iterator at this key, or end() if there is no such key at a moment of the call. The
+    // iterator has a copy of the key: another thread may remove the key at any time.
+    [[nodiscard]] iterator find(Key key) const {
+        return iterator(self(), self().next(key, key + 1), UINT64_MAX);
+    }
+
+    // Returns the least key that is not below this one, or nothing if there is none.
+    [[nodiscard]] std::optional<Entry> at_least(Key key) const {
+        return self().next(key, UINT64_MAX);
+    }
+
     // Returns the greatest key that is not above this one, or nothing if there is none.
     [[nodiscard]] std::optional<Entry> at_most(Key key) const { return self().prev(key, 0); }
+
+    // Reads the least keys that are not below `from`, at most `room` of them, and returns them with
+    // the key at which the next scan goes on. Up to 1,024 keys are read by one call of the library,
+    // unless other threads change the set during it; a scan waits for each call. It takes no
+    // snapshot: the keys have moments of their own. SIZE_MAX is allowed: it takes memory for 1,024
+    // keys at a time.
+    [[nodiscard]] Scanned<Entry> scan(Key from, std::size_t room) const {
+        Scanned<Entry> read{{}, from <= most_key ? std::optional<std::uint64_t>(from) : std::nullopt};
+        while (read.next && read.entries.size() < room)
+            scan_on(read, std::min(room - read.entries.size(), most_scanned));
+        return read;
+    }
 
     [[nodiscard]] iterator begin() const { return ascending(0, UINT64_MAX); }
     [[nodiscard]] iterator end() const noexcept { return {}; }
@@ -463,7 +500,25 @@ private:
     friend class Iterator<Of, Order::descending, Entry>;
     friend class Range<Of, Entry>;
 
+    static constexpr std::size_t most_scanned = 1024;  // the most keys of one call of the library
+
     const Of &self() const noexcept { return static_cast<const Of &>(*this); }
+
+    // Appends at most `room` entries to what a scan has read.
+    void scan_on(Scanned<Entry> &read, std::size_t room) const {
+        detail::Block<Entry> block{room, {}, *read.next, false};
+        bool has_more = self().template fill<Order::ascending>(block, UINT64_MAX);
+        if (!has_more || block.next > most_key)
+            read.next.reset();
+        else
+            read.next = block.next;
+        if (read.entries.empty())
+            read.entries = std::move(block.entries);
+        else
+            detail::in_memory([&] {
+                read.entries.insert(read.entries.end(), block.entries.begin(), block.entries.end());
+            });
+    }
 
     // Returns at most `room` entries from `next` on (ascending) or below it (descending), up to the
     // bound of the range in that order. It returns none only for the last block.
@@ -526,8 +581,14 @@ public:
     // it returns false. So remove it again: after false it is gone.
     bool remove(Key key) { return done(nm_pool_remove, key); }
 
+    // Removes the key like `remove`; returns 1 if it was present, and else 0.
+    std::size_t erase(Key key) { return remove(key) ? 1 : 0; }
+
     // Returns whether the set has the key.
     [[nodiscard]] bool contains(Key key) const { return done(nm_pool_contains, key); }
+
+    // Returns 1 if the set has the key, and else 0.
+    [[nodiscard]] std::size_t count(Key key) const { return contains(key) ? 1 : 0; }
 
     // ---- in order ----
 

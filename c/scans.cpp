@@ -6,6 +6,7 @@
 #include <atomic>
 #include <cstdio>
 #include <numeric>
+#include <optional>
 #include <thread>
 #include <vector>
 
@@ -109,6 +110,41 @@ void scans_go_on() {
     nm_pool_free(pool);
 }
 
+// A scan reads as many keys as it has room for, also more than one call of the library reads, and the
+// next one goes on where it says.
+template <typename Of>
+void scans_have_room(const Of &of, const std::vector<std::uint64_t> &keys) {
+    for (std::size_t room : {1, 7, 100, 1023, 1024, 1025, 2000, 3000}) {
+        std::vector<std::uint64_t> all;
+        std::optional<std::uint64_t> next = 0;
+        while (next) {
+            auto read = of.scan(*next, room);
+            bool is_full = read.entries.size() == room;
+            CHECK(is_full || !read.next);
+            CHECK(!read.next || *read.next > read.entries.back());
+            all.insert(all.end(), read.entries.begin(), read.entries.end());
+            next = read.next;
+        }
+        CHECK(all == keys);
+    }
+    CHECK(of.scan(0u, SIZE_MAX).entries == keys && !of.scan(0u, SIZE_MAX).next);
+    CHECK(of.scan(keys[5] + 1, 2).entries == std::vector<std::uint64_t>({keys[6], keys[7]}));
+    CHECK(of.scan(3u, 0).entries.empty() && of.scan(3u, 0).next == 3u);
+    CHECK(of.scan(UINT64_MAX, 5).entries.empty() && !of.scan(UINT64_MAX, 5).next);
+    auto [last, next] = of.scan(most, 1);
+    CHECK(last == std::vector<std::uint64_t>{most} && !next);
+}
+
+void scans_return_keys() {
+    nm::Set set(8192);
+    std::vector<std::uint64_t> keys = every(3, 2000);
+    keys.push_back(most);
+    set.insert_range(keys);
+    scans_have_room(set, keys);
+    scans_have_room(set.attach(), keys);
+    CHECK(nm::Set(64).scan(0u, 5).entries.empty() && !nm::Set(64).scan(0u, 5).next);
+}
+
 // A scan of a pool and one of a worker take the bound first at which they begin. Those of a pool read
 // the keys of one range: in descending order its upper end is not in it either.
 void scans_take_their_begin_first() {
@@ -148,7 +184,9 @@ void keys_that_remain_are_read() {
             }
         });
     for (int round = 0; round < 200; round++) {
-        std::vector<std::uint64_t> all = round % 2 == 0 ? listed(set) : listed_back(set);
+        std::vector<std::uint64_t> all = round % 4 == 0   ? set.scan(0u, SIZE_MAX).entries
+                                         : round % 2 == 0 ? listed(set)
+                                                          : listed_back(set);
         if (round % 2 != 0) std::reverse(all.begin(), all.end());
         CHECK(std::is_sorted(all.begin(), all.end(), std::less_equal<>()));
         all.erase(std::remove_if(all.begin(), all.end(), [](auto key) { return key % 10 != 0; }),
@@ -168,6 +206,7 @@ int main() {
     the_ends_are_read();
     copies_go_on();
     scans_go_on();
+    scans_return_keys();
     scans_take_their_begin_first();
     keys_that_remain_are_read();
     std::puts("keys are read in order");

@@ -52,6 +52,24 @@ struct nm::KeyOf<Release> {
 
 namespace {
 
+// Scans of each room return all values. `next` is a value of the set.
+template <typename Of, typename T>
+void scans_like(const Of &of, const std::set<T> &peer) {
+    for (std::size_t room = 1; room <= peer.size() + 1; room++) {
+        std::vector<T> all;
+        std::optional<T> next = *peer.begin();
+        while (next) {
+            CHECK(peer.count(*next) == 1);
+            auto read = of.scan(*next, room);
+            CHECK(read.entries.size() == room || !read.next);
+            all.insert(all.end(), read.entries.begin(), read.entries.end());
+            next = read.next;
+        }
+        CHECK(all == std::vector<T>(peer.begin(), peer.end()));
+    }
+    CHECK(of.scan(*peer.begin(), SIZE_MAX).entries.size() == peer.size());
+}
+
 // A set of values, and a worker of it, answer like a set of the standard library.
 template <typename T>
 void answers_like(std::initializer_list<T> values) {
@@ -62,6 +80,9 @@ void answers_like(std::initializer_list<T> values) {
         CHECK(worker.insert(value) == peer.insert(value).second && !set.insert(value));
         CHECK(set.contains(value) && set.at_most(value) == value);
         CHECK(*set.lower_bound(value) == value && set.size() == peer.size());
+        CHECK(set.at_least(value) == value && set.count(value) == 1 && *set.find(value) == value);
+        CHECK(set.erase(value) == 1 && set.erase(value) == 0 && set.find(value) == set.end());
+        CHECK(set.count(value) == 0 && worker.insert(value));
     }
     CHECK(std::vector<T>(set.begin(), set.end()) == std::vector<T>(peer.begin(), peer.end()));
     CHECK(std::vector<T>(set.rbegin(), set.rend()) == std::vector<T>(peer.rbegin(), peer.rend()));
@@ -71,8 +92,15 @@ void answers_like(std::initializer_list<T> values) {
             for (const T &value : peer)
                 if (!(value < from) && value < below) want.push_back(value);
             for (T value : set.range(from, below)) got.push_back(value);
-            CHECK(got == want);
+            CHECK(got == want && set.count(from, below) == want.size());
         }
+    for (const T &value : values) {
+        auto wanted = peer.upper_bound(value);
+        auto above = worker.upper_bound(value);
+        CHECK(wanted == peer.end() ? above == worker.end() : *above == *wanted);
+    }
+    scans_like(set, peer);
+    scans_like(worker, peer);
     CHECK(set.first() == *peer.begin() && set.last() == *peer.rbegin());
     CHECK(set.pop_first() == *peer.begin() && set.insert(*peer.begin()));
     CHECK(worker.wait_pop(std::chrono::milliseconds(1)) == *peer.begin());
@@ -110,6 +138,12 @@ void values_that_are_no_keys() {
     CHECK(set.insert({INT64_MIN, -5, 5, INT64_MAX - 3}) == 4);
     CHECK(thrown([&] { set.insert(INT64_MAX); }) == NM_KEY && !set.contains(INT64_MAX));
     CHECK(set.at_most(INT64_MAX) == INT64_MAX - 3 && set.lower_bound(INT64_MAX) == set.end());
+    CHECK(set.range(INT64_MAX - 1, INT64_MAX).begin() == set.range(0, 0).end());
+    CHECK(set.range(INT64_MAX - 1, INT64_MAX).rbegin() == set.range(0, 0).rend());
+    CHECK(set.count(INT64_MAX - 3, INT64_MAX) == 1 && set.count(INT64_MAX - 1, INT64_MAX) == 0);
+    CHECK(set.upper_bound(INT64_MAX) == set.end() && set.find(INT64_MAX) == set.end());
+    CHECK(!set.at_least(INT64_MAX - 2) && set.count(INT64_MAX) == 0);
+    CHECK(thrown([&] { set.erase(INT64_MAX); }) == NM_KEY && set.scan(INT64_MAX, 5).entries.empty());
     CHECK(thrown([] { nm::Bits<4> more(16); }) == NM_KEY);
     CHECK(thrown([] { nm::Bits<4> less(-1); }) == NM_KEY && nm::Bits<4>(15) == 15);
     CHECK(set.keys().contains(0u) && set.keys().waiting() == 0);

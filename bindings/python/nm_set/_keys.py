@@ -25,6 +25,7 @@ _Out = TypeVar("_Out", bound=Sized)  # a buffer, for which Python has a type onl
 _UNSIGNED, _SIGNED = frozenset("QLN"), frozenset("qln")  # the formats of words of 64 bits
 NO_BOUND = 2**64 - 1  # above each key
 _FIRST_ROOM, _MOST_ROOM = 8, 512  # how many keys the first scan and the last scans of a loop read
+_SCANNED = 1024  # the most keys of one call of the library
 
 
 def number_of(key: object) -> Optional[int]:
@@ -125,6 +126,27 @@ def each_scanned(
             return
         first, below = (first, rest) if is_back else (rest, below)
         room = min(2 * room, _MOST_ROOM)
+
+
+def scanned(
+    scan: Callable[[int, int, int, bool], tuple[list[_T], Optional[int]]],
+    minimum: SupportsIndex,
+    count: SupportsIndex,
+) -> tuple[list[_T], Optional[int]]:
+    """Returns what the scans from `minimum` on return, at most `count`, and where the next scan goes
+    on, or None."""
+    read: list[_T] = []
+    room, rest = operator.index(count), _from(operator.index(minimum))
+    while rest is not None and len(read) < room:
+        block, rest = scan(rest, MOST_KEY + 1, min(room - len(read), _SCANNED), False)
+        rest = None if rest is None else _from(rest)
+        read += block
+    return read, rest
+
+
+def _from(number: int) -> Optional[int]:
+    """Returns the least key that is not below a number, or None if there is none."""
+    return max(number, 0) if number <= MOST_KEY else None
 
 
 def _as_set(other: Iterable[Any]) -> AbstractSet[Any]:
@@ -262,6 +284,14 @@ class Keys(MutableSet):  # type: ignore[type-arg]
         first, below = ends_of(minimum, maximum, inclusive)
         # The iterator refers to the set, which would close if nothing did.
         return each_scanned(lambda *read: self._calls.scan(*read), first, below, reverse)
+
+    def scan(
+        self, minimum: SupportsIndex, count: SupportsIndex
+    ) -> tuple[list[int], Optional[int]]:
+        """Returns the least keys that are not below `minimum`, at most `count`, and where the next
+        scan goes on, or None if these are all. Up to 1,024 keys are read by one call of the library,
+        in which other threads run, unless they change the set during it. It takes no snapshot."""
+        return scanned(lambda *read: self._calls.scan(*read), minimum, count)
 
     def count_range(
         self,

@@ -39,7 +39,7 @@ from typing import Any, Generic, Optional, SupportsIndex, TypeVar, Union, overlo
 from . import _library as c
 from ._faults import MOST_KEY, MOST_NODES, MOST_WORKERS, SHOWN, Contention, Fault, Forked, fault
 from ._faults import key_fault
-from ._keys import NO_BOUND, bound_of, each_scanned, ends_of, number_of, words_of
+from ._keys import NO_BOUND, bound_of, each_scanned, ends_of, number_of, scanned, words_of
 from ._leases import Owner, drop_with
 from ._set import Options, narrow
 
@@ -551,13 +551,27 @@ class Map(MutableMapping, Generic[V]):  # type: ignore[type-arg]
         is_back: bool,
     ) -> Iterator[T]:
         """Returns an iterator over what the scans of a range return."""
+        return each_scanned(partial(self._read_by, scan), *ends, is_back)
 
-        def scanned(
-            first: int, below: int, room: int, is_back: bool
-        ) -> tuple[list[T], Optional[int]]:
-            return self._with_worker(lambda worker: scan(worker, (first, below), room, is_back))
+    def _read_by(
+        self,
+        scan: Callable[..., tuple[list[T], Optional[int]]],
+        first: int,
+        below: int,
+        room: int,
+        is_back: bool,
+    ) -> tuple[list[T], Optional[int]]:
+        """Makes a scan by a worker."""
+        return self._with_worker(lambda worker: scan(worker, (first, below), room, is_back))
 
-        return each_scanned(scanned, *ends, is_back)
+    def scan(
+        self, minimum: SupportsIndex, count: SupportsIndex
+    ) -> tuple[list[tuple[int, V]], Optional[int]]:
+        """Returns the least keys that are not below `minimum` with their objects, at most `count`,
+        and where the next scan goes on, or None if these are all. Up to 1,024 keys are read by one
+        call of the library, unless other threads change the map during it. It takes no snapshot."""
+        self._check_open()
+        return scanned(partial(self._read_by, self._scan_items), minimum, count)
 
     def irange(
         self,

@@ -16,7 +16,7 @@
 #define MOST_KEY (UINT64_MAX - 3)
 #define SEVERAL 64   /* the number of keys that one call of the library looks up */
 #define SOME 4096    /* the most keys of one call of a method named `.._some` */
-#define SCANNED 512  /* the most keys of one scan */
+#define SCANNED 1024 /* the most keys of one scan */
 #define PART 20u     /* milliseconds: the longest part of a wait */
 
 typedef nm_outcome (*key_call)(nm_pool *, uint32_t, uint64_t, uint32_t);

@@ -169,6 +169,14 @@ class _Values(MutableSet, Generic[T]):  # type: ignore[type-arg]
         most = None if maximum is None else self._mapping.to_key(maximum)
         return map(self._mapping.from_key, self.keys.irange(least, most, inclusive, reverse))
 
+    def scan(self, minimum: T, count: SupportsIndex) -> tuple[list[T], Optional[T]]:
+        """Returns at most `count` values from one on, and where the next scan goes on, or None: see
+        `Set.scan`. That is a value that the set had, for which the scan reads one key more."""
+        room = max(operator.index(count), 0)
+        read, _ = self.keys.scan(self._mapping.to_key(minimum), room + 1)
+        values = [self._mapping.from_key(key) for key in read]
+        return values[:room], values[room] if len(values) > room else None
+
     def __iter__(self) -> Iterator[T]:
         return self.irange()
 

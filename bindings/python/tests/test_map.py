@@ -154,6 +154,13 @@ class InOrder(unittest.TestCase):
         self.assertEqual(list(back), pairs[::-1])
         self.assertEqual(list(reversed(found.items())), [(key, wanted[key]) for key in keys[::-1]])
         self.assertEqual(list(reversed(found.values())), [wanted[key] for key in keys[::-1]])
+        entries = [(key, wanted[key]) for key in above]
+        for count in (1, 100, 2_000):
+            read, rest = found.scan(low, count)
+            self.assertEqual(read, entries[:count])
+            self.assertTrue(rest is not None or len(entries) <= count)
+            more = [] if rest is None else found.scan(rest, 2**70)[0]
+            self.assertEqual(read + more, entries)
         asked = [low, high, *some, 1_000, low]
         self.assertEqual(found.get_many(asked), [wanted.get(key) for key in asked])
         self.assertEqual(found.get_many(asked, -1), [wanted.get(key, -1) for key in asked])
@@ -182,6 +189,11 @@ class InOrder(unittest.TestCase):
             self.assertRaises(OutOfRange, lambda: found.get_many([5, 2**64 - 3]))
             self.assertRaises(TypeError, lambda: found.get_many(["5"]))  # type: ignore[list-item]
             self.assertEqual(found.get_many([]), [])
+            read, rest = found.scan(-5, 1)
+            self.assertEqual(read, [(0, "least")])
+            assert rest is not None and 0 < rest <= nm_set.MOST_KEY
+            self.assertEqual(found.scan(rest, 5), ([(nm_set.MOST_KEY, "greatest")], None))
+            self.assertEqual((found.scan(2**64, 5), found.scan(7, 0)), (([], None), ([], 7)))
 
     def test_a_map_is_made_of_a_dict_or_of_pairs(self) -> None:
         with Map({5: "five", 7: "seven"}, workers=1) as found:

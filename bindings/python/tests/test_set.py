@@ -7,6 +7,7 @@ import random
 import unittest
 from array import array
 from itertools import islice
+from typing import Optional
 from unittest import mock
 
 import nm_set
@@ -155,6 +156,32 @@ class InOrder(unittest.TestCase):
                     self.assertEqual(list(numbers), list(range(count)))
                     self.assertEqual(list(reversed(numbers)), list(range(count))[::-1])
                 self.assertEqual(calls.scan.call_count, 2 * blocks, count)
+
+    def test_a_scan_reads_up_to_its_count_and_goes_on(self) -> None:
+        keys = [*range(0, 6_000, 3), MOST_KEY]
+        with Set(keys) as numbers, numbers.attach() as worker:
+            for count in (1, 7, 100, 1_023, 1_024, 1_025, 2_001, 2**70):
+                read: list[int] = []
+                rest: Optional[int] = -5
+                while rest is not None:
+                    some, after = numbers.scan(rest, count)
+                    self.assertEqual(worker.scan(rest, count), (some, after))
+                    self.assertTrue(len(some) == count or after is None)
+                    read, rest = read + some, after
+                self.assertEqual(read, keys)
+            self.assertEqual(numbers.scan(3, 0), ([], 3))
+            self.assertEqual(numbers.scan(MOST_KEY, 1), ([MOST_KEY], None))
+            self.assertEqual(numbers.scan(2**64, 5), ([], None))
+            with self.assertRaises(TypeError):
+                numbers.scan(0.5, 1)  # type: ignore[arg-type]
+
+    def test_a_scan_of_1024_keys_is_one_call(self) -> None:
+        with Set(range(3_000)) as numbers:
+            with mock.patch.object(numbers, "_calls", wraps=numbers._calls) as calls:
+                numbers.scan(0, 1_024)
+                self.assertEqual(calls.scan.call_count, 1)
+                numbers.scan(0, 1_025)
+                self.assertEqual(calls.scan.call_count, 3)
 
     def test_a_key_that_has_gone_before_its_block_is_read_is_not_returned(self) -> None:
         with Set(range(30), nodes=128) as numbers:

@@ -46,6 +46,14 @@ class Typed(unittest.TestCase):
                 self.assertEqual((list(numbers), len(numbers)), (ordered, len(values)))
                 self.assertEqual(list(reversed(worker)), ordered[::-1])
                 self.assertEqual(list(numbers.irange(ordered[1])), ordered[1:])
+                for count in range(1, len(ordered) + 2):
+                    read, rest = [], ordered[0]
+                    while rest is not None:
+                        some, rest = numbers.scan(rest, count)
+                        self.assertTrue(len(some) == count or rest is None)
+                        read += some
+                    self.assertEqual(read, ordered)
+                self.assertEqual(worker.scan(ordered[0], 0), ([], ordered[0]))
                 self.assertEqual((numbers.first(), numbers.last()), (ordered[0], ordered[-1]))
                 self.assertEqual(numbers & set(values[:1]), {values[0]})
                 self.assertEqual(worker.wait_pop(0), ordered[0])

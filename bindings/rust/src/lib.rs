@@ -23,7 +23,7 @@ pub use map::{Guard, InsertError, Map, MapWorker, Reclaimed};
 pub use map_order::GuardedWorker;
 pub use numbers::Numbers;
 pub use options::{Options, Shape};
-pub use order::Range;
+pub use order::{Range, Scanned};
 pub use place::Advance;
 pub use report::Report;
 pub use set::Set;

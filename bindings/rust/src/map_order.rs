@@ -8,7 +8,7 @@ use crate::ffi::{Order, Outcome};
 use crate::key::checked;
 use crate::map::{managed, Guard, Map, MapWorker};
 use crate::options::Options;
-use crate::order::{ends_of, retain, Calls, Range, Scanned, Scans};
+use crate::order::{self, ends_of, retain, Calls, Range, Scanned, Scans};
 use crate::MOST_KEY;
 use std::fmt;
 use std::ops::RangeBounds;
@@ -61,8 +61,9 @@ fn found<T>((outcome, found): (Outcome, Option<T>)) -> Result<Option<T>, Fault> 
 }
 
 /// Returns what a scan has read, and where the next one goes on.
-fn scanned<E>((outcome, read, next): (Outcome, Vec<E>, u64)) -> Result<Scanned<E>, Fault> {
-    Ok((read, managed(outcome)?.then_some(next)))
+fn scanned<E>((outcome, entries, next): (Outcome, Vec<E>, u64)) -> Result<Scanned<E>, Fault> {
+    let next = managed(outcome)?.then_some(next);
+    Ok(Scanned { entries, next })
 }
 
 impl<'a, V> MapWorker<'a, V> {
@@ -171,6 +172,15 @@ impl<'a, V> MapWorker<'a, V> {
     /// Returns an iterator over all keys, in the way of [`range`](MapWorker::range).
     pub fn iter(&mut self) -> Range<&mut MapWorker<'a, V>> {
         self.range(..)
+    }
+
+    /// Returns the least keys that are not below `from`, at most `room` of them, and where the next
+    /// scan goes on: see [`Set::scan`](crate::Set::scan). [`GuardedWorker::scan`] returns the values
+    /// too.
+    ///
+    /// Errors: `Contention`, `Pinned`.
+    pub fn scan(&mut self, from: u64, room: usize) -> Result<Scanned<u64>, Fault> {
+        order::scan(self, from, room)
     }
 
     /// Returns the keys of a range, ascending. It takes no snapshot: each key was in the map at a
@@ -300,6 +310,14 @@ impl<'w, 'a, 'g, V> GuardedWorker<'w, 'a, 'g, V> {
     /// results; the iterator ends after the first fault: `Contention`, `Pinned`.
     pub fn range(&mut self, bounds: impl RangeBounds<u64>) -> Range<&mut Self> {
         Range::of(self, bounds)
+    }
+
+    /// Returns the least keys that are not below `from` with their values, at most `room` of them, and
+    /// where the next scan goes on: see [`Set::scan`](crate::Set::scan).
+    ///
+    /// Errors: `Contention`, `Pinned`.
+    pub fn scan(&mut self, from: u64, room: usize) -> Result<Scanned<(u64, &'g V)>, Fault> {
+        order::scan(self, from, room)
     }
 
     /// Returns an iterator over all keys with their values, in the way of

@@ -14,9 +14,17 @@ use std::ops::{Bound, RangeBounds};
 /// The most keys that a range reads in one call.
 const MOST_ROOM: usize = 512;
 
-/// Keys in the order of a scan, or keys with their values, and where the next scan goes on, or None
-/// if they are all.
-pub(crate) type Scanned<E> = (Vec<E>, Option<u64>);
+/// The most keys that one call of the library reads.
+const MOST_SCANNED: usize = 1_024;
+
+/// What a [`scan`](crate::Set::scan) has read: keys, or keys of a map with their values.
+#[derive(Clone, Debug, PartialEq, Eq)]
+pub struct Scanned<E, N = u64> {
+    /// The keys, in the order of the scan.
+    pub entries: Vec<E>,
+    /// Where the next scan goes on, or None if these are all.
+    pub next: Option<N>,
+}
 
 /// What makes the scans of a [`Range`]: a set or a map, by a worker of it or by any.
 pub trait Scans {
@@ -68,6 +76,23 @@ fn take(calls: &mut impl Calls, key: u64) -> Result<(), Fault> {
     }
 }
 
+/// Returns the least keys that are not below `from`, at most `room` of them.
+pub(crate) fn scan<C: Scans>(
+    mut calls: C,
+    from: u64,
+    room: usize,
+) -> Result<Scanned<C::Entry>, Fault> {
+    let (mut entries, mut rest) = (Vec::new(), Some(from));
+    while let (true, Some(from)) = (entries.len() < room, rest.filter(|&from| from <= MOST_KEY)) {
+        let most = MOST_SCANNED.min(room - entries.len());
+        let mut block = calls.scan((from, MOST_KEY), most)?;
+        entries.append(&mut block.entries);
+        rest = block.next;
+    }
+    let next = rest.filter(|&from| from <= MOST_KEY);
+    Ok(Scanned { entries, next })
+}
+
 /// Removes each key for which `stays` returns false.
 pub(crate) fn retain(
     mut calls: impl Calls,
@@ -75,13 +100,13 @@ pub(crate) fn retain(
 ) -> Result<(), Fault> {
     let mut rest = Some(0);
     while let Some(from) = rest {
-        let (keys, next) = calls.scan((from, MOST_KEY), MOST_ROOM)?;
-        for key in keys {
+        let block = calls.scan((from, MOST_KEY), MOST_ROOM)?;
+        for key in block.entries {
             if !stays(key) {
                 take(&mut calls, key)?;
             }
         }
-        rest = next.filter(|&next| next <= MOST_KEY);
+        rest = block.next.filter(|&next| next <= MOST_KEY);
     }
     Ok(())
 }
@@ -148,9 +173,12 @@ impl<C: Scans> Range<C> {
     fn read(&mut self) -> Result<(), Fault> {
         while let (true, Some((low, high))) = (self.low.is_empty(), self.rest) {
             let room = self.take_room();
-            let (keys, next) = self.calls.scan((low, high), room)?;
-            self.low.extend(keys);
-            self.rest = next.filter(|&next| next <= high).map(|next| (next, high));
+            let block = self.calls.scan((low, high), room)?;
+            self.low.extend(block.entries);
+            self.rest = block
+                .next
+                .filter(|&next| next <= high)
+                .map(|next| (next, high));
         }
         Ok(())
     }
@@ -159,9 +187,12 @@ impl<C: Scans> Range<C> {
     fn read_back(&mut self) -> Result<(), Fault> {
         while let (true, Some((low, high))) = (self.high.is_empty(), self.rest) {
             let room = self.take_room();
-            let (keys, next) = self.calls.scan_back((low, high), room)?;
-            self.high.extend(keys.into_iter().rev());
-            self.rest = next.filter(|&next| next > low).map(|next| (low, next - 1));
+            let block = self.calls.scan_back((low, high), room)?;
+            self.high.extend(block.entries.into_iter().rev());
+            self.rest = block
+                .next
+                .filter(|&next| next > low)
+                .map(|next| (low, next - 1));
         }
         Ok(())
     }
@@ -216,9 +247,9 @@ mod tests {
         type Entry = u64;
 
         fn scan(&mut self, (low, high): (u64, u64), room: usize) -> Result<Scanned<u64>, Fault> {
-            let keys: Vec<u64> = self.0.range(low..=high).take(room).copied().collect();
-            let next = (keys.len() == room).then(|| keys[room - 1] + 1);
-            Ok((keys, next))
+            let entries: Vec<u64> = self.0.range(low..=high).take(room).copied().collect();
+            let next = (entries.len() == room).then(|| entries[room - 1] + 1);
+            Ok(Scanned { entries, next })
         }
 
         fn scan_back(
@@ -227,9 +258,9 @@ mod tests {
             room: usize,
         ) -> Result<Scanned<u64>, Fault> {
             let down = self.0.range(low..=high).rev();
-            let keys: Vec<u64> = down.take(room).copied().collect();
-            let next = (keys.len() == room).then(|| keys[room - 1]);
-            Ok((keys, next))
+            let entries: Vec<u64> = down.take(room).copied().collect();
+            let next = (entries.len() == room).then(|| entries[room - 1]);
+            Ok(Scanned { entries, next })
         }
     }
 

@@ -6,6 +6,7 @@ use crate::ffi::{
 };
 use crate::numbers::Numbers;
 use crate::options::Options;
+use crate::order::Scanned;
 use crate::report::Report;
 use std::time::Duration;
 
@@ -339,14 +340,13 @@ impl Place<'_> {
         self.key(outcome, found)
     }
 
-    /// Returns keys from `low` to `high` in an order, at most `room` of them, and where the next
-    /// scan goes on, or None if they are all of them.
+    /// Returns keys from `low` to `high` in an order, at most `room` of them.
     pub fn scan(
         &self,
         order: Order,
         (low, high): (u64, u64),
         room: usize,
-    ) -> Result<(Vec<u64>, Option<u64>), Fault> {
+    ) -> Result<Scanned<u64>, Fault> {
         let mut block = Block {
             keys: vec![0; room],
             count: 0,
@@ -358,7 +358,10 @@ impl Place<'_> {
         let outcome = pool.scan(self.worker, order, (low, high + 1), &mut block, *timeout_ms);
         let has_more = self.answer(outcome)?;
         block.keys.truncate(block.count);
-        Ok((block.keys, has_more.then_some(block.next)))
+        Ok(Scanned {
+            entries: block.keys,
+            next: has_more.then_some(block.next),
+        })
     }
 
     /// Returns how many keys the set has from `low` to `high`.

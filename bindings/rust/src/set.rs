@@ -4,7 +4,7 @@ use crate::fault::{answer, Fault};
 use crate::ffi::Change;
 use crate::key::checked;
 use crate::options::Options;
-use crate::order::{self, Range};
+use crate::order::{self, Range, Scanned};
 use crate::place::{millis, Place, Shared};
 use crate::report::Report;
 use crate::worker::Worker;
@@ -291,6 +291,24 @@ impl Set {
     /// Returns an iterator over all keys, in the way of [`range`](Set::range).
     pub fn iter(&self) -> Range<&Set> {
         self.range(..)
+    }
+
+    /// Returns the least keys that are not below `from`, at most `room` of them, and where the next
+    /// scan goes on. Up to 1,024 keys are read by one call of the library, unless other threads change
+    /// the set during it. It waits for each call. It takes no snapshot. `usize::MAX` is allowed.
+    ///
+    /// ```
+    /// # fn main() -> Result<(), nm_set::Fault> {
+    /// let set = nm_set::Set::from([5, 7, 9]);
+    /// let read = set.scan(0, 2)?;
+    /// assert_eq!(read.entries, [5, 7]);
+    /// let rest = set.scan(read.next.unwrap(), 2)?;
+    /// assert_eq!((rest.entries, rest.next), (vec![9], None));
+    /// # Ok(())
+    /// # }
+    /// ```
+    pub fn scan(&self, from: u64, room: usize) -> Result<Scanned<u64>, Fault> {
+        order::scan(self, from, room)
     }
 
     /// Returns how many keys of a range the set has. While others change the set, it counts each

@@ -3,7 +3,7 @@
 use crate::convert::show;
 use crate::fault::Fault;
 use crate::options::Options;
-use crate::order::Range;
+use crate::order::{Range, Scanned};
 use crate::set::Set;
 use crate::shown::Shown;
 use crate::worker::Worker;
@@ -285,6 +285,20 @@ impl<K: Key> SetOf<K> {
     /// Returns an iterator over all values, in the way of [`range`](SetOf::range).
     pub fn iter(&self) -> Values<K, Range<&Set>> {
         self.range(..)
+    }
+
+    /// Returns at most `room` values from one on, and where to go on: see [`Set::scan`]. That is a
+    /// value that the set had, for which the scan reads one key more.
+    pub fn scan(&self, from: K, room: usize) -> Result<Scanned<K, K>, Fault> {
+        let mut keys = self
+            .set
+            .scan(from.to_key(), room.saturating_add(1))?
+            .entries;
+        let next = if keys.len() > room { keys.pop() } else { None };
+        Ok(Scanned {
+            entries: keys.into_iter().map(K::from_key).collect(),
+            next: next.map(K::from_key),
+        })
     }
 
     /// Returns how many values the set has: see [`Set::len`].

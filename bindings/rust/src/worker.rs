@@ -4,7 +4,7 @@ use crate::fault::{answer, Fault};
 use crate::ffi::{Change, Outcome, Pool, Stats};
 use crate::key::checked;
 use crate::numbers::Numbers;
-use crate::order::{self, Range};
+use crate::order::{self, Range, Scanned};
 use crate::place::{found, lookups_of, Advance, Place, Shared};
 use crate::set::Set;
 use crate::MOST_KEY;
@@ -229,6 +229,11 @@ impl Worker {
     /// Returns an iterator over all keys: see [`Set::range`].
     pub fn iter(&mut self) -> Range<&mut Worker> {
         self.range(..)
+    }
+
+    /// Returns at most `room` keys from one on, and where to go on: see [`Set::scan`].
+    pub fn scan(&mut self, from: u64, room: usize) -> Result<Scanned<u64>, Fault> {
+        order::scan(self, from, room)
     }
 
     /// Returns how many keys of a range the set has: see [`Set::count`].

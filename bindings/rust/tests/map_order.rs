@@ -66,6 +66,14 @@ fn reads_like(map: &Map<u64>, wanted: &BTreeMap<u64, u64>, (low, high): (u64, u6
         .collect::<Result<_, _>>()
         .unwrap();
     assert!(back.iter().rev().eq(&keys));
+    let read = worker.scan(low, 100).unwrap();
+    let after = || wanted.range(low..);
+    assert!(read
+        .entries
+        .iter()
+        .eq(after().take(100).map(|(key, _)| key)));
+    assert!(read.next.is_some() || after().count() <= 100);
+    assert!(after().nth(100).is_none() || read.next > read.entries.last().copied());
     let guard = reader.pin().unwrap();
     let found: Vec<Option<u64>> = guard
         .get_many(&keys)
@@ -81,6 +89,8 @@ fn reads_like(map: &Map<u64>, wanted: &BTreeMap<u64, u64>, (low, high): (u64, u6
     let mut calls = worker.under(&guard).unwrap();
     let entries: Vec<_> = calls.range(low..high).collect::<Result<_, _>>().unwrap();
     assert!(entries.into_iter().eq(wanted.range(low..high).map(entry)));
+    let entries = calls.scan(low, 100).unwrap().entries;
+    assert!(entries.into_iter().eq(after().take(100).map(entry)));
     let entries: Vec<_> = calls.iter().rev().collect::<Result<_, _>>().unwrap();
     assert!(entries.into_iter().eq(wanted.iter().rev().map(entry)));
     assert_eq!(

@@ -1,7 +1,7 @@
 //! Tests the interface of `BTreeSet`: the same calls on both sets, and what is weaker beside other
 //! threads.
 
-use nm_set::{Fault, Options, Set, Shape, MOST_KEY};
+use nm_set::{Fault, Options, Scanned, Set, Shape, MOST_KEY};
 use std::collections::BTreeSet;
 use std::sync::atomic::{AtomicBool, Ordering};
 use std::sync::Barrier;
@@ -109,6 +109,28 @@ fn ranges_of_all_kinds_are_those_of_a_btree_set() {
     );
     let (five, three) = (5, 3);
     assert_eq!(all(set.range(five..three)), []);
+}
+
+#[test]
+fn scans_read_up_to_their_room_and_go_on() {
+    let model: BTreeSet<u64> = (0..2_000).map(|key| 3 * key).chain([MOST_KEY]).collect();
+    let set: Set = model.iter().copied().collect();
+    let mut worker = set.attach().unwrap();
+    for room in [1, 7, 100, 1_023, 1_024, 1_025, 2_001, usize::MAX] {
+        let (mut all, mut rest) = (Vec::new(), Some(0));
+        while let Some(from) = rest {
+            let read = set.scan(from, room).unwrap();
+            assert_eq!(worker.scan(from, room), Ok(read.clone()));
+            assert!(read.entries.len() == room || read.next.is_none(), "{room}");
+            all.extend(read.entries);
+            rest = read.next;
+        }
+        assert!(all.iter().eq(&model), "{room}");
+    }
+    let read = |entries: Vec<u64>, next| Ok(Scanned { entries, next });
+    assert_eq!(set.scan(3, 0), read(vec![], Some(3)));
+    assert_eq!(set.scan(u64::MAX, 5), read(vec![], None));
+    assert_eq!(set.scan(MOST_KEY, 1), read(vec![MOST_KEY], None));
 }
 
 #[test]

@@ -29,6 +29,16 @@ fn answers_like<K: Key + Debug>(values: &[K]) {
             assert_eq!(got, Ok(want));
         }
     }
+    for room in 1..=peer.len() + 1 {
+        let (mut all, mut rest) = (Vec::new(), peer.first().copied());
+        while let Some(from) = rest {
+            let read = set.scan(from, room).unwrap();
+            assert!(peer.contains(&from) && (read.entries.len() == room || read.next.is_none()));
+            all.extend(read.entries);
+            rest = read.next;
+        }
+        assert!(all.iter().eq(&peer), "{room}");
+    }
     assert_eq!(set.first(), Ok(peer.first().copied()));
     assert_eq!(set.last(), Ok(peer.last().copied()));
     assert_eq!(worker.wait_pop(Duration::ZERO), Ok(peer.pop_first()));
