@@ -2,7 +2,7 @@
  *
  * proved: nm_set_c and all crates that it depends on
  * kit: rattle-kit-13f logic dac8208d650f15bf
- * sources: sha256 ad0e4d3fb9fea0334c093a25d19ffa5a9a3f127cab666b626bd4432fbfe60827
+ * sources: sha256 5e5f2a766bcefa93840edd07bf9451c08bf33365d9412ea3d90459097e62ecf4
  *
  * dist/README.md says how this file is made, checked and used, and what is trusted.
  */

@@ -2,7 +2,7 @@
  *
  * proved: nm_stress and all crates that it depends on
  * kit: rattle-kit-13f logic dac8208d650f15bf
- * sources: sha256 600639efc2844cf2cadc939bef8d7b2e035d23177b8c9a41be926f2cb658b1cd
+ * sources: sha256 ceb4765101154dd2eaccdc1c05f2ae05df92606be07c8758a0721fab827a21e2
  *
  * dist/README.md says how this file is made, checked and used, and what is trusted.
  */
