@@ -25,7 +25,7 @@ def build(name):
     program = os.path.join(TOP, "out", "c", name)
     os.makedirs(os.path.dirname(program), exist_ok=True)
     compiler = [os.environ.get("CC", "cc"), "-std=c11", "-O2", "-Wall", "-Wextra", "-Werror"]
-    subprocess.run([*compiler, "-I", os.path.join(TOP, "c"), os.path.join(TOP, "bench", f"{name}.c"),
+    subprocess.run([*compiler, "-I", os.path.join(TOP, "c", "include"), os.path.join(TOP, "bench", f"{name}.c"),
                     library(), "-o", program], check=True)
     return program
 

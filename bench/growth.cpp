@@ -4,6 +4,9 @@
 //     growth pause KEYS      writes how long the growth of a set takes when it has that many keys
 //     growth insert KEYS     four threads insert that many random keys into a set without a size,
 //                            and into one that was made large enough; writes both times
+//     growth memory KEYS     one thread inserts random keys into a set without a size; writes for each
+//                            growth below KEYS keys the resident memory before, at most, and after,
+//                            in bytes for each key
 //
 // The times are of the clock, in milliseconds.
 #include "nm_set.hpp"
@@ -12,6 +15,9 @@
 #include <cstdio>
 #include <cstdlib>
 #include <cstring>
+#include <fstream>
+#include <malloc.h>
+#include <string>
 #include <thread>
 #include <vector>
 
@@ -75,12 +81,49 @@ void write_insert(std::uint64_t keys) {
     std::printf("ratio: %.2f\n", growing / sized);
 }
 
+// A field of /proc/self/status in kilobytes, as bytes.
+double field(const char *name) {
+    std::ifstream status("/proc/self/status");
+    std::string word;
+    double kilobytes = 0;
+    while (status >> word)
+        if (word == name) status >> kilobytes;
+    return kilobytes * 1024;
+}
+
+// Grows a set once, so that the program's own code is in memory before that of a set is measured.
+void write_once() {
+    nm::Set set;
+    for (std::uint64_t key = 0; key <= 10000; key++) set.insert(scattered(key));
+}
+
+void write_memory(std::uint64_t most) {
+    write_once(), malloc_trim(0);
+    double begun = field("VmRSS:");
+    nm::Set set;
+    for (std::uint64_t keys = 0;; keys++) {
+        std::uint64_t capacity = set.capacity();
+        if (keys < capacity) {
+            set.insert(scattered(keys));
+            continue;
+        }
+        if (keys > most) return;
+        double before = field("VmRSS:") - begun;
+        std::ofstream("/proc/self/clear_refs") << 5; // the greatest memory begins anew
+        set.insert(scattered(keys));
+        std::printf("%12llu keys: %4.0f bytes a key before, %4.0f at most, %4.0f after\n",
+                    static_cast<unsigned long long>(keys), before / keys,
+                    (field("VmHWM:") - begun) / keys, (field("VmRSS:") - begun) / keys);
+    }
+}
+
 }  // namespace
 
 int main(int count, char **words) {
     std::uint64_t keys = count > 2 ? std::strtoull(words[2], nullptr, 10) : 0;
     if (keys != 0 && std::strcmp(words[1], "pause") == 0) return write_pause(keys), 0;
     if (keys != 0 && std::strcmp(words[1], "insert") == 0) return write_insert(keys), 0;
-    std::fputs("growth pause KEYS, or growth insert KEYS\n", stderr);
+    if (keys != 0 && std::strcmp(words[1], "memory") == 0) return write_memory(keys), 0;
+    std::fputs("growth pause KEYS, growth insert KEYS, or growth memory KEYS\n", stderr);
     return 2;
 }

@@ -2,6 +2,7 @@
  * They are trusted, like the C library, and not proved. What the code relies on is at each of them.
  */
 #define _DEFAULT_SOURCE
+#include <malloc.h>
 #include <stddef.h>
 #include <stdint.h>
 #include <stdlib.h>
@@ -35,16 +36,22 @@ static nm_memory given(void *block) {
 /* The C library returns null for a size of 0, or not: a block has at least one byte here. */
 static size_t at_least_one(size_t size) { return size != 0 ? size : 1; }
 
+/* Advises the kernel about the whole pages of a block that is larger than a page. */
+static void advise(char *block, size_t size, int advice) {
+    const size_t page = 4096;
+    size_t before = (page - (uintptr_t)block % page) % page;
+    (void)madvise(block + before, (size - before) / page * page, advice);
+}
+
 /* Asks the kernel to back a block of 4 MB or more by huge pages, so that a walk in a large set misses
  * fewer entries of the page table. The environment variable NM_SET_HUGE_PAGES=0 switches this off.
  * The kernel may ignore it, and no byte of the block changes. */
 static void ask_for_huge_pages(char *block, size_t size) {
-    const size_t large = (size_t)4 << 20, page = 4096;
+    const size_t large = (size_t)4 << 20;
     if (block == NULL || size < large) return;
     const char *wanted = getenv("NM_SET_HUGE_PAGES");
     if (wanted != NULL && strcmp(wanted, "0") == 0) return;
-    size_t before = (page - (uintptr_t)block % page) % page;
-    (void)madvise(block + before, (size - before) / page * page, MADV_HUGEPAGE);
+    advise(block, size, MADV_HUGEPAGE);
 }
 
 /* Returns a new block of `size` bytes, less than 2^63. The alignment divides 16, which is that of
@@ -64,5 +71,12 @@ nm_memory nm_host_realloc(void *block, size_t kept, size_t size, size_t alignmen
     return given(realloc(block, at_least_one(size)));
 }
 
-/* Frees a block that one of the two functions above returned. */
-void nm_host_dealloc(void *block) { free(block); }
+/* Frees a block that one of the two functions above returned. The memory of a block of 256 KB or more
+ * goes back to the system at once, even if the C library keeps its addresses: no byte of it is read
+ * again. So a set that grows takes no more than what it has at that moment. */
+void nm_host_dealloc(void *block) {
+    const size_t large = (size_t)256 << 10;
+    size_t size = malloc_usable_size(block);
+    if (size >= large) advise(block, size, MADV_DONTNEED);
+    free(block);
+}

@@ -3,7 +3,8 @@
 //
 // A key is the microsecond at which a task is due, with the task's number in the low bits. So the
 // least key is the task that is due next. The thread that removes a key owns its task, and runs or
-// cancels it. A set keeps no values with its keys: the tasks are in a table, by their numbers.
+// cancels it. A set keeps no values with its keys: the tasks are in a table, by their numbers. A worker
+// with nothing to run sleeps until the next task is due, or an earlier one is queued.
 #include <nm_set.hpp>
 
 #include <atomic>
@@ -32,19 +33,23 @@ class Scheduler {
 
     // Runs tasks that are due, until the shutdown. Several threads may call this.
     void work() {
-        while (!is_closing_) {
-            if (auto key = due_.pop_first((now() + 1) << number_bits))
-                task_of(*key)();
-            else
-                std::this_thread::sleep_for(std::chrono::microseconds(200));
+        try {
+            for (;;) {
+                if (auto key = due_.pop_first((now() + 1) << number_bits))
+                    task_of(*key)();
+                else
+                    sleep_until_due();
+            }
+        } catch (const nm::Fault &fault) {
+            if (fault.outcome() != NM_CLOSED) throw;
         }
     }
 
-    // Ends the workers. Returns how many tasks are left.
+    // Ends the workers, also those that sleep. Returns how many tasks are left.
     std::uint64_t shut_down(std::vector<std::thread> &workers) {
-        is_closing_ = true;
+        std::uint64_t left = due_.close().size();
         for (std::thread &worker : workers) worker.join();
-        return due_.close().size();
+        return left;
     }
 
   private:
@@ -55,6 +60,14 @@ class Scheduler {
         return std::uint64_t(time / std::chrono::microseconds(1));
     }
 
+    // Sleeps until the next task is due, or an earlier one is queued.
+    void sleep_until_due() {
+        auto next = due_.first();
+        std::uint64_t due = next ? *next >> number_bits : now() + 3'600'000'000, at = now();
+        auto most = std::chrono::milliseconds(due > at ? (due - at + 999) / 1'000 : 0);
+        (void)due_.wait_first(next ? *next : UINT64_MAX, most);
+    }
+
     // Takes the task of a key that this thread has removed.
     Task task_of(std::uint64_t key) {
         return std::exchange(tasks_[key % (std::uint64_t(1) << number_bits)], nullptr);
@@ -63,7 +76,6 @@ class Scheduler {
     nm::Set due_;
     std::vector<Task> tasks_;
     std::atomic<std::uint64_t> used_{0};
-    std::atomic<bool> is_closing_{false};
 };
 
 int main() {

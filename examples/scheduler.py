@@ -3,14 +3,15 @@ due, and a shutdown returns how many are left.
 
 A key is the microsecond at which a task is due, with the task's number in the low bits. So the
 least key is the task that is due next. The thread that removes a key owns its task, and runs or
-cancels it. A set keeps no values with its keys: the tasks are in a dictionary, by their keys.
+cancels it. A set keeps no values with its keys: the tasks are in a dictionary, by their keys. A
+worker with nothing to run waits until the next task is due, or an earlier one is queued.
 """
 
 import itertools
-import threading
 import time
 from collections.abc import Callable
 from concurrent.futures import ThreadPoolExecutor
+from contextlib import suppress
 
 import nm_set
 
@@ -26,7 +27,6 @@ class Scheduler:
         self._due = nm_set.Set(4 * tasks)
         self._tasks: dict[int, Callable[[], None]] = {}
         self._numbers = itertools.count()
-        self._is_closing = threading.Event()
 
     def run_in(self, seconds: float, task: Callable[[], None]) -> int:
         """Queues a task, and returns its key."""
@@ -44,21 +44,25 @@ class Scheduler:
         """Runs tasks that are due, until the shutdown, and returns how many. Several threads may
         call it."""
         ran = 0
-        while not self._is_closing.is_set():
-            try:
-                key = self._due.pop_first(below=now() + 1 << NUMBER_BITS)
-            except KeyError:  # no task is due
-                self._is_closing.wait(0.001)
-            else:
-                self._tasks.pop(key)()
-                ran += 1
+        with suppress(nm_set.Closed):
+            while True:
+                try:
+                    key = self._due.pop_first(below=now() + 1 << NUMBER_BITS)
+                except KeyError:  # no task is due
+                    self._wait_until_due()
+                else:
+                    self._tasks.pop(key)()
+                    ran += 1
         return ran
 
-    def shut_down(self) -> None:
-        self._is_closing.set()
+    def _wait_until_due(self) -> None:
+        """Waits until the next task is due, or an earlier one is queued."""
+        key = self._due.first()
+        seconds = None if key is None else max((key >> NUMBER_BITS) - now(), 0) / 1e6
+        self._due.wait_first(seconds, below=key)
 
-    def close(self) -> int:
-        """Ends the set of due tasks, and returns how many are left."""
+    def shut_down(self) -> int:
+        """Ends the workers, also those that wait, and returns how many tasks are left."""
         return len(self._due.close())
 
 
@@ -78,8 +82,7 @@ with ThreadPoolExecutor() as threads:
     producers = [threads.submit(produce, scheduler, 1_000) for _ in range(3)]
     cancelled = sum(producer.result() for producer in producers)
     time.sleep(0.1)
-    scheduler.shut_down()
+    left = scheduler.shut_down()
     ran = sum(worker.result() for worker in workers)
-left = scheduler.close()
 print(f"3000 tasks: {ran} ran, {cancelled} cancelled, {left} left")
 assert ran + cancelled + left == 3_000 and left >= 300

@@ -3,10 +3,11 @@
 //!
 //! A key is the microsecond at which a task is due, with the task's number in the low bits. So the
 //! least key is the task that is due next. The thread that removes a key owns its task, and runs or
-//! cancels it.
+//! cancels it. A worker with nothing to run sleeps until the next task is due, or an earlier one is
+//! queued.
 
 use nm_set::{Fault, Set};
-use std::sync::atomic::{AtomicBool, Ordering::SeqCst};
+use std::sync::atomic::{AtomicU64, Ordering::SeqCst};
 use std::thread::{scope, sleep};
 use std::time::{Duration, Instant};
 
@@ -15,7 +16,7 @@ const NUMBER_BITS: u32 = 20;
 struct Scheduler {
     begun: Instant,
     due: Set,
-    is_closing: AtomicBool,
+    ran: AtomicU64,
 }
 
 impl Scheduler {
@@ -23,7 +24,7 @@ impl Scheduler {
         Ok(Scheduler {
             begun: Instant::now(),
             due: Set::with_nodes(4 * tasks)?,
-            is_closing: AtomicBool::new(false),
+            ran: AtomicU64::new(0),
         })
     }
 
@@ -43,19 +44,26 @@ impl Scheduler {
         self.due.remove(key)
     }
 
-    /// Runs tasks that are due, until the shutdown, and returns how many. Several threads may work.
-    fn work(&self, run: impl Fn(u64)) -> Result<u64, Fault> {
-        let mut ran = 0;
-        while !self.is_closing.load(SeqCst) {
+    /// Runs tasks that are due, until a fault: `Closed` at the shutdown. Several threads may work.
+    fn work(&self, run: impl Fn(u64)) -> Result<(), Fault> {
+        loop {
             match self.due.pop_first_below((self.now() + 1) << NUMBER_BITS)? {
                 Some(key) => {
                     run(key % (1 << NUMBER_BITS));
-                    ran += 1;
+                    self.ran.fetch_add(1, SeqCst);
                 }
-                None => sleep(Duration::from_micros(200)),
+                None => self.sleep_until_due()?,
             }
         }
-        Ok(ran)
+    }
+
+    /// Sleeps until the next task is due, or an earlier one is queued.
+    fn sleep_until_due(&self) -> Result<(), Fault> {
+        let next = self.due.first()?;
+        let due = next.map_or(u64::MAX, |key| key >> NUMBER_BITS);
+        let wait = Duration::from_micros(due.saturating_sub(self.now()).min(3_600_000_000));
+        self.due.wait_first_below(next.unwrap_or(u64::MAX), wait)?;
+        Ok(())
     }
 }
 
@@ -72,16 +80,22 @@ fn produce(scheduler: &Scheduler, first: u64) -> Result<u64, Fault> {
 
 fn main() -> Result<(), Fault> {
     let scheduler = &Scheduler::new(10_000)?;
-    let [ran, cancelled] = scope(|scope| {
+    let (left, cancelled) = scope(|scope| {
         let workers = [(); 2].map(|()| scope.spawn(|| scheduler.work(|_number| ())));
         let producers = [0, 1_000, 2_000].map(|at| scope.spawn(move || produce(scheduler, at)));
         let cancelled = producers.map(|it| it.join().unwrap().expect("the set has room"));
         sleep(Duration::from_millis(50));
-        scheduler.is_closing.store(true, SeqCst);
-        let ran = workers.map(|it| it.join().unwrap().expect("the set is open"));
-        [ran.iter().sum::<u64>(), cancelled.iter().sum()]
+        let left = scheduler
+            .due
+            .close()
+            .expect("each worker waits or ends its call")
+            .len() as u64;
+        for worker in workers {
+            assert_eq!(worker.join().unwrap(), Err(Fault::Closed));
+        }
+        (left, cancelled.iter().sum::<u64>())
     });
-    let left = scheduler.due.close()?.len() as u64;
+    let ran = scheduler.ran.load(SeqCst);
     println!("3000 tasks: {ran} ran, {cancelled} cancelled, {left} left");
     assert!(ran + cancelled + left == 3_000 && left >= 300);
     Ok(())

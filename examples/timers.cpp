@@ -3,7 +3,8 @@
 //
 // A key is the microsecond at which a task is due, with a number in the low bits that makes it
 // unique. So the least key is the task that is due next. The thread that removes a key owns its
-// task, and runs or cancels it.
+// task, and runs or cancels it. A worker with nothing to run sleeps until the next task is due, or an
+// earlier one is set.
 #include <nm_map.hpp>
 
 #include <atomic>
@@ -38,15 +39,18 @@ class Timers {
             if (Task task = next(reader, worker))
                 task();
             else
-                std::this_thread::sleep_for(std::chrono::microseconds(200));
+                sleep_until_due(worker);
         }
     }
 
-    // Ends the workers. Returns how many tasks are left, which the map frees.
+    // Ends the workers, also those that sleep. Returns how many tasks are left, which the map frees.
     std::uint64_t shut_down(std::vector<std::thread> &workers) {
+        std::uint64_t left = due_.size();
         is_closing_ = true;
+        auto closer = due_.attach();  // a least key for each worker wakes all of them
+        for (std::size_t key = 0; key < workers.size(); key++) closer.emplace(key, nullptr);
         for (std::thread &worker : workers) worker.join();
-        return due_.size();
+        return left;
     }
 
   private:
@@ -63,6 +67,14 @@ class Timers {
         auto guard = reader.pin();
         auto popped = worker.under(guard).pop_first((now() + 1) << number_bits);
         return popped ? std::move(*popped->value) : nullptr;
+    }
+
+    // Sleeps until the next task is due, or an earlier one is set.
+    static void sleep_until_due(Worker &worker) {
+        auto next = worker.first();
+        std::uint64_t due = next ? *next >> number_bits : now() + 3'600'000'000, at = now();
+        auto most = std::chrono::milliseconds(due > at ? (due - at + 999) / 1'000 : 0);
+        (void)worker.wait_first(next ? *next : UINT64_MAX, most);
     }
 
     nm::Map<Task> due_;

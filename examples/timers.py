@@ -3,14 +3,14 @@ A task is the object of a key in a map, so no dictionary of tasks is needed.
 
 A key is the microsecond at which a task is due, with a number in the low bits that makes it unique.
 So the least key is the task that is due next. The thread that removes a key owns its task, and runs
-or cancels it.
+or cancels it. A worker with nothing to run waits until the next task is due, or an earlier one is set.
 """
 
 import itertools
-import threading
 import time
 from collections.abc import Callable
 from concurrent.futures import ThreadPoolExecutor
+from contextlib import suppress
 
 import nm_set
 
@@ -25,7 +25,6 @@ class Timers:
     def __init__(self, tasks: int) -> None:
         self._due = nm_set.Map[Callable[[], None]](4 * tasks)
         self._numbers = itertools.count()
-        self._is_closing = threading.Event()
 
     def set(self, seconds: float, task: Callable[[], None]) -> int:
         """Sets a task, and returns its key."""
@@ -42,21 +41,28 @@ class Timers:
         """Runs tasks that are due, until the shutdown, and returns how many. Several threads may
         call it."""
         ran = 0
-        while not self._is_closing.is_set():
-            try:
-                _, task = self._due.pop_first(below=now() + 1 << NUMBER_BITS)
-            except KeyError:  # no task is due
-                self._is_closing.wait(0.001)
-            else:
-                task()
-                ran += 1
+        with suppress(nm_set.Closed):
+            while True:
+                try:
+                    _, task = self._due.pop_first(below=now() + 1 << NUMBER_BITS)
+                except KeyError:  # no task is due
+                    self._wait_until_due()
+                else:
+                    task()
+                    ran += 1
         return ran
 
-    def shut_down(self) -> None:
-        self._is_closing.set()
+    def _wait_until_due(self) -> None:
+        """Waits until the next task is due, or an earlier one is set."""
+        least = self._due.first()
+        if least is None:
+            self._due.wait_first()
+        else:
+            seconds = max((least[0] >> NUMBER_BITS) - now(), 0) / 1e6
+            self._due.wait_first(seconds, below=least[0])
 
-    def close(self) -> int:
-        """Ends the map, and returns how many tasks are left."""
+    def shut_down(self) -> int:
+        """Ends the workers, also those that wait, and returns how many tasks are left."""
         left = len(self._due)
         self._due.close()
         return left
@@ -78,8 +84,7 @@ with ThreadPoolExecutor() as threads:
     producers = [threads.submit(produce, timers, 1_000) for _ in range(3)]
     cancelled = sum(producer.result() for producer in producers)
     time.sleep(0.1)
-    timers.shut_down()
+    left = timers.shut_down()
     ran = sum(worker.result() for worker in workers)
-left = timers.close()
 print(f"{ran} tasks ran, {cancelled} were cancelled, {left} are left")
 assert ran + cancelled + left == 3_000 and left >= 300

@@ -39,7 +39,7 @@ def compiled(name, *links):
     """Compiles a program in C++ with the library; returns its place."""
     os.makedirs(OUT, exist_ok=True)
     program = os.path.join(OUT, name)
-    command = ["g++", "-std=c++17", "-O2", "-pthread", "-I", os.path.join(TOP, "c")]
+    command = ["g++", "-std=c++17", "-O2", "-pthread", "-I", os.path.join(TOP, "c", "include")]
     run(*command, os.path.join(SOURCES, name + ".cpp"), library(), *links, "-o", program)
     return program
 

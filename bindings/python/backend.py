@@ -94,7 +94,7 @@ def _compare_texts() -> None:
 
 def _header() -> list[str]:
     """The words by which the compiler finds nm_set.h."""
-    own = _top() / "c"
+    own = _top() / "c" / "include"
     if (own / "nm_set.h").is_file():
         return [f"-I{own}"]
     if shutil.which("pkg-config") is None:

@@ -102,7 +102,7 @@ impl Library {
                 "-ffunction-sections",
                 "-fdata-sections",
             ]);
-            command.arg("-I").arg(self.top.join("c"));
+            command.arg("-I").arg(self.top.join("c/include"));
         }
         command.args(["-fPIC", "-fno-lto", "-c"]).arg(source);
         command.arg("-o").arg(object);

@@ -1,12 +1,15 @@
 """A concurrent ordered set and map of integers, over the library libnm_set, whose core is proved.
 
-    import nm_set
-
-    with nm_set.Set([3, 5, 9]) as numbers:
-        numbers.add(4)
-        5 in numbers
-        sorted(numbers)
-    len(numbers.report)
+>>> import nm_set
+>>> with nm_set.Set([3, 5, 9]) as numbers:
+...     numbers.add(4)
+...     5 in numbers
+...     sorted(numbers)
+True
+True
+[3, 4, 5, 9]
+>>> len(numbers.report)
+4
 """
 
 __version__ = "0.1.0"
@@ -29,7 +32,7 @@ from ._faults import (
 )
 from ._map import Map
 from ._report import Report, Waiting
-from ._set import Options, Set, Stamp, Stats, Worker
+from ._set import Options, Set, SetStats, Stamp, Stats, Worker
 from ._typed import Mapping, SetOf, WorkerOf, pairs, signed, unsigned
 
 __all__ = [
@@ -51,6 +54,7 @@ __all__ = [
     "Report",
     "Set",
     "SetOf",
+    "SetStats",
     "Stamp",
     "Stats",
     "Unfinished",

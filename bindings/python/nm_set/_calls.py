@@ -39,16 +39,19 @@ def waited(call: Callable[[Any, int], int], timeout_ms: int) -> int:
     return outcome
 
 
-def popped_within(pool: c_void_p, worker: c_uint32, below: int, end: float) -> Optional[int]:
-    """Removes the least key below a bound and returns it, or None if none comes until some time of
-    `time.monotonic`. It waits in parts, in which other threads of Python run."""
+def least_within(
+    name: str, pool: c_void_p, worker: c_uint32, below: int, end: float
+) -> Optional[int]:
+    """Makes the call of that name, `nm_pool_wait_pop` or `nm_pool_wait_first`, and returns the least
+    key below a bound, or None if none comes until some time of `time.monotonic`. It waits in parts,
+    in which other threads of Python run."""
     taken, outcome = c_uint64(), c.NO
     while outcome == c.NO or outcome in c.WAITED:
         left = end - time.monotonic()
         if left <= 0:
             break
         part = _PART if left * 1_000 >= _PART else int(left * 1_000) + 1
-        outcome = c.exports.nm_pool_wait_pop(pool, worker, below, taken, part)
+        outcome = getattr(c.exports, name)(pool, worker, below, taken, part)
     if outcome < 0 and outcome != c.UNFINISHED:
         raise fault_at(outcome, pool, worker.value)
     return None if outcome == c.NO else taken.value

@@ -17,7 +17,7 @@ from typing import Any, NoReturn, Optional, SupportsIndex, TypeVar, overload
 
 from . import _library as c
 from ._backend import Calls, answers, first_wrong
-from ._calls import popped_within
+from ._calls import least_within
 from ._faults import MOST_KEY, SHOWN, Closed, fault, key_fault, shortened
 
 _T = TypeVar("_T")
@@ -344,11 +344,27 @@ class Keys(MutableSet):  # type: ignore[type-arg]
         bound = bound_of(below) if below is not None else NO_BOUND
         key = self._calls.pop_first_below(bound)
         if key is None:
-            end = math.inf if timeout is None else time.monotonic() + timeout
-            key = popped_within(self._pool, self._cell, bound, end)
+            key = self._least_within("nm_pool_wait_pop", bound, timeout)
         if key is None:
             raise KeyError("no key was added in time")
         return int(key)
+
+    def wait_first(
+        self, timeout: Optional[float] = None, below: Optional[SupportsIndex] = None
+    ) -> Optional[int]:
+        """Returns the least key of all, or of those below a bound, and removes nothing: another
+        thread may remove the key at any time. If there is none it waits like `wait_pop`, and each
+        add wakes it: with another key it sleeps on. Returns None after that time. Raises `Closed`
+        if the set is closed meanwhile."""
+        bound = bound_of(below) if below is not None else NO_BOUND
+        key = self.first()
+        if key is not None and key < bound:
+            return key
+        return self._least_within("nm_pool_wait_first", bound, timeout)
+
+    def _least_within(self, name: str, bound: int, timeout: Optional[float]) -> Optional[int]:
+        end = math.inf if timeout is None else time.monotonic() + timeout
+        return least_within(name, self._pool, self._cell, bound, end)
 
     def pop(self) -> int:
         """Removes the least key and returns it, like `pop_first`."""

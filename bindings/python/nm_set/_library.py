@@ -126,6 +126,7 @@ FUNCTIONS: dict[str, list[Any]] = {
     "nm_pool_pop_last_from": [_POOL, c_uint32, c_uint64, _U64, c_uint32],
     "nm_pool_pop_first_many": [_POOL, c_uint32, c_uint64, _U64, c_size_t, _SIZE, c_uint32],
     "nm_pool_wait_pop": [_POOL, c_uint32, c_uint64, _U64, c_uint32],
+    "nm_pool_wait_first": [_POOL, c_uint32, c_uint64, _U64, c_uint32],
     "nm_pool_next": [_POOL, c_uint32, c_uint64, _U64, c_uint32],
     "nm_pool_prev": [_POOL, c_uint32, c_uint64, _U64, c_uint32],
     "nm_pool_scan": [_POOL, c_uint32, c_uint64, c_uint64, _U64, c_size_t, _SIZE, _U64, c_uint32],
@@ -138,6 +139,7 @@ FUNCTIONS: dict[str, list[Any]] = {
     "nm_pool_remove_many": [_POOL, c_uint32, _U64, c_size_t, _BYTES, _SIZE, c_uint32],
     "nm_pool_size": [_POOL, _U64],
     "nm_pool_fullness": [_POOL, POINTER(FullnessWords)],
+    "nm_pool_growths": [_POOL, _U64, _U64],
     "nm_pool_collect": [_POOL, _U64],
     "nm_pool_reserve": [_POOL, c_uint64, c_uint32, _U64],
     "nm_pool_shrink_to_fit": [_POOL, c_uint32, _U64],
@@ -290,7 +292,7 @@ def _candidates() -> Iterator[str]:
     here = Path(__file__).resolve().parent
     checkout = here.parents[2] if len(here.parents) > 2 else here
     built = checkout / "out" / "c" / "libnm_set.so"
-    if (checkout / "c" / "nm_set.h").exists() and built.exists():
+    if (checkout / "c" / "include" / "nm_set.h").exists() and built.exists():
         yield str(built)
     yield from _by_pkg_config()
     yield _FILE

@@ -5,15 +5,15 @@ integer is a token: the key of a dict, in which the object is. So a reader makes
 the token from the library, and the object from the dict. The lock of the interpreter does not make
 them one step, because other threads run between any two steps of Python. Without more, another
 thread might remove the key in between, and take the object out of the dict. So the reader pins its
-worker first, and unpins it after both steps. A token does not come back while a worker is pinned
+worker first, and unpins it after both steps. A token is not reclaimed while a worker is pinned
 that may have got it, which is proved. This holds without the interpreter's lock too.
 
 No pinned worker makes any other call. So a call that finds the nearest key, or reads a range, gets
 tokens without a pin. No token is used again, so the dict has the object of the token or nothing:
 then the key was removed meanwhile, and the call looks again.
 
-A call that removes a key returns its object, but by then another worker may have handed the token
-back. So there are two dicts. An entry of `_read` ends when the token comes back, and an entry of
+A call that removes a key returns its object, but by then another worker may have reclaimed the
+token. So there are two dicts. An entry of `_read` ends when the token is reclaimed, and an entry of
 `_left` when the call that removed the key has taken it. Each entry ends once, by one call, so no
 two calls need to agree. The object itself ends with the later one of the two, like any object of
 Python.
@@ -22,6 +22,7 @@ Python.
 from __future__ import annotations
 
 import itertools
+import math
 import operator
 import os
 import threading
@@ -46,7 +47,7 @@ from ._set import Options, narrow
 V = TypeVar("V")
 T = TypeVar("T")
 
-_ROOM = 64  # how many values one call takes back, and how many keys it looks up
+_ROOM = 64  # how many values one call reclaims, and how many keys it looks up
 _NODES = 65_536  # the nodes of a map for which no number is given, or four for each of its keys
 _LONGEST = 10.0  # seconds: how long a close waits for calls in progress
 _MISSING: Any = object()
@@ -55,7 +56,7 @@ _MISSING: Any = object()
 class _Worker:
     """A worker of a map, which is in one call or idle. If it is lost, because an exception came
     between two steps, the end of this object returns it to the map. `returned` has the tokens that
-    came back during its call, and `behind` the worker that held others back."""
+    were reclaimed during its call, and `behind` the worker that held others back."""
 
     def __init__(self) -> None:
         self.handle, self.owner = c.Handle(), Owner()
@@ -149,6 +150,8 @@ class Map(MutableMapping, Generic[V]):  # type: ignore[type-arg]
         self._new: set[int] = set()  # the tokens of inserts that have not ended
         self._idle: deque[_Worker] = deque()
         self._closer, self._is_open, self._process = threading.RLock(), True, os.getpid()
+        # Of calls that wait for a key: what wakes them, how many wait, and what changes then.
+        self._added, self._waits, self._changes = threading.Condition(), 0, 0
         self._handle, self._owner = c.Handle(), Owner()
         drop_with(self._owner, self._handle)
         outcome = c.exports.nm_map_new(self._handle, self._nodes, self._workers)
@@ -197,7 +200,7 @@ class Map(MutableMapping, Generic[V]):  # type: ignore[type-arg]
         return fault(c.FULL, c.quick.nm_map_full_words(words, text, len(text)).decode())
 
     def _with_worker(self, call: Callable[[_Worker], T]) -> T:
-        """Makes a call by a worker, and takes back what came back by it. The objects of that end
+        """Makes a call by a worker, and then reclaims by it. The objects of these tokens end
         when the worker is idle again, because they may make calls of the map."""
         worker = self._take()
         try:
@@ -209,10 +212,10 @@ class Map(MutableMapping, Generic[V]):  # type: ignore[type-arg]
             self._release(tokens)
         return made
 
-    # ---- what comes back ----
+    # ---- what is reclaimed ----
 
     def _take_back(self, worker: _Worker, tokens: list[int]) -> None:
-        """Appends the tokens that came back by a worker."""
+        """Appends the tokens that a worker reclaims."""
         count = _ROOM
         while count == _ROOM:
             c.quick.nm_map_reclaim(
@@ -222,7 +225,7 @@ class Map(MutableMapping, Generic[V]):  # type: ignore[type-arg]
             tokens += worker.values[:count]
 
     def _tend(self, worker: _Worker) -> None:
-        """Takes back the tokens that came back by a worker, if enough nodes wait with it."""
+        """Reclaims the tokens of a worker, if enough nodes wait with it."""
         waiting = c_uint64()
         c.quick.nm_map_queue_len(worker.handle, waiting)
         if waiting.value >= self._after:
@@ -235,7 +238,7 @@ class Map(MutableMapping, Generic[V]):  # type: ignore[type-arg]
             self._read.pop(token, None)
 
     def _take_back_idle(self, tokens: list[int]) -> None:
-        """Appends the tokens that came back by all idle workers."""
+        """Appends the tokens that all idle workers reclaim."""
         for _ in range(len(self._idle)):
             with suppress(IndexError):
                 worker = self._idle.popleft()
@@ -330,7 +333,10 @@ class Map(MutableMapping, Generic[V]):  # type: ignore[type-arg]
         `Options`: `Full`. If the keys take all nodes and no node waits, it raises `Full` at
         once."""
         number = _checked(key)
-        return self._with_worker(lambda worker: self._inserted(worker, number, value))
+        is_inserted = self._with_worker(lambda worker: self._inserted(worker, number, value))
+        if is_inserted and self._waits:
+            self._wake()
+        return is_inserted
 
     def _inserted(self, worker: _Worker, key: int, value: V) -> bool:
         token = next(self._tokens)
@@ -510,6 +516,40 @@ class Map(MutableMapping, Generic[V]):  # type: ignore[type-arg]
         """Returns the least key with its object, or None if the map is empty."""
         return self.at_least(0)
 
+    def wait_first(
+        self, timeout: Optional[float] = None, below: Optional[SupportsIndex] = None
+    ) -> Optional[tuple[int, V]]:
+        """Returns the least key of all, or of those below a bound, with its object, and removes
+        nothing: another thread may remove the key at any time. If there is none it waits for a key:
+        for `timeout` seconds, or without an end if no time is given. It sleeps meanwhile: each
+        insert wakes it, and with another key it sleeps on. It also looks once a second. Returns
+        None after that time. Raises `Closed` if the map is closed meanwhile."""
+        bound = NO_BOUND if below is None else bound_of(below)
+        end = math.inf if timeout is None else time.monotonic() + timeout
+        self._check_open()
+        with self._added:
+            self._waits += 1
+        try:
+            while True:
+                changes, least = self._changes, self.first()
+                left = end - time.monotonic()
+                if least is not None and least[0] < bound:
+                    return least
+                if left <= 0:
+                    return None
+                with self._added:
+                    if changes == self._changes:
+                        self._added.wait(min(left, 1))
+        finally:
+            with self._added:
+                self._waits -= 1
+
+    def _wake(self) -> None:
+        """Wakes the calls that wait for a key."""
+        with self._added:
+            self._changes += 1
+            self._added.notify_all()
+
     def last(self) -> Optional[tuple[int, V]]:
         """Returns the greatest key with its object, or None if the map is empty."""
         return self.at_most(MOST_KEY)
@@ -641,6 +681,16 @@ class Map(MutableMapping, Generic[V]):  # type: ignore[type-arg]
         self._check_open()
         return len(self._left)
 
+    def waiting(self) -> int:
+        """Returns how many removed nodes wait to be freed: two for each key that was removed and
+        whose object the map still refers to. It is exact if no call is in progress."""
+        self._check_open()
+        return 2 * max(len(self._read) - len(self._left), 0)
+
+    def free(self) -> int:
+        """Returns how many nodes are free, computed from `len` and `waiting`. An insert takes two."""
+        return max(self._nodes - 5 - 2 * len(self) - self.waiting(), 0)
+
     @property
     def nodes(self) -> int:
         """The number of nodes for which it has room."""
@@ -696,6 +746,7 @@ class Map(MutableMapping, Generic[V]):  # type: ignore[type-arg]
                     raise fault(outcome, text if outcome == c.IN_USE else None)
                 c.exports.nm_drop(self._handle)
             self._read, self._left = {}, {}
+            self._wake()
 
     def _ended(self) -> int:
         """Returns all workers that are in no call, and ends the map, after a wait for the others.

@@ -94,6 +94,35 @@ class Stats:
 
 
 @dataclass(frozen=True)
+class SetStats:
+    """How full a set is, for a program that watches it."""
+
+    nodes: int
+    """The nodes for which it has room."""
+    keys: int
+    """How many keys it has."""
+    waiting: int
+    """How many removed nodes wait to be freed."""
+    free: int
+    """How many nodes are free. An add takes two."""
+    unasked: tuple[int, ...]
+    """Which workers were in a call. For each of these, `waiting` has an earlier number."""
+    behind: tuple[int, ...]
+    """Which workers hold the epoch back, by a pin or in a call."""
+    hindering: tuple[int, ...]
+    """Which workers prevented the last growth of the set."""
+    growths: int
+    """How often the set has got a new size: it grew, or a caller asked."""
+    longest_pause: float
+    """For how many seconds calls were stopped for that at most."""
+
+
+def _numbers(mask: int) -> tuple[int, ...]:
+    """Returns the numbers of the bits of a mask."""
+    return tuple(number for number in range(mask.bit_length()) if mask >> number & 1)
+
+
+@dataclass(frozen=True)
 class Stamp:
     """The stamp of a worker: what it had done when it published the stamp."""
 
@@ -136,7 +165,7 @@ class Set(Keys):
     ) -> None:
         """Makes the set of these keys, or the empty set, for 1 to 64 workers. If no number of nodes
         is given, the set grows: it has room for 10,000 keys at first, or for the given ones. If an
-        add finds no free nodes, and none can be freed, the set gets five eighths more nodes, and all
+        add finds no free nodes, and none can be freed, the set gets half as many nodes more, and all
         calls wait while its keys are copied. `Set(65_536)` and `Set(nodes=65_536)` have 65,536 nodes, of
         7 to 268,435,456, and never grow by themselves. n keys take 2 n + 5 nodes, and the removed
         nodes that wait to be freed take theirs.
@@ -217,6 +246,15 @@ class Set(Keys):
         """Returns how many nodes are free, computed from `len` and `waiting`. An add takes two. It
         waits for no call."""
         return int(self._fullness().free)
+
+    def stats(self) -> SetStats:
+        """Returns how full it is, in one call, in the numbers of `len`, `waiting` and `free`, which
+        workers hold the epoch back, and how its growths went. It waits for no call."""
+        words, count, longest = self._fullness(), c_uint64(), c_uint64()
+        self._succeed(c.quick.nm_pool_growths(self._pool, count, longest))
+        full = (words.nodes, words.keys, words.waiting, words.free)
+        masks = map(_numbers, (words.unasked, words.behind, words.hindering))
+        return SetStats(*full, *masks, count.value, longest.value / 1e9)
 
     def collect(self) -> int:
         """Advances the epoch as far as possible, and frees what has waited long enough with each

@@ -7,6 +7,7 @@ import time
 import unittest
 from collections.abc import Callable
 from concurrent.futures import ThreadPoolExecutor
+from typing import Optional
 
 import nm_set
 from nm_set import Options, Set
@@ -77,7 +78,7 @@ class Growth(unittest.TestCase):
             self.assertEqual(len(numbers), 10_000)
             worker.unpin()
             self.assertTrue(worker.add(20_000) and 9_999 in worker)
-            self.assertEqual((numbers.capacity, worker.stats().flags), (16_250, 0))
+            self.assertEqual((numbers.capacity, worker.stats().flags), (15_001, 0))
 
     def test_a_set_with_a_size_stays(self) -> None:
         with Set(64) as numbers:
@@ -87,6 +88,8 @@ class Growth(unittest.TestCase):
             numbers.reserve(100)
             numbers.update(range(100))
             self.assertEqual((len(numbers), numbers.capacity), (100, 100))
+            self.assertEqual(numbers.stats().growths, 1)
+            self.assertGreater(numbers.stats().longest_pause, 0)
             for wrong in (-1, 2**28, 2**70):
                 with self.assertRaises(nm_set.OutOfRange):
                     numbers.reserve(wrong)
@@ -111,6 +114,30 @@ class Waits(unittest.TestCase):
             with self.assertRaises(KeyError):
                 numbers.wait_pop(0)
 
+    def test_a_look_waits_for_a_lesser_key(self) -> None:
+        with Set() as numbers, numbers.attach() as worker:
+            found: list[Optional[int]] = []
+
+            def fill() -> None:
+                for key in (30, 21, 20):
+                    time.sleep(0.03)
+                    found.append(None)
+                    numbers.add(key)
+                time.sleep(0.03)
+                numbers.add(5)
+
+            begun = time.monotonic()
+            self.assertIsNone(numbers.wait_first(0.05))
+            self.assertGreaterEqual(time.monotonic() - begun, 0.05)
+            ran(
+                lambda: found.append(numbers.wait_first(60, below=20)),
+                lambda: found.append(worker.wait_first(below=20)),
+                fill,
+            )
+            self.assertEqual((found, len(numbers)), ([None] * 3 + [5] * 2, 4))
+            self.assertEqual((numbers.wait_first(), worker.wait_first(0)), (5, 5))
+            self.assertIsNone(numbers.wait_first(0, below=5))
+
     def test_each_key_is_taken_once(self) -> None:
         numbers, taken = Set(), [0] * 1_000
 
@@ -134,12 +161,17 @@ class Waits(unittest.TestCase):
                 numbers.wait_pop()
             ends.append(True)
 
+        def look() -> None:
+            with self.assertRaises(nm_set.Closed):
+                numbers.wait_first()
+            ends.append(True)
+
         def close() -> None:
             time.sleep(0.05)
             numbers.close()
 
-        ran(take, close)
-        self.assertEqual(ends, [True])
+        ran(take, look, close)
+        self.assertEqual(ends, [True, True])
 
 
 if __name__ == "__main__":

@@ -1,5 +1,6 @@
 """Where the module looks for its library, and what it tells where it finds none."""
 
+import doctest
 import os
 import shutil
 import subprocess
@@ -124,6 +125,10 @@ class Library(unittest.TestCase):
         text = "nm_set can be imported by the first interpreter of a process alone"
         self.assertEqual(told.stdout.count(text), 2 if nm_set.is_native else 1, told.stdout)
         self.assertTrue(told.stdout.endswith("the first goes on\n"), told.stdout)
+
+    def test_the_example_of_the_module_does_what_it_shows(self) -> None:
+        shown = doctest.testmod(nm_set)
+        self.assertEqual((shown.failed, shown.attempted), (0, 3))
 
     def test_versions_agree(self) -> None:
         self.assertEqual(_library._version_of(_library.exports), nm_set.__version__)

@@ -435,8 +435,8 @@ class Ends(unittest.TestCase):
         found = Map[int](64, workers=2)
         worker = found._take()
         timer = threading.Timer(0.05, lambda: found._idle.append(worker))
-        timer.start()
         begin = time.monotonic()
+        timer.start()
         found.close()
         self.assertGreaterEqual(time.monotonic() - begin, 0.04)
         timer.join()
@@ -547,6 +547,80 @@ class Threads(unittest.TestCase):
 
 class Interrupted(Exception):
     pass
+
+
+class Waits(unittest.TestCase):
+    def test_a_look_waits_for_a_lesser_key(self) -> None:
+        found, ends = Map[str](1_024), []
+        begun = time.monotonic()
+        self.assertIsNone(found.wait_first(0.05))
+        self.assertGreaterEqual(time.monotonic() - begun, 0.05)
+
+        def look(below: int) -> None:
+            ends.append(found.wait_first(below=below))
+
+        looks = [threading.Thread(target=look, args=(below,)) for below in (6, 20)]
+        for thread in looks:
+            thread.start()
+        for key in range(30, 19, -1):
+            found[key] = "later"
+            time.sleep(0.002)
+        self.assertEqual(ends, [])
+        found[5] = "now"
+        for thread in looks:
+            thread.join()
+        self.assertEqual((ends, len(found)), ([(5, "now")] * 2, 12))
+        self.assertEqual(found.wait_first(), (5, "now"))
+        self.assertIsNone(found.wait_first(0, below=5))
+        found.close()
+
+    def test_no_lesser_key_is_missed(self) -> None:
+        found, seen = Map[int](8_192), [1_000]
+
+        def fill() -> None:
+            for key in range(999, -1, -1):
+                found[key] = key
+                while seen[-1] != key:
+                    time.sleep(0)
+
+        thread = threading.Thread(target=fill)
+        begun = time.monotonic()
+        thread.start()
+        for below in range(1_000, 0, -1):
+            least = found.wait_first(60, below=below)
+            self.assertEqual(least, (below - 1, below - 1))
+            seen.append(below - 1)
+        thread.join()
+        self.assertLess(time.monotonic() - begun, 60)
+        found.close()
+
+    def test_waiting_nodes_are_counted(self) -> None:
+        found = Map[int](1_024, workers=1)
+        found.update((key, key) for key in range(20))
+        self.assertEqual((found.waiting(), found.free()), (0, 1_024 - 5 - 40))
+        for key in range(4):
+            del found[key]
+        self.assertEqual(found.waiting() + found.free(), 1_024 - 5 - 32)
+        while found.waiting():
+            found.collect()
+        self.assertEqual((found.waiting(), found.free()), (0, 1_024 - 5 - 32))
+        found.close()
+        self.assertRaises(Closed, found.waiting)
+
+    def test_a_close_ends_a_look(self) -> None:
+        found, ends = Map[int](64), []
+
+        def look() -> None:
+            with self.assertRaises(nm_set.Closed):
+                found.wait_first()
+            ends.append(True)
+
+        thread = threading.Thread(target=look)
+        thread.start()
+        time.sleep(0.05)
+        found.close()
+        thread.join()
+        self.assertEqual(ends, [True])
 
 
 class Signals(unittest.TestCase):

@@ -212,6 +212,16 @@ class Counts(unittest.TestCase):
                 self.assertEqual((len(numbers), len(worker), list(worker)), (0, 0, []))
             self.assertEqual(numbers.free() + numbers.waiting(), 4_096 - 5)
             told = numbers.free(), numbers.waiting()
+            now = nm_set.SetStats(4_096, 0, told[1], told[0], (), (), (), 0, 0.0)
+            self.assertEqual(numbers.stats(), now)
+            with numbers.worker(3) as worker:
+                worker.pin()
+                numbers.collect()
+                self.assertEqual(numbers.stats().behind, (3,))
+                worker.unpin()
+            told = numbers.free(), numbers.waiting()
+        with self.assertRaises(nm_set.Closed):
+            numbers.stats()
         report = numbers.report
         self.assertEqual((report.free, sum(map(len, report.waiting))), told)
 

@@ -56,10 +56,58 @@ class Typed(unittest.TestCase):
                 self.assertEqual(worker.scan(ordered[0], 0), ([], ordered[0]))
                 self.assertEqual((numbers.first(), numbers.last()), (ordered[0], ordered[-1]))
                 self.assertEqual(numbers & set(values[:1]), {values[0]})
-                self.assertEqual(worker.wait_pop(0), ordered[0])
+                self.assertEqual((worker.wait_first(0), worker.wait_pop(0)), (ordered[0],) * 2)
                 self.assertEqual(numbers.pop_last(), ordered[-1])
                 numbers.update([ordered[0]])
                 self.assertTrue(numbers.discard(ordered[0]) and not worker.discard(ordered[0]))
+
+    def test_calls_for_several_values_answer_like_a_set(self) -> None:
+        for mapping, values in CASES:
+            ordered, plain = sorted(values), set(values)
+            least, most = ordered[0], ordered[-1]
+            with SetOf(mapping, values) as numbers, numbers.attach() as worker:
+                self.assertEqual(worker.contains_many(ordered), [True] * len(ordered))
+                self.assertEqual(numbers.count_range(least, most, (True, False)), len(ordered) - 1)
+                self.assertEqual(numbers.discard_many(ordered), len(ordered))
+                self.assertEqual((worker.add_many(ordered), numbers.copy()), (len(ordered), plain))
+                self.assertIsNone(numbers.wait_first(0, below=least))
+                self.assertEqual(numbers.wait_first(below=most), least)
+                for call in (numbers.pop_first, worker.pop_first):
+                    self.assertRaises(KeyError, call, least)
+                self.assertEqual((worker.pop_first(most), numbers.pop_last(most)), (least, most))
+                numbers.update((least, most))
+                self.assertEqual(numbers.wait_pop(0, below=most), least)
+                numbers.add(least)
+                self.assertEqual(numbers.pop_first_many(99, below=most), ordered[:-1])
+                self.assertRaises(KeyError, numbers.remove, least)
+                numbers.symmetric_difference_update(ordered)
+                self.assertEqual(numbers.symmetric_difference([most]), {*ordered})
+                numbers.intersection_update(ordered[:1], ordered)
+                self.assertEqual((list(numbers), numbers.contains(most)), ([least], False))
+                self.assertTrue(numbers.issubset(plain) and not numbers.issuperset(plain))
+                self.assertEqual(numbers.union(plain), plain)
+                self.assertEqual(numbers.intersection(plain), {least})
+                self.assertEqual(numbers.difference([least]), set())
+                numbers.difference_update(plain)
+                numbers.clear()
+                self.assertEqual((len(numbers), worker.stats().links > 0), (0, True))
+
+    def test_the_typed_classes_have_each_call(self) -> None:
+        def public(kind: type) -> set[str]:
+            return {name for name in dir(kind) if not name.startswith("_")}
+
+        self.assertEqual(public(nm_set.Set) - public(SetOf), set())
+        self.assertEqual(public(nm_set.Worker) - public(nm_set.WorkerOf), set())
+
+    def test_a_set_of_values_has_the_numbers_of_its_set(self) -> None:
+        with SetOf(signed(), [-5], nodes=64) as numbers, numbers.worker(3) as worker:
+            self.assertEqual((numbers.nodes, numbers.capacity, numbers.workers), (64, 29, 64))
+            self.assertEqual((numbers.free(), numbers.waiting(), numbers.collect()), (57, 0, 0))
+            numbers.reserve(100)
+            self.assertEqual((numbers.capacity, numbers.stats().growths), (100, 1))
+            numbers.shrink_to_fit()
+            self.assertEqual((worker.number, worker.is_open()), (3, True))
+        self.assertEqual(numbers.report.keys, (nm_set.signed().to_key(-5),))
 
     def test_a_closed_set_has_its_values(self) -> None:
         self.assertEqual(SetOf(signed(), [3, -3]).close(), [-3, 3])

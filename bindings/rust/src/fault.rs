@@ -79,7 +79,8 @@ pub enum Fault {
     Other(i32),
 }
 
-/// How full a set or a map was when an insert found no nodes for its key, in the numbers that
+/// How full a set is ([`stats`](crate::Set::stats)), or a set or a map was when an insert found no
+/// nodes for its key, in the numbers that
 /// [`len`](crate::Set::len) and [`waiting`](crate::Set::waiting) of a set return. Of a map, `waiting`
 /// is what its keys leave.
 #[derive(Clone, Copy, Debug, Default, PartialEq, Eq, Hash)]

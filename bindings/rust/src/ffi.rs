@@ -195,6 +195,13 @@ extern "C" {
         taken: *mut u64,
         timeout_ms: u32,
     ) -> c_int;
+    fn nm_pool_wait_first(
+        pool: *mut RawPool,
+        worker: u32,
+        below: u64,
+        found: *mut u64,
+        timeout_ms: u32,
+    ) -> c_int;
     fn nm_pool_next(pool: *mut RawPool, worker: u32, key: u64, found: *mut u64, ms: u32) -> c_int;
     fn nm_pool_prev(pool: *mut RawPool, worker: u32, key: u64, found: *mut u64, ms: u32) -> c_int;
     fn nm_pool_contains_many(
@@ -256,6 +263,7 @@ extern "C" {
     fn nm_pool_try_remove(pool: *mut RawPool, worker: u32, key: u64, tries: u32, ms: u32) -> c_int;
     fn nm_pool_size(pool: *mut RawPool, keys: *mut u64) -> c_int;
     fn nm_pool_fullness(pool: *mut RawPool, fullness: *mut Fullness) -> c_int;
+    fn nm_pool_growths(pool: *mut RawPool, count: *mut u64, longest_ns: *mut u64) -> c_int;
     fn nm_full_words(fullness: *const Fullness, text: *mut c_char, size: usize) -> *const c_char;
     fn nm_map_full_words(
         fullness: *const Fullness,
@@ -392,6 +400,7 @@ impl Pool {
             worker: u32, from: u64, taken: &mut u64, timeout_ms: u32
         );
         wait_pop = nm_pool_wait_pop(worker: u32, below: u64, taken: &mut u64, timeout_ms: u32);
+        wait_first = nm_pool_wait_first(worker: u32, below: u64, found: &mut u64, timeout_ms: u32);
         reserve = nm_pool_reserve(keys: u64, timeout_ms: u32, missing: &mut u64);
         shrink_to_fit = nm_pool_shrink_to_fit(timeout_ms: u32, missing: &mut u64);
         next = nm_pool_next(worker: u32, key: u64, found: &mut u64, timeout_ms: u32);
@@ -403,6 +412,7 @@ impl Pool {
         );
         size = nm_pool_size(keys: &mut u64);
         fullness = nm_pool_fullness(fullness: &mut Fullness);
+        growths = nm_pool_growths(count: &mut u64, longest_ns: &mut u64);
         collect_all = nm_pool_collect(freed: &mut u64);
         attach = nm_pool_attach(worker: &mut u32, timeout_ms: u32);
         attach_number = nm_pool_attach_number(number: u32, worker: &mut u32, timeout_ms: u32);

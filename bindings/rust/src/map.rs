@@ -88,11 +88,11 @@ pub struct Reclaimed {
 /// sent to another thread between two calls.
 ///
 /// When it is dropped, including by a panic, it is returned to the map, and drops the values that
-/// came back. A worker that is forgotten (`std::mem::forget`) is never returned, and the removed
+/// were reclaimed. A worker that is forgotten (`std::mem::forget`) is never returned, and the removed
 /// values that wait with it are never dropped.
 ///
 /// A call that drops values may panic if the drop of a value does. Then the call was made, and all
-/// other values that came back were dropped.
+/// other values that were reclaimed were dropped.
 ///
 /// No call waits, except [`insert`](MapWorker::insert). Each may return `Contention` (the bound
 /// of the options was reached; the map is unchanged), `Pinned` (a guard was forgotten; drop the
@@ -239,6 +239,14 @@ impl<V> Map<V> {
         Ok(usize::try_from(keys).unwrap_or(usize::MAX))
     }
 
+    /// Returns the number of removed nodes that wait to be freed, with all workers: two for each key
+    /// that was removed and whose value is not dropped. It is exact if no call is in progress.
+    ///
+    /// Errors: `Forked`.
+    pub fn waiting(&self) -> Result<u64, Fault> {
+        self.handle.waiting().map_err(Fault::of)
+    }
+
     /// Returns whether [`len`](Map::len) is 0.
     ///
     /// Errors: `Forked`.
@@ -274,8 +282,8 @@ impl<'a, V> MapWorker<'a, V> {
     /// Inserts a key with a value. If the map has the key, it keeps its value, and the error has
     /// the new one.
     ///
-    /// If no nodes are free, it drops the values that came back, by this worker and by those that
-    /// are not attached. Then it waits for nodes, for the [`timeout_ms`](Options::timeout_ms) of
+    /// If no nodes are free, it drops the values that were reclaimed, by this worker and by those
+    /// that are not attached. Then it waits for nodes, for the [`timeout_ms`](Options::timeout_ms) of
     /// the options at most. If the keys take all nodes and no node waits, it returns at once.
     ///
     /// Errors: `Present`. `Fault` with `Key`, `MapFull` (no nodes became free), `Contention`,
@@ -353,7 +361,7 @@ impl<'a, V> MapWorker<'a, V> {
         }
     }
 
-    /// Drops the values that came back, however few nodes wait.
+    /// Drops the values that were reclaimed, however few nodes wait.
     ///
     /// Errors: none is known.
     pub fn reclaim(&mut self) -> Result<Reclaimed, Fault> {
@@ -448,8 +456,16 @@ impl<V> fmt::Display for InsertError<V> {
 impl<V> std::error::Error for InsertError<V> {}
 
 impl<V> fmt::Debug for Map<V> {
+    /// Writes how many keys it has and can have, its nodes and its workers. It shows no key, because
+    /// a value may lack `Debug`. It takes no worker.
     fn fmt(&self, f: &mut fmt::Formatter<'_>) -> fmt::Result {
-        f.debug_struct("Map")
+        let mut shown = f.debug_struct("Map");
+        match self.len() {
+            Ok(keys) => shown.field("keys", &keys),
+            Err(fault) => shown.field("keys", &format_args!("{fault}")),
+        };
+        shown
+            .field("capacity", &self.capacity())
             .field("nodes", &self.nodes)
             .field("workers", &self.workers)
             .finish_non_exhaustive()
@@ -458,7 +474,9 @@ impl<V> fmt::Debug for Map<V> {
 
 impl<V> fmt::Debug for MapWorker<'_, V> {
     fn fmt(&self, f: &mut fmt::Formatter<'_>) -> fmt::Result {
-        f.debug_struct("MapWorker").finish_non_exhaustive()
+        f.debug_struct("MapWorker")
+            .field("number", &self.number())
+            .finish_non_exhaustive()
     }
 }
 

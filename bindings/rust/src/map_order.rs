@@ -9,9 +9,11 @@ use crate::key::checked;
 use crate::map::{managed, Guard, Map, MapWorker};
 use crate::options::Options;
 use crate::order::{self, ends_of, retain, Calls, Range, Scanned, Scans};
+use crate::place::millis;
 use crate::MOST_KEY;
 use std::fmt;
 use std::ops::RangeBounds;
+use std::time::Duration;
 
 /// The outcome of a remove that is not finished.
 const UNFINISHED: Outcome = -11;
@@ -98,6 +100,26 @@ impl<'a, V> MapWorker<'a, V> {
     /// Errors: `Contention`, `Pinned`.
     pub fn first(&mut self) -> Result<Option<u64>, Fault> {
         self.at_least(0)
+    }
+
+    /// Returns the least key, and removes nothing. If the map is empty it waits for a key, for at
+    /// most `timeout`, and sleeps meanwhile: each insert wakes it. Returns None after that time.
+    ///
+    /// Errors: `Contention`, `Pinned`.
+    pub fn wait_first(&mut self, timeout: Duration) -> Result<Option<u64>, Fault> {
+        self.wait_first_below(u64::MAX, timeout)
+    }
+
+    /// Does the same with the least key that is below a bound. If an insert wakes it with another
+    /// key, it sleeps on.
+    ///
+    /// Errors: `Contention`, `Pinned`.
+    pub fn wait_first_below(
+        &mut self,
+        below: u64,
+        timeout: Duration,
+    ) -> Result<Option<u64>, Fault> {
+        key_of(self.handle.wait_first(below, millis(timeout)))
     }
 
     /// Returns the greatest key, or None if the map is empty.

@@ -29,7 +29,7 @@ pub enum Shape {
 #[derive(Clone, Copy, Debug, PartialEq, Eq)]
 pub struct Options {
     /// The number of workers, 1 to 64, which is the number of calls at the same time. 64 by
-    /// default; each worker takes some 17,000 bytes, and 3,300 more once it was used.
+    /// default; each worker takes some 3,700 bytes, and 3,300 more once it was used.
     pub workers: u32,
     /// The shape of the tree. A radix tree by default.
     pub shape: Shape,

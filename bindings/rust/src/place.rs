@@ -95,6 +95,13 @@ impl Shared {
         Ok(fullness)
     }
 
+    /// Returns how often the set has got a new size, and the longest pause for that.
+    pub fn growths(&self) -> Result<(u64, Duration), Fault> {
+        let (mut count, mut longest) = (0, 0);
+        answer(self.pool.growths(&mut count, &mut longest))?;
+        Ok((count, Duration::from_nanos(longest)))
+    }
+
     fn full(&self) -> Fault {
         self.fullness()
             .map_or_else(|fault| fault, |fullness| Fault::Full(fullness.into()))
@@ -267,6 +274,11 @@ impl Place<'_> {
     pub fn wait_pop(&self, below: u64, timeout: Duration) -> Result<Option<u64>, Fault> {
         let most = millis(timeout);
         self.taken(|pool, worker, taken, _| pool.wait_pop(worker, below, taken, most))
+    }
+
+    pub fn wait_first(&self, below: u64, timeout: Duration) -> Result<Option<u64>, Fault> {
+        let most = millis(timeout);
+        self.taken(|pool, worker, found, _| pool.wait_first(worker, below, found, most))
     }
 
     /// Removes a key, and returns it. It returns a key whose remove is unfinished too, because this

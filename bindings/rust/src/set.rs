@@ -1,6 +1,6 @@
 //! The set that threads share.
 
-use crate::fault::{answer, Fault};
+use crate::fault::{answer, Fault, Full};
 use crate::ffi::Change;
 use crate::key::checked;
 use crate::options::Options;
@@ -71,8 +71,8 @@ pub struct Set(Arc<Shared>);
 
 impl Set {
     /// Makes the empty set, which grows, by [`Options::default`]. It has room for 10,000 keys at
-    /// first. If an insert finds no free nodes, and none can be freed, the set gets five eighths
-    /// more nodes: all calls wait while its keys are copied.
+    /// first. If an insert finds no free nodes, and none can be freed, the set gets half as
+    /// many nodes more: all calls wait while its keys are copied.
     ///
     /// Errors: `NoMemory`.
     pub fn new() -> Result<Set, Fault> {
@@ -240,6 +240,30 @@ impl Set {
     /// Does the same as [`wait_pop`](Set::wait_pop), with the least key that is below a bound.
     pub fn wait_pop_below(&self, below: u64, timeout: Duration) -> Result<Option<u64>, Fault> {
         self.place().wait_pop(below, timeout)
+    }
+
+    /// Returns the least key, and removes nothing: another thread may remove the key at any time. If
+    /// the set is empty it waits like [`wait_pop`](Set::wait_pop), and each insert wakes it.
+    ///
+    /// ```
+    /// # fn main() -> Result<(), nm_set::Fault> {
+    /// use std::time::Duration;
+    /// let set = nm_set::Set::new()?;
+    /// assert_eq!(set.wait_first(Duration::from_millis(1))?, None);
+    /// set.insert(7)?;
+    /// assert_eq!(set.wait_first(Duration::from_secs(60))?, Some(7));
+    /// assert_eq!(set.wait_first_below(7, Duration::from_millis(1))?, None);
+    /// # Ok(())
+    /// # }
+    /// ```
+    pub fn wait_first(&self, timeout: Duration) -> Result<Option<u64>, Fault> {
+        self.place().wait_first(u64::MAX, timeout)
+    }
+
+    /// Does the same as [`wait_first`](Set::wait_first), with the least key that is below a bound.
+    /// If an insert wakes it with another key, it sleeps on.
+    pub fn wait_first_below(&self, below: u64, timeout: Duration) -> Result<Option<u64>, Fault> {
+        self.place().wait_first(below, timeout)
     }
 
     /// Removes the least key if it is below a bound, and returns it, or None if none is.
@@ -438,6 +462,18 @@ impl Set {
     /// [`waiting`](Set::waiting). A new key takes two. It never waits.
     pub fn free(&self) -> Result<u64, Fault> {
         Ok(self.0.fullness()?.free)
+    }
+
+    /// Returns these numbers at once, for a program that watches the set: its nodes and keys, the
+    /// waiting nodes, and which workers hold the epoch back.
+    pub fn stats(&self) -> Result<Full, Fault> {
+        Ok(self.0.fullness()?.into())
+    }
+
+    /// Returns how often the set has got a new size, because it grew or a caller asked, and for how
+    /// long calls were stopped for that at most.
+    pub fn growths(&self) -> Result<(u64, Duration), Fault> {
+        self.0.growths()
     }
 
     /// Returns the number of nodes for which the set has room.

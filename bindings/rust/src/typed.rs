@@ -1,13 +1,14 @@
 //! Sets whose keys are of another type than `u64`.
 
 use crate::convert::show;
-use crate::fault::Fault;
+use crate::fault::{Fault, Full};
 use crate::options::Options;
 use crate::order::{Range, Scanned};
 use crate::set::Set;
 use crate::shown::Shown;
 use crate::worker::Worker;
 use crate::MOST_KEY;
+use std::collections::BTreeSet;
 use std::fmt;
 use std::marker::PhantomData;
 use std::ops::{Bound, RangeBounds};
@@ -143,6 +144,16 @@ fn key_of<K: Key>(value: K) -> Result<u64, Fault> {
     Ok(key)
 }
 
+/// Returns the keys of these values, or `Value` for the first one that has none.
+fn keys_of<K: Key>(values: &[K]) -> Result<Vec<u64>, Fault> {
+    values.iter().map(|&value| key_of(value)).collect()
+}
+
+/// Returns the keys of a set of values. A value that has no key is in no set.
+fn set_of<K: Key>(values: &BTreeSet<K>) -> BTreeSet<u64> {
+    values.iter().map(|&value| value.to_key()).collect()
+}
+
 /// The bounds of the keys of a range of values.
 fn bounds_of<K: Key>(range: impl RangeBounds<K>) -> (Bound<u64>, Bound<u64>) {
     let key = |bound: Bound<&K>| match bound {
@@ -211,7 +222,17 @@ impl<K: Key> SetOf<K> {
         Set::growing(options).map(SetOf::from)
     }
 
-    /// Returns the set of keys, for all other calls.
+    /// Makes the empty set with this many nodes: see [`Set::with_nodes`].
+    pub fn with_nodes(nodes: u32) -> Result<SetOf<K>, Fault> {
+        Set::with_nodes(nodes).map(SetOf::from)
+    }
+
+    /// Makes the empty set with this many nodes, by these options: see [`Set::with_options`].
+    pub fn with_options(nodes: u32, options: Options) -> Result<SetOf<K>, Fault> {
+        Set::with_options(nodes, options).map(SetOf::from)
+    }
+
+    /// Returns the set of keys.
     pub fn keys(&self) -> &Set {
         &self.set
     }
@@ -219,6 +240,11 @@ impl<K: Key> SetOf<K> {
     /// Returns whether the set has the value.
     pub fn contains(&self, value: K) -> Result<bool, Fault> {
         self.set.contains(key_of(value)?)
+    }
+
+    /// Returns whether the set has each of these values, in their order.
+    pub fn contains_many(&self, values: &[K]) -> Result<Vec<bool>, Fault> {
+        self.set.contains_many(&keys_of(values)?)
     }
 
     /// Inserts a value; returns true if it was absent.
@@ -238,6 +264,43 @@ impl<K: Key> SetOf<K> {
             added += usize::from(self.insert(value)?);
         }
         Ok(added)
+    }
+
+    /// Inserts these values, one by one, and appends to `answers` whether each was absent. All are
+    /// tested before the first one is inserted: see [`Set::insert_many`].
+    pub fn insert_many(&self, values: &[K], answers: &mut Vec<bool>) -> Result<(), Fault> {
+        self.set.insert_many(&keys_of(values)?, answers)
+    }
+
+    /// Removes these values in the same way, and appends whether each was present.
+    pub fn remove_many(&self, values: &[K], answers: &mut Vec<bool>) -> Result<(), Fault> {
+        self.set.remove_many(&keys_of(values)?, answers)
+    }
+
+    /// Removes each value for which the function returns false: see [`Set::retain`].
+    pub fn retain(&self, mut stays: impl FnMut(K) -> bool) -> Result<(), Fault> {
+        self.set.retain(|key| stays(K::from_key(key)))
+    }
+
+    /// Removes all values. A value that is inserted meanwhile may remain.
+    pub fn clear(&self) -> Result<(), Fault> {
+        self.set.clear()
+    }
+
+    /// Returns whether each value of the set is one of these.
+    pub fn is_subset(&self, other: &BTreeSet<K>) -> Result<bool, Fault> {
+        self.set.is_subset(&set_of(other))
+    }
+
+    /// Returns whether the set has each of these values.
+    pub fn is_superset(&self, other: &BTreeSet<K>) -> Result<bool, Fault> {
+        let has_keys = other.iter().all(|value| value.to_key() <= MOST_KEY);
+        Ok(has_keys && self.set.is_superset(&set_of(other))?)
+    }
+
+    /// Returns whether the set has none of these values.
+    pub fn is_disjoint(&self, other: &BTreeSet<K>) -> Result<bool, Fault> {
+        self.set.is_disjoint(&set_of(other))
     }
 
     /// Returns the least value that is not below this one, or None if there is none.
@@ -271,10 +334,50 @@ impl<K: Key> SetOf<K> {
         Ok(self.set.pop_last()?.map(K::from_key))
     }
 
+    /// Removes the least value if it is below a bound, and returns it, or None if none is.
+    pub fn pop_first_below(&self, below: K) -> Result<Option<K>, Fault> {
+        Ok(self.set.pop_first_below(below.to_key())?.map(K::from_key))
+    }
+
+    /// Removes the greatest value if it is not below a bound, and returns it.
+    pub fn pop_last_from(&self, from: K) -> Result<Option<K>, Fault> {
+        Ok(self.set.pop_last_from(from.to_key())?.map(K::from_key))
+    }
+
+    /// Removes the least values that are below a bound, at most `room`, and returns them: see
+    /// [`Set::pop_first_many`].
+    pub fn pop_first_many(&self, below: K, room: usize) -> Result<Vec<K>, Fault> {
+        let keys = self.set.pop_first_many(below.to_key(), room)?;
+        Ok(keys.into_iter().map(K::from_key).collect())
+    }
+
     /// Removes the least value and returns it, after a wait for one of at most `timeout`: see
     /// [`Set::wait_pop`].
     pub fn wait_pop(&self, timeout: Duration) -> Result<Option<K>, Fault> {
         Ok(self.set.wait_pop(timeout)?.map(K::from_key))
+    }
+
+    /// Does the same with the least value that is below a bound.
+    pub fn wait_pop_below(&self, below: K, timeout: Duration) -> Result<Option<K>, Fault> {
+        let key = self.set.wait_pop_below(below.to_key(), timeout)?;
+        Ok(key.map(K::from_key))
+    }
+
+    /// Returns the least value, after a wait for one of at most `timeout`, and removes nothing: see
+    /// [`Set::wait_first`].
+    pub fn wait_first(&self, timeout: Duration) -> Result<Option<K>, Fault> {
+        Ok(self.set.wait_first(timeout)?.map(K::from_key))
+    }
+
+    /// Does the same with the least value that is below a bound.
+    pub fn wait_first_below(&self, below: K, timeout: Duration) -> Result<Option<K>, Fault> {
+        let key = self.set.wait_first_below(below.to_key(), timeout)?;
+        Ok(key.map(K::from_key))
+    }
+
+    /// Returns how many values of a range there are: see [`Set::count`].
+    pub fn count(&self, bounds: impl RangeBounds<K>) -> Result<u64, Fault> {
+        self.set.count(bounds_of(bounds))
     }
 
     /// Returns an iterator over the values of a range, in both directions: see [`Set::range`].
@@ -311,13 +414,74 @@ impl<K: Key> SetOf<K> {
         self.set.is_empty()
     }
 
+    /// Returns the number of removed nodes that wait to be freed: see [`Set::waiting`].
+    pub fn waiting(&self) -> Result<u64, Fault> {
+        self.set.waiting()
+    }
+
+    /// Returns how many nodes are free: see [`Set::free`].
+    pub fn free(&self) -> Result<u64, Fault> {
+        self.set.free()
+    }
+
+    /// Returns how full the set is: see [`Set::stats`].
+    pub fn stats(&self) -> Result<Full, Fault> {
+        self.set.stats()
+    }
+
+    /// Returns how often the set has got a new size, and the longest pause: see [`Set::growths`].
+    pub fn growths(&self) -> Result<(u64, Duration), Fault> {
+        self.set.growths()
+    }
+
+    /// Returns the number of nodes for which the set has room.
+    pub fn nodes(&self) -> u64 {
+        self.set.nodes()
+    }
+
+    /// Returns how many values the set can have if no removed node waits.
+    pub fn capacity(&self) -> usize {
+        self.set.capacity()
+    }
+
+    /// Makes room for this many values: see [`Set::reserve`].
+    pub fn reserve(&self, values: usize) -> Result<(), Fault> {
+        self.set.reserve(values)
+    }
+
+    /// Gives back memory: see [`Set::shrink_to_fit`].
+    pub fn shrink_to_fit(&self) -> Result<(), Fault> {
+        self.set.shrink_to_fit()
+    }
+
+    /// Returns how many workers the set has.
+    pub fn workers(&self) -> u32 {
+        self.set.workers()
+    }
+
+    /// Frees what has waited long enough, and returns how many nodes: see [`Set::collect`].
+    pub fn collect(&self) -> Result<u64, Fault> {
+        self.set.collect()
+    }
+
     /// Attaches a worker to this thread: see [`Set::attach`].
     pub fn attach(&self) -> Result<WorkerOf<K>, Fault> {
-        let worker = self.set.attach()?;
-        Ok(WorkerOf {
-            worker,
-            of: PhantomData,
-        })
+        self.set.attach().map(WorkerOf::from)
+    }
+
+    /// Attaches a worker, and waits for none: see [`Set::try_attach`].
+    pub fn try_attach(&self) -> Result<WorkerOf<K>, Fault> {
+        self.set.try_attach().map(WorkerOf::from)
+    }
+
+    /// Attaches a worker, after a wait of at most `timeout`: see [`Set::attach_timeout`].
+    pub fn attach_timeout(&self, timeout: Duration) -> Result<WorkerOf<K>, Fault> {
+        self.set.attach_timeout(timeout).map(WorkerOf::from)
+    }
+
+    /// Attaches the worker of a number: see [`Set::worker`].
+    pub fn worker(&self, number: u32) -> Result<WorkerOf<K>, Fault> {
+        self.set.worker(number).map(WorkerOf::from)
     }
 
     /// Ends the set, and returns the values that it had, ascending: see [`Set::close`].
@@ -338,6 +502,16 @@ impl<K: Key + fmt::Debug> fmt::Debug for SetOf<K> {
 pub struct WorkerOf<K> {
     worker: Worker,
     of: PhantomData<fn(K) -> K>,
+}
+
+impl<K> From<Worker> for WorkerOf<K> {
+    /// Returns the worker for values of a worker for keys.
+    fn from(worker: Worker) -> WorkerOf<K> {
+        WorkerOf {
+            worker,
+            of: PhantomData,
+        }
+    }
 }
 
 impl<K: Key> WorkerOf<K> {
@@ -369,6 +543,11 @@ impl<K: Key> WorkerOf<K> {
     /// Removes the least value and returns it, after a wait for one of at most `timeout`.
     pub fn wait_pop(&mut self, timeout: Duration) -> Result<Option<K>, Fault> {
         Ok(self.worker.wait_pop(timeout)?.map(K::from_key))
+    }
+
+    /// Returns the least value, after a wait for one of at most `timeout`, and removes nothing.
+    pub fn wait_first(&mut self, timeout: Duration) -> Result<Option<K>, Fault> {
+        Ok(self.worker.wait_first(timeout)?.map(K::from_key))
     }
 }
 

@@ -206,6 +206,20 @@ impl Worker {
         self.place().wait_pop(below, timeout)
     }
 
+    /// Returns the least key, after a wait for one of at most `timeout`: see [`Set::wait_first`].
+    pub fn wait_first(&mut self, timeout: Duration) -> Result<Option<u64>, Fault> {
+        self.place().wait_first(u64::MAX, timeout)
+    }
+
+    /// Waits for a key below a bound: see [`Set::wait_first_below`].
+    pub fn wait_first_below(
+        &mut self,
+        below: u64,
+        timeout: Duration,
+    ) -> Result<Option<u64>, Fault> {
+        self.place().wait_first(below, timeout)
+    }
+
     /// Removes the least key if it is below a bound: see [`Set::pop_first_below`].
     pub fn pop_first_below(&mut self, below: u64) -> Result<Option<u64>, Fault> {
         self.place().pop_first_below(below)

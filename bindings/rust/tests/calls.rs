@@ -1,6 +1,6 @@
 //! Tests each call by one thread, and each fault that one thread can meet.
 
-use nm_set::{Advance, Fault, Options, Set, Shape, Stamp, Worker, MOST_KEY};
+use nm_set::{Advance, Fault, Full, Options, Set, Shape, Stamp, Worker, MOST_KEY};
 use std::error::Error;
 
 /// A set with room for one key.
@@ -380,8 +380,8 @@ fn a_set_is_closed_once_no_worker_is_out() {
         (Some(closed), Some(closed))
     );
     assert_eq!(
-        (set.len(), set.waiting(), set.free()),
-        (Err(closed), Err(closed), Err(closed))
+        (set.len(), set.waiting(), set.free(), set.stats()),
+        (Err(closed), Err(closed), Err(closed), Err(closed))
     );
     assert_eq!(
         (set.collect(), set.iter().next()),
@@ -430,4 +430,24 @@ fn a_report_tells_what_waits() {
     assert!(report.waiting()[1]
         .iter()
         .all(|node| node.slot > 5 && node.generation == 1 && node.label == 0));
+}
+
+/// The numbers of a set come in one call, with the worker whose pin holds the epoch back.
+#[test]
+fn a_set_has_numbers_to_watch() {
+    let set = Set::with_nodes(1_024).unwrap();
+    set.extend(0..10).unwrap();
+    let mut worker = set.attach().unwrap();
+    assert_eq!(worker.remove(3), Ok(true));
+    let full = Full {
+        nodes: 1_024,
+        keys: 9,
+        waiting: 2,
+        ..Full::default()
+    };
+    assert_eq!(set.stats(), Ok(full));
+    let pin = worker.pin().unwrap();
+    set.collect().unwrap();
+    assert_eq!(set.stats().unwrap().behind.len(), 1);
+    drop(pin);
 }

@@ -94,7 +94,7 @@ fn a_pinned_worker_prevents_a_new_size_and_is_named() {
     assert!(full.to_string().contains(text), "{full}");
     assert_eq!(set.len(), Ok(10_000));
     drop(guard);
-    assert_eq!((set.insert(20_000), set.capacity()), (Ok(true), 16_250));
+    assert_eq!((set.insert(20_000), set.capacity()), (Ok(true), 15_001));
     assert_eq!(
         (worker.contains(9_999), worker.contains(10_000)),
         (Ok(true), Ok(false))
@@ -106,7 +106,10 @@ fn a_pinned_worker_prevents_a_new_size_and_is_named() {
 fn a_set_with_a_size_does_not_grow_by_itself() {
     let set = Set::with_nodes(64).unwrap();
     assert!((0..100).any(|key| matches!(set.insert(key), Err(Fault::Full(_)))));
+    assert_eq!(set.growths(), Ok((0, Duration::ZERO)));
     assert_eq!((set.nodes(), set.reserve(100)), (64, Ok(())));
+    let (count, longest) = set.growths().unwrap();
+    assert!(count == 1 && longest > Duration::ZERO);
     assert_eq!((set.extend(0..100).is_ok(), set.len()), (true, Ok(100)));
     let nodes = 2_000_000_005;
     assert_eq!(set.reserve(1_000_000_000), Err(Fault::Nodes(nodes)));
@@ -127,6 +130,32 @@ fn a_take_waits_for_a_key_and_ends_with_the_set() {
         let waits = scope.spawn(|| set.wait_pop(LONG));
         std::thread::sleep(Duration::from_millis(20));
         assert_eq!(set.close().unwrap().len(), 0);
+        assert_eq!(waits.join().unwrap(), Err(Fault::Closed));
+    });
+}
+
+#[test]
+fn a_look_waits_for_a_lesser_key_and_takes_nothing() {
+    let set = Set::new().unwrap();
+    let begun = Instant::now();
+    assert_eq!(set.wait_first(Duration::from_millis(20)), Ok(None));
+    assert!(begun.elapsed() >= Duration::from_millis(20));
+    scope(|scope| {
+        let by_set = scope.spawn(|| set.wait_first_below(20, LONG));
+        let by_worker = scope.spawn(|| set.attach().unwrap().wait_first_below(6, LONG));
+        for key in 20..30 {
+            assert_eq!(set.insert(key), Ok(true));
+            std::thread::sleep(Duration::from_millis(2));
+        }
+        assert!(!by_set.is_finished() && !by_worker.is_finished());
+        assert_eq!(set.insert(5), Ok(true));
+        assert_eq!(by_set.join().unwrap(), Ok(Some(5)));
+        assert_eq!(by_worker.join().unwrap(), Ok(Some(5)));
+        assert_eq!(set.attach().unwrap().wait_first(LONG), Ok(Some(5)));
+        assert_eq!(set.wait_first_below(5, Duration::ZERO), Ok(None));
+        let waits = scope.spawn(|| set.wait_first_below(5, LONG));
+        std::thread::sleep(Duration::from_millis(20));
+        assert_eq!(set.close().unwrap().len(), 11);
         assert_eq!(waits.join().unwrap(), Err(Fault::Closed));
     });
 }

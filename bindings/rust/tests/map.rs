@@ -80,7 +80,9 @@ fn a_map_answers_like_a_map() {
         (map.nodes(), map.capacity(), map.workers()),
         (1_024, 509, 2)
     );
-    assert_eq!(format!("{map:?}"), "Map { nodes: 1024, workers: 2, .. }");
+    let text = "Map { keys: 2, capacity: 509, nodes: 1024, workers: 2, .. }";
+    assert_eq!(format!("{map:?}"), text);
+    assert_eq!(format!("{worker:?}"), "MapWorker { number: 0, .. }");
 }
 
 #[test]

@@ -6,6 +6,7 @@ use std::collections::BTreeMap;
 use std::sync::atomic::{AtomicBool, AtomicU64, Ordering::SeqCst};
 use std::sync::Arc;
 use std::thread;
+use std::time::Duration;
 
 /// A value that knows whether it was dropped, and counts its drop.
 struct Value {
@@ -389,4 +390,44 @@ fn a_pass_finds_what_stays() {
     });
     let count = map.attach().unwrap().count(..).unwrap();
     assert_eq!(map.len().unwrap() as u64, count);
+}
+
+#[test]
+fn a_look_waits_for_a_lesser_key() {
+    const LONG: Duration = Duration::from_secs(60);
+    let map = Map::new(1_024, 4).unwrap();
+    let mut worker = map.attach().unwrap();
+    assert_eq!(worker.wait_first(Duration::from_millis(10)), Ok(None));
+    thread::scope(|scope| {
+        let look = scope.spawn(|| map.attach().unwrap().wait_first_below(20, LONG));
+        for key in 20..30 {
+            assert!(worker.insert(key, "later").is_ok());
+            thread::sleep(Duration::from_millis(2));
+        }
+        assert!(!look.is_finished());
+        assert!(worker.insert(5, "now").is_ok());
+        assert_eq!(look.join().unwrap(), Ok(Some(5)));
+    });
+    assert_eq!(worker.wait_first(LONG), Ok(Some(5)));
+    assert_eq!(worker.wait_first_below(5, Duration::ZERO), Ok(None));
+    assert_eq!(map.len(), Ok(11));
+}
+
+#[test]
+fn waiting_nodes_are_counted() {
+    let map = Map::new(1_024, 3).unwrap();
+    let (mut first, mut second) = (map.attach().unwrap(), map.attach().unwrap());
+    let mut reader = map.attach().unwrap();
+    let guard = reader.pin().unwrap();
+    for key in 0..10 {
+        assert!(first.insert(key, key).is_ok());
+        assert_eq!(second.remove(key), Ok(true));
+    }
+    assert_eq!((map.waiting(), second.waiting()), (Ok(20), 20));
+    drop(guard);
+    let mut values = 0;
+    while values < 10 {
+        values += first.reclaim().unwrap().values + second.reclaim().unwrap().values;
+    }
+    assert_eq!((map.waiting(), map.len()), (Ok(0), Ok(0)));
 }

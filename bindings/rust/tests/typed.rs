@@ -41,6 +41,10 @@ fn answers_like<K: Key + Debug>(values: &[K]) {
     }
     assert_eq!(set.first(), Ok(peer.first().copied()));
     assert_eq!(set.last(), Ok(peer.last().copied()));
+    assert_eq!(
+        set.wait_first(Duration::ZERO),
+        worker.wait_first(Duration::from_secs(60))
+    );
     assert_eq!(worker.wait_pop(Duration::ZERO), Ok(peer.pop_first()));
     assert_eq!(set.pop_last(), Ok(peer.pop_last()));
     let least = *peer.first().unwrap();
@@ -50,8 +54,49 @@ fn answers_like<K: Key + Debug>(values: &[K]) {
     );
     peer.remove(&least);
     drop(worker);
+    answers_for_many_like(&set, &peer);
     assert_eq!(set.len(), Ok(peer.len()));
     assert_eq!(set.close(), Ok(peer.into_iter().collect()));
+}
+
+/// The calls for several values, and those up to a bound. They leave the set as it was.
+fn answers_for_many_like<K: Key + Debug>(set: &SetOf<K>, peer: &BTreeSet<K>) {
+    let all: Vec<K> = peer.iter().copied().collect();
+    let &[least, .., most] = &all[..] else { return };
+    let (mut removed, mut inserted) = (Vec::new(), Vec::new());
+    assert_eq!(set.contains_many(&all), Ok(vec![true; all.len()]));
+    assert_eq!(set.count(..), Ok(all.len() as u64));
+    assert_eq!(set.count(least..most), Ok(all.len() as u64 - 1));
+    assert_eq!(
+        (set.is_subset(peer), set.is_superset(peer)),
+        (Ok(true), Ok(true))
+    );
+    assert_eq!(set.is_disjoint(peer), Ok(false));
+    assert_eq!(set.remove_many(&all, &mut removed), Ok(()));
+    assert_eq!((removed, set.is_empty()), (vec![true; all.len()], Ok(true)));
+    assert_eq!(set.insert_many(&all, &mut inserted), Ok(()));
+    assert_eq!(inserted, vec![true; all.len()]);
+    assert_eq!(set.pop_first_below(least), Ok(None));
+    assert_eq!(set.wait_pop_below(least, Duration::ZERO), Ok(None));
+    assert_eq!(set.wait_first_below(least, Duration::ZERO), Ok(None));
+    assert_eq!(set.wait_first_below(most, Duration::ZERO), Ok(Some(least)));
+    assert_eq!(set.pop_first_below(most), Ok(Some(least)));
+    assert_eq!(set.pop_last_from(most), Ok(Some(most)));
+    assert_eq!(set.extend([least, most]), Ok(2));
+    assert_eq!(
+        set.pop_first_many(most, usize::MAX).as_deref(),
+        Ok(&all[..all.len() - 1])
+    );
+    assert_eq!(set.extend(all.iter().copied()), Ok(all.len() - 1));
+    assert_eq!(set.retain(|value| peer.contains(&value)), Ok(()));
+    assert_eq!(set.reserve(30_000), Ok(()));
+    assert_eq!(
+        (set.capacity() >= 30_000, set.growths().unwrap().0),
+        (true, 1)
+    );
+    assert!(set.try_attach().and_then(|_| set.worker(3)).is_ok());
+    assert_eq!((set.clear(), set.len()), (Ok(()), Ok(0)));
+    assert_eq!(set.extend(all), Ok(peer.len()));
 }
 
 #[test]

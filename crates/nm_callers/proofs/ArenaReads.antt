@@ -21,6 +21,8 @@ reads L k w z y objects (Ok (Some i)) o is says later = by (slice_get objects i)
   where
     by : (x : Option ℕ) → slice_get objects i ≡ x → o ≡ x → IfSome o (ReadsObject y objects k)
     by None at same = subst (λ (p : Option ℕ). IfSome p (ReadsObject y objects k)) (sym same) tt
-    by (Some x) at same = subst (λ (p : Option ℕ). IfSome p (ReadsObject y objects k)) (sym same) (record { at = z.pass; later = later; number = i; gave = says.moment; is = at })
+    by (Some x) at same =
+        subst (λ (p : Option ℕ). IfSome p (ReadsObject y objects k)) (sym same)
+        (record { asked = w.pass; at = z.pass; later = later; number = i; gave = says.moment; is = at })
 reads L k w z y objects (Ok None) o is says later = subst (λ (p : Option ℕ). IfSome p (ReadsObject y objects k)) (sym is) tt
 reads L k w z y objects (Err f) o is says later = subst (λ (p : Option ℕ). IfSome p (ReadsObject y objects k)) (sym is) tt

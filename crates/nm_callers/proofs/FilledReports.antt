@@ -9,7 +9,7 @@ use Rattle.nm_model.specs.Acts.{InSet}
 use Rattle.nm_model.specs.Headline.{after_turn, words_after, words_from, written}
 use Rattle.nm_model.specs.Memory.{Memory, opening}
 use Rattle.nm_model.specs.declared.event.Event.{Event}
-use Rattle.nm_model.specs.declared.event.Event.TheVariants.{Announce, Leave, LeaveWith, Advance, Claim, Give, Fill, Link, Flag, Tag, Splice, Join}
+use Rattle.nm_model.specs.declared.event.Event.TheVariants.{Announce, Leave, LeaveWith, Advance, Claim, Give, Fill, Link, Flag, Tag, Splice, Swap, Join}
 use Rattle.nm_model.specs.declared.event.Field.TheVariants.{Key, Edge as EdgeOn, Birth}
 use Rattle.nm_model.specs.declared.reply.Reply.{Reply}
 use Rattle.nm_model.specs.declared.reply.Refused.{Refused}
@@ -41,6 +41,7 @@ none_written m w (Link p side leaf new) q = refl
 none_written m w (Flag p side leaf) q = refl
 none_written m w (Tag p side) q = refl
 none_written m w (Splice a d x p keep) q = refl
+none_written m w (Swap p side leaf new) q = refl
 none_written m w e q = refl
 
 join_written : (m : Memory) (w v : ℕ) (r : Reply) → written m w (Join v) (Ok r) ≡ m

@@ -1,5 +1,5 @@
--- A get after an insert of the same key finds the value that was inserted, if no delete of the key
--- takes effect.
+-- A get after an insert of the same key finds the value that was inserted, if no delete and no put of
+-- the key takes effect.
 use Rattle.std.proofs.Common.{◌≡◌, ℕ, ◌+◌, ◌<◌, List, [], ◌∷◌, ◌++◌, append_assoc, length, refl, sym, ap, subst, ◌∙◌, true≢false, arith}
 use Rattle.std.specs.Prelude.{IsSome, None, Some, Option}
 use Rattle.std.proofs.lemmas.List.{length-append}
@@ -13,12 +13,13 @@ use Rattle.nm_steps.specs.Steps.{HasSeen, HasSeenAllOf, IsSamePass, PassView}
 use Rattle.nm_calls.specs.Maps.{HasPut, HoldsStores, IsInMap, MapGave, WasPut, value_at}
 use Rattle.nm_calls.proofs.KeptValues.{put_values_stay}
 use Rattle.nm_calls.proofs.UncutLeaves.{none_cuts}
-use Rattle.nm_callers.specs.Meanwhile.{NoneDeleted}
+use Rattle.nm_callers.specs.Meanwhile.{NoneDeleted, NoneReplaced}
 
 -- ---- of a worker
 
 module _ (o p q : PassView) (w k v : ℕ) (worker : w < q.view.layout.workers) (seen : HasSeen q.view) (fits : IsLayout q.view.layout) (history : HasHistory q.view.layout q.view.past) (on : HasSeenAllOf q p) (more : ExtendsStores q.view.stores p.view.stores)
-    (put : WasPut q.view.layout o.view.past p.view.past p.view.stores w k v) (none : NoneDeleted q.view.layout o.view.past q.view.past k) where
+    (put : WasPut q.view.layout o.view.past p.view.past p.view.stores w k v) (none : NoneDeleted q.view.layout o.view.past q.view.past k)
+    (unreplaced : NoneReplaced q.view.layout o.view.past q.view.past k) where
   abbrev L : Layout
   L = q.view.layout
 
@@ -38,22 +39,31 @@ module _ (o p q : PassView) (w k v : ℕ) (worker : w < q.view.layout.workers) (
       let after = length-append put.so_far (put.link ∷ []) in
       let first = put.later in
       put_values_stay L fits seen.events seen.keys o.view.past p.view.past p.view.stores q.view.stores w k v worker put more so_far held' mid rest turns
-      (none_cuts L fits seen.events seen.keys q.view.stores so_far held' (length o.view.past) (length linked + length mid) k history.0 (subst (λ (ts : List Turn). IsHistory L ts history.0) seen.are history.1) (λ a among deletes within. let early = none history.0 history.1 a among deletes in let late = within.0 in omega (arith, early, late)) put.is.slot mid linked rest turns (omega (arith, first, after)) (omega arith) ((value_at (length linked) q.view.stores put.is.slot, here, refl)))
+      (none_cuts L fits seen.events seen.keys q.view.stores so_far held' (length o.view.past)
+      (length linked + length mid) k history.0
+      (subst (λ (ts : List Turn). IsHistory L ts history.0) seen.are history.1)
+      (λ a among deletes within. let early = none history.0 history.1 a among deletes in let late = within.0 in
+      omega (arith, early, late))
+      (λ before since t is late less. unreplaced before since t (seen.are ∙ is) late) put.is.slot mid linked rest turns
+      (omega (arith, first, after)) (omega arith)
+      ((value_at (length linked) q.view.stores put.is.slot, here, refl)))
       found (subst (λ (ts : List Turn). IsInMap L ts q.view.stores k found) part.1 there)
 
 -- the answer of a get is the value that the insert has put
 pub is_kept : (o p q : PassView) (k v : ℕ) → HasSeen q.view → IsLayout q.view.layout → HasHistory q.view.layout q.view.past → IsSamePass p q → HasSeenAllOf q p → ExtendsStores q.view.stores p.view.stores → HasPut o p k v
-    → NoneDeleted q.view.layout o.view.past q.view.past k → (found : Option ℕ) → IsSome found → MapGave p q k found → found ≡ Some v
-is_kept o p q k v seen fits history same on more put none None some gave = absurd (true≢false (sym some))
-is_kept o p q k v seen fits history same on more put none (Some x) some gave =
+    → NoneDeleted q.view.layout o.view.past q.view.past k
+    → NoneReplaced q.view.layout o.view.past q.view.past k → (found : Option ℕ) → IsSome found → MapGave p q k found → found ≡ Some v
+is_kept o p q k v seen fits history same on more put none unreplaced None some gave = absurd (true≢false (sym some))
+is_kept o p q k v seen fits history same on more put none unreplaced (Some x) some gave =
     ap Some
-    (value_is_kept o p q q.view.number k v seen.worker seen fits history on more (subst (λ (z : PassView). WasPut z.view.layout o.view.past p.view.past p.view.stores z.view.number k v) (sym same) put) none x gave.so_far gave.rest gave.are gave.later gave.gives gave.stored)
+    (value_is_kept o p q q.view.number k v seen.worker seen fits history on more (subst (λ (z : PassView). WasPut z.view.layout o.view.past p.view.past p.view.stores z.view.number k v) (sym same) put) none unreplaced x gave.so_far gave.rest gave.are gave.later gave.gives gave.stored)
 
 -- the same of a get by another worker that has heard of the insert
 pub is_kept_told : (o p q : PassView) (k v : ℕ) → HasSeen p.view → HasSeen q.view → IsLayout q.view.layout → HasHistory q.view.layout q.view.past → p.view.layout ≡ q.view.layout → HasSeenAllOf q p → ExtendsStores q.view.stores p.view.stores → HasPut o p k v
-    → NoneDeleted q.view.layout o.view.past q.view.past k → (found : Option ℕ) → IsSome found → MapGave p q k found → found ≡ Some v
-is_kept_told o p q k v first seen fits history layout on more put none None some gave = absurd (true≢false (sym some))
-is_kept_told o p q k v first seen fits history layout on more put none (Some x) some gave =
+    → NoneDeleted q.view.layout o.view.past q.view.past k
+    → NoneReplaced q.view.layout o.view.past q.view.past k → (found : Option ℕ) → IsSome found → MapGave p q k found → found ≡ Some v
+is_kept_told o p q k v first seen fits history layout on more put none unreplaced None some gave = absurd (true≢false (sym some))
+is_kept_told o p q k v first seen fits history layout on more put none unreplaced (Some x) some gave =
     ap Some
     (value_is_kept o p q p.view.number k v (subst (λ (L : Layout). p.view.number < L.workers) layout first.worker) seen fits history on more
-    (subst (λ (L : Layout). WasPut L o.view.past p.view.past p.view.stores p.view.number k v) layout put) none x gave.so_far gave.rest gave.are gave.later gave.gives gave.stored)
+    (subst (λ (L : Layout). WasPut L o.view.past p.view.past p.view.stores p.view.number k v) layout put) none unreplaced x gave.so_far gave.rest gave.are gave.later gave.gives gave.stored)

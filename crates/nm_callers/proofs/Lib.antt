@@ -1,4 +1,5 @@
 pub mod GettingOn
+pub mod GotAfterPut
 pub mod Replayed
 pub mod TwoAnswers
 pub mod StayingKeys
@@ -37,3 +38,5 @@ pub mod ArenaReads
 pub mod MappedMembers
 pub mod EnoughSlots
 pub mod FreedInLives
+pub mod TwoTakes
+pub mod SharedCalls

@@ -15,7 +15,7 @@ use Rattle.nm_set.specs.declared.managed.Options.{Options}
 use Rattle.nm_set.specs.Maps.{SaysChange, SaysGet}
 use Rattle.nm_set.proofs.Managing.{was_made}
 use Rattle.nm_callers.specs.Mapping.{PutsThenGets}
-use Rattle.nm_callers.specs.Meanwhile.{NoneDeleted}
+use Rattle.nm_callers.specs.Meanwhile.{NoneDeleted, NoneReplaced}
 use Rattle.nm_callers.proofs.KeptAfterPut.{is_kept}
 use Rattle.nm_callers.proofs.Mapped.{is_found, of_found}
 
@@ -29,11 +29,12 @@ module _ (b d : TreeView) (h : Options) (k v : ℕ) (w x z : WorkerView) (r : Re
   puts_then_gets put (inr (free, l)) = of_found r o (MapGave x.pass z.pass k) (PutsThenGets w.pass z.pass k v) is (λ found gave. record { mid = x.pass; put = put; on = l.answers.on.past; gave = gave }) l.answers.moment
 
   pub finds : IsKey k → HasSeen z.pass.view → IsLayout z.pass.view.layout → HasHistory z.pass.view.layout z.pass.view.past → SaysChange Insert b h k w x (Ok true) → HasPut w.pass x.pass k v → NoneDeleted z.pass.view.layout w.pass.view.past z.pass.view.past k
+      → NoneReplaced z.pass.view.layout w.pass.view.past z.pass.view.past k
       → SaysGet d h k x z r → IfSome o (λ found. found ≡ Some v)
-  finds key seen fits history says put none (inl pinned) = refused (λ found. found ≡ Some v) r o is pinned.1
-  finds key seen fits history says put none (inr (free, l)) =
+  finds key seen fits history says put none unreplaced (inl pinned) = refused (λ found. found ≡ Some v) r o is pinned.1
+  finds key seen fits history says put none unreplaced (inr (free, l)) =
       let m = was_made w x true says in
       of_found r o (MapGave x.pass z.pass k) (λ found. found ≡ Some v) is
-      (λ found gave. is_kept w.pass x.pass z.pass k v seen fits history l.answers.on.same l.answers.on.past (l.stores m.answers.left) put none found
+      (λ found gave. is_kept w.pass x.pass z.pass k v seen fits history l.answers.on.same l.answers.on.past (l.stores m.answers.left) put none unreplaced found
       (is_found w.pass x.pass z.pass k key history (sym (ap (λ (p : PassView). p.view.layout) l.answers.on.same)) l.answers.on.past m.answers.moment none found gave) gave)
       l.answers.moment

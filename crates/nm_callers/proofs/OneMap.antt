@@ -1,6 +1,6 @@
 -- An insert and a later get, by one worker or by one that has heard of the insert, are of one plain map.
 use Rattle.std.proofs.Common.{◌≡◌, ℕ, ◌+◌, ◌<◌, ◌≤◌, List, [], ◌∷◌, ◌++◌, append-nil, append_assoc, length, refl, sym, ap, subst, ◌∙◌, arith}
-use Rattle.std.specs.Prelude.{Some, Option, None, IfSome}
+use Rattle.std.specs.Prelude.{Some, Option, None, IfSome, filter}
 use Rattle.std.proofs.lemmas.List.{length-append}
 use Rattle.std.proofs.lemmas.Option.{same_Some}
 use Rattle.nm_edge.specs.Keys.{IsKey}
@@ -15,11 +15,11 @@ use Rattle.nm_model.specs.Ordered.{ordered, trace_in}
 use Rattle.nm_order.proofs.RealTime.{begins_with}
 use Rattle.nm_steps.specs.Rules.{ExtendsStores, answered_turn}
 use Rattle.nm_steps.specs.Steps.{HasSeen, HasSeenAllOf, IsSamePass, PassView}
-use Rattle.nm_calls.specs.MapHistories.{IsMapHistory, MapAct, PutsItsValue}
+use Rattle.nm_calls.specs.MapHistories.{IsMapHistory, MapAct, PutsItsValue, is_plain}
 use Rattle.nm_calls.specs.Maps.{HasPut, HoldsStores, IsInMap, MapGave, WasMapped, WasPut, value_at}
 use Rattle.nm_calls.proofs.KeptValues.{put_values_stay}
 use Rattle.nm_calls.proofs.MapsOfRuns.{histories_are_of_maps}
-use Rattle.nm_calls.proofs.PlainMaps.{In, contains_in, in_act, in_all}
+use Rattle.nm_calls.proofs.PlainMaps.{In, contains_in, from_filter, in_act, in_all}
 use Rattle.nm_callers.specs.Mapping.{AreOfOneMap, HasInsert}
 
 no_turn : (before since : List Turn) (t : Turn) → [] ≡ before ++ t ∷ since → ⊥
@@ -43,6 +43,7 @@ module _ (o p q : PassView) (w k v : ℕ) (worker : w < q.view.layout.workers) (
     ends = record { more = held.ends.more; is = sym seen.are ∙ held.ends.is };
     held = held.held;
     linked = held.linked;
+    swapped = held.swapped;
     order = held.order;
   }
 
@@ -76,13 +77,14 @@ module _ (o p q : PassView) (w k v : ℕ) (worker : w < q.view.layout.workers) (
       link_is = part.1 ∙ (append_assoc put.so_far (put.link ∷ []) part.0 ∙ ap (λ (t : Turn). put.so_far ++ t ∷ part.0) put.won.is)
 
       by : (a : Act) × IsAmong acts a × (a.worker ≡ w) × (a.moment ≡ length put.so_far + 1) × IsInCall put.so_far Insert a → HasInsert valued w (length linked) k v
-      by (a, among, own, moment, call) = of_act (in_act valued a (subst (λ (l : List Act). IsAmong l a) (sym m.are) among))
+      by (a, among, own, moment, call) = of_act (in_act (filter is_plain valued) a (subst (λ (l : List Act). IsAmong l a) (sym m.are) among))
         where
           has_key : a.key ≡ k
           has_key = ap (λ (c : Called). c.key) (same_Some (called_in a) (record { pin = put.pin; op = Insert; key = k }) (sym call.0 ∙ (ap (λ (u : ℕ). call_begun u put.so_far) own ∙ put.call)))
 
-          of_act : (y : MapAct) × In valued y × (y.act ≡ a) → HasInsert valued w (length linked) k v
-          of_act (y, at, same) =
+          of_act : (y : MapAct) × In (filter is_plain valued) y × (y.act ≡ a) → HasInsert valued w (length linked) k v
+          of_act (y, among, same) =
+              let at = (from_filter is_plain valued y among).0 in
               let long = length-append put.so_far (put.link ∷ []) in
               let then' = ap (λ (b : Act). b.moment) same in
               let when : y.act.moment ≡ length linked = omega (arith, long, moment, then') in (

@@ -1,7 +1,7 @@
 -- A worker that does not resign because its key is pending, and is taken again.
 use Rattle.std.proofs.Common.{◌≡◌, ◌∙◌, ℕ, Bool, true, false, refl, sym, subst}
-use Rattle.std.specs.Prelude.{Option, Some, None, IsSome, Ok}
-use Rattle.std.proofs.lemmas.Option.{none-some, same_Some}
+use Rattle.std.specs.Prelude.{Option, Some, IsSome, Ok}
+use Rattle.std.proofs.lemmas.Option.{same_Some}
 use Rattle.nm_tree.specs.Answers.{FinishTold}
 use Rattle.nm_tree.specs.Workers.{WorkerView}
 use Rattle.nm_tree.specs.declared.resigning.ResignReason.{ResignReason}
@@ -10,13 +10,12 @@ use Rattle.nm_set.specs.Posts.{IsSentBack, ReturnedView}
 use Rattle.nm_set.specs.Seats.{MemberView}
 use Rattle.nm_set.proofs.Managing.{none_there}
 
--- a worker is handed back only because its key is pending
-pub sent_back : (m : MemberView) (i : ℕ) (why : ResignReason) (o : Option ReturnedView) (r : ReturnedView) → o ≡ Some r → IsSentBack m i why o → IsSentBack m i because.Pending (Some r)
-sent_back m i because.Pending (Some q) r is sent = subst (λ (v : ReturnedView). IsSentBack m i because.Pending (Some v)) (same_Some q r is) sent
-sent_back m i because.Pending None r is sent = absurd sent
-sent_back m i because.Number o r is none = absurd (none-some r (sym none ∙ is))
-sent_back m i because.Attached o r is none = absurd (none-some r (sym none ∙ is))
-sent_back m i because.Held o r is none = absurd (none-some r (sym none ∙ is))
+-- a worker is handed back with a pending key
+pub sent_back : (m : MemberView) (i : ℕ) (why : ResignReason) (o : Option ReturnedView) (r : ReturnedView)
+    → why ≡ because.Pending → o ≡ Some r → IsSentBack m i why o → IsSentBack m i because.Pending (Some r)
+sent_back m i why o r pends is sent =
+    subst (λ (x : Option ReturnedView). IsSentBack m i because.Pending x) is
+    (subst (λ (x : ResignReason). IsSentBack m i x o) pends sent)
 
 -- and it is the one that is taken again, so the remove that it finishes was pending
 pub finished_own : (m : MemberView) (i : ℕ) (r : ReturnedView) (y z : WorkerView) (finished : Bool) → IsSentBack m i because.Pending (Some r) → r.worker ≡ Some y → FinishTold y z (Ok finished) → finished ≡ true

@@ -1,14 +1,12 @@
 -- Turns of one worker that wins no link and no splice: the set stays as it is.
-use Rattle.std.proofs.Common.{◌≡◌, ℕ, suc, ◌+◌, ◌<◌, ◌≤◌, ◌||◌, Bool, true, false, cond, List, [], ◌∷◌, ◌++◌, append_assoc, length, refl, sym, ap, subst, ◌∙◌, arith, true≢false}
+use Rattle.std.proofs.Common.{◌≡◌, inl, inr, ℕ, suc, ◌+◌, ◌<◌, ◌≤◌, ◌||◌, Bool, true, false, cond, List, [], ◌∷◌, ◌++◌, append_assoc, length, refl, sym, ap, subst, ◌∙◌, arith, true≢false}
 use Rattle.std.specs.Prelude.{filter, Result, Ok, Err, All, ◌↔◌}
 use Rattle.std.proofs.lemmas.Bool.{eq-eqb}
 use Rattle.std.proofs.lemmas.List.{append_cancel_left, length-append}
 use Rattle.std.proofs.lemmas.List.Elements.{filter-append}
 use Rattle.nm_edge.specs.Layouts.{Layout, IsLayout}
-use Rattle.nm_edge.specs.declared.edge.Side.{Side}
 use Rattle.nm_edge.specs.declared.node.NodeId.{NodeId}
 use Rattle.nm_model.specs.declared.event.Event.{Event}
-use Rattle.nm_model.specs.declared.event.Event.TheVariants.{Splice}
 use Rattle.nm_model.specs.declared.reply.Reply.{Reply}
 use Rattle.nm_model.specs.declared.reply.Reply.TheVariants.{Cut}
 use Rattle.nm_model.specs.declared.reply.Refused.{Refused}
@@ -23,7 +21,7 @@ use Rattle.nm_laws.proofs.Outcomes.{no_reply, same_reply}
 use Rattle.nm_order.specs.Exchanges.{is_won_link}
 use Rattle.nm_order.specs.Logs.{is_leaver, part_of, takes_part}
 use Rattle.nm_order.proofs.AnswersSince.{part-append}
-use Rattle.nm_order.proofs.CutTurns.{cut_is_splice}
+use Rattle.nm_laws.proofs.Stays.{IsSplice}
 use Rattle.nm_order.proofs.OrderedLaws.{IsOrdered, each_ordered, ordered_next}
 use Rattle.nm_order.proofs.SetChanges.{set_stays}
 use Rattle.nm_order.proofs.WalksOfRuns.{all_before, all_behind, trace_in-append}
@@ -32,7 +30,7 @@ use Rattle.nm_theorem.proofs.WrittenWords.{run_words}
 use Rattle.nm_steps.specs.Steps.{PassView, HasSeen, IsSamePass}
 use Rattle.nm_walks.specs.WonCounts.{is_won_splice, won_links, won_splices}
 use Rattle.nm_progress.specs.Alone.{IsAlone}
-use Rattle.nm_tree.proofs.FoundThenGone.{begins}
+use Rattle.nm_tree.proofs.FoundThenGone.{begins, uncut_or_same}
 use Rattle.nm_callers.specs.Taking.{StaysThroughout}
 
 -- ---- one turn
@@ -54,11 +52,19 @@ own_turn test w u e (Err x) rest own none = (λ q no. absurd (no_reply x q no), 
 -- ---- many
 
 module _ (L : Layout) (enough : 5 ≤ L.nodes) (w : ℕ) where
-  uncut : (c : Configuration) (t : ℕ × Event) → IsOrdered L c → ((q : Reply) → outcome_in c t ≡ Ok q → is_won_splice (t.1, q) ≡ false) → (ns : List NodeId) → outcome_in c t ≡ Ok (Cut ns) → ⊥
-  uncut c t o none ns is = by (cut_is_splice L enough c t o ns is)
+  -- a turn that is no won link and no won splice leaves the set as it is
+  same_set : (c : Configuration) (t : ℕ × Event) → HasKey t.1 → IsOrdered L c
+      → ((q : Reply) → outcome_in c t ≡ Ok q → is_won_link (t.1, q) ≡ false)
+      → ((q : Reply) → outcome_in c t ≡ Ok q → is_won_splice (t.1, q) ≡ false) → (k : ℕ)
+      → InSet (next_in c t).state.memory k ↔ InSet c.state.memory k
+  same_set c t has o link none k = elim (uncut_or_same L enough c t o unspliced) [
+    | inl uncut ↦ set_stays L enough c t has o link uncut k
+    | inr same ↦ same k
+  ]
     where
-      by : (a : ℕ) × (side : Side) × (x : ℕ) × (p : ℕ) × (keep : Side) × (t.1 ≡ Splice a side x p keep) → ⊥
-      by (a, side, x, p, keep, splice) = true≢false (ap (λ (e : Event). is_won_splice (e, Cut ns)) (sym splice) ∙ none (Cut ns) is)
+      unspliced : (ns : List NodeId) → outcome_in c t ≡ Ok (Cut ns) → IsSplice t.1 → ⊥
+      unspliced ns is (a, side, x, p, keep, splice) =
+          true≢false (ap (λ (e : Event). is_won_splice (e, Cut ns)) (sym splice) ∙ none (Cut ns) is)
 
   own_turns : (ts : List (ℕ × Event)) → All (λ t. HasKey t.1) ts → (c : Configuration) → IsOrdered L c → All (λ t. t.worker ≡ w) (trace_in c ts)
       → length (filter is_won_link (part_of w (trace_in c ts))) ≡ 0 → length (filter is_won_splice (part_of w (trace_in c ts))) ≡ 0
@@ -69,7 +75,7 @@ module _ (L : Layout) (enough : 5 ≤ L.nodes) (w : ℕ) where
       let first = own 0 (record { worker = t.0; event = t.1; outcome = outcome_in c t }) (omega arith) in
       let link = own_turn is_won_link w t.0 t.1 (outcome_in c t) (part_of w (trace_in (next_in c t) ts)) first links in
       let splice = own_turn is_won_splice w t.0 t.1 (outcome_in c t) (part_of w (trace_in (next_in c t) ts)) first splices in
-      let one = set_stays L enough c t (keys 0 t (omega arith)) o link.0 (uncut c t o splice.0) k in
+      let one = same_set c t (keys 0 t (omega arith)) o link.0 splice.0 k in
       let rest = own_turns ts (λ i d below. keys (suc i) d (omega (arith, below))) (next_in c t) (ordered_next L enough c t (keys 0 t (omega arith)) o) (λ i d below. own (suc i) d (omega (arith, below))) link.1 splice.1 k in
       (λ s. one.0 (rest.0 s), λ s. rest.1 (one.1 s))
 

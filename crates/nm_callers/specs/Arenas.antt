@@ -2,7 +2,7 @@
 use Rattle.std.specs.Prelude.{◌≡◌, ◌⊎◌, ℕ, List, get_or, slice_get, Contains, Option, Some, None, Result, Ok, Err}
 use Rattle.nm_steps.specs.declared.view.View.{View}
 use Rattle.nm_steps.specs.Steps.{HasSeenAllOf, PassView}
-use Rattle.nm_calls.specs.Maps.{MapGivesUnderPin}
+use Rattle.nm_calls.specs.Maps.{MapGaveUnderPin}
 use Rattle.nm_tree.specs.Workers.{WorkerView}
 use Rattle.nm_set.specs.declared.fault.PinnedGetFault.{PinnedGetFault}
 use Rattle.nm_callers.specs.Returning.{HasComeBack}
@@ -28,8 +28,9 @@ object_at objects (Err fault) = None
 -- by what the worker has seen, the map had the key with the number of this object, at a moment of a pin
 -- of the worker
 pub record ReadsObject (z : WorkerView) (objects : List ℕ) (k object : ℕ) : Type 0 where
+  pub asked : PassView
   pub at : PassView
   pub later : HasSeenAllOf z.pass at
   pub number : ℕ
-  pub gave : MapGivesUnderPin at k (Some number)
+  pub gave : MapGaveUnderPin asked at k (Some number)
   pub is : slice_get objects number ≡ Some object

@@ -4,6 +4,7 @@ pub mod Reading
 pub mod PuttingBack
 pub mod Adding
 pub mod Taking
+pub mod TakenTwice
 pub mod Tallies
 pub mod Queues
 pub mod Letters

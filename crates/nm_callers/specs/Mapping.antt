@@ -1,6 +1,6 @@
 -- A worker that inserts a key with a value, and then gets the value or takes it out; and one that
 -- gets a value under its pin.
-use Rattle.std.specs.Prelude.{◌≡◌, ◌⊎◌, ◌<◌, ◌≤◌, ℕ, true, List, length, Contains, Option, Some, IsSome}
+use Rattle.std.specs.Prelude.{◌≡◌, ◌⊎◌, ◌<◌, ◌≤◌, ◌+◌, ℕ, true, List, length, Contains, Option, Some, IsSome}
 use Rattle.nm_edge.specs.Layouts.{Layout}
 use Rattle.nm_model.specs.declared.event.Op.TheVariants.{Insert}
 use Rattle.nm_model.specs.declared.trace.Turn.{Turn}
@@ -10,7 +10,7 @@ use Rattle.nm_steps.specs.declared.view.Stored.{Stored}
 use Rattle.nm_steps.specs.Rules.{Extends}
 use Rattle.nm_steps.specs.Steps.{HasSeenAllOf, PassView}
 use Rattle.nm_calls.specs.MapHistories.{IsMapHistory, MapAct, map_at}
-use Rattle.nm_calls.specs.Maps.{HasPut, HasTaken, MapGave, MapGivesUnderPin}
+use Rattle.nm_calls.specs.Maps.{HasPut, HasTaken, MapGave, MapGaveUnderPin}
 use Rattle.nm_tree.specs.Workers.{WorkerView}
 
 -- the worker put the key into the map with this value after all that p had seen. After that, and
@@ -52,11 +52,21 @@ pub record PutsThenTakes (p q : PassView) (k v taken : ℕ) : Type 0 where
   pub on : HasSeenAllOf q mid
   pub took : HasTaken mid q k taken
 
--- the worker is pinned, and the map gave this answer to a look-up of the key at a moment of that
--- pin
-pub record IsHoldingAnswer (w : WorkerView) (k : ℕ) (found : Option ℕ) : Type 0 where
-  pub held : IsSome w.held
-  pub gave : MapGivesUnderPin w.pass k found
+-- the worker is pinned, and since w the map gave this answer to a look-up of the key, at a moment of
+-- that pin
+pub record IsHoldingAnswer (w z : WorkerView) (k : ℕ) (found : Option ℕ) : Type 0 where
+  pub held : IsSome z.held
+  pub gave : MapGaveUnderPin w.pass z.pass k found
+
+-- a writer put the key into the map with v. A reader whom it told of that asked for the key, under a
+-- pin that may be older. It got what the map had at a moment after the put (Herlihy and Wing)
+pub record GotAfterPut (p writer reader : PassView) (k v : ℕ) (found : Option ℕ) : Type 0 where
+  pub put : HasPut p writer k v
+  pub asked : PassView
+  pub heard : HasSeenAllOf asked writer
+  pub on : HasSeenAllOf reader asked
+  pub got : MapGaveUnderPin asked reader k found
+  pub later : length put.so_far + 1 < length got.so_far
 
 -- the worker put the key into the map with v, which is this value; or the map gave this value to a
 -- look-up of the key

@@ -1,5 +1,5 @@
--- Turns in which no worker deletes a key, or inserts it, after some moment (linearization point).
-use Rattle.std.specs.Prelude.{◌≡◌, ◌≤◌, ℕ, Bool, true, false, List, [], length}
+-- Turns in which no worker deletes, inserts or puts a key after some moment (linearization point).
+use Rattle.std.specs.Prelude.{◌≡◌, ◌≤◌, ℕ, Bool, true, false, List, [], ◌∷◌, ◌++◌, length}
 use Rattle.nm_edge.specs.Keys.{IsKey}
 use Rattle.nm_edge.specs.Layouts.{Layout}
 use Rattle.nm_model.specs.Headline.{words_after}
@@ -10,6 +10,7 @@ use Rattle.nm_model.specs.Acts.{Act, IsAmong, InSet}
 use Rattle.nm_theorem.specs.EachRun.{IsTrueDelete}
 use Rattle.nm_model.specs.Histories.{IsHistory, HasHistory, AnswerStands}
 use Rattle.nm_steps.specs.Rules.{Extends}
+use Rattle.nm_calls.specs.KeptValues.{NoneSwapsOut}
 
 -- an act that inserts the key
 abbrev pub IsTrueInsert : ℕ → Act → Type 0
@@ -27,6 +28,11 @@ NoneDeleted L start turns k = OnlyWithin L start turns (IsTrueDelete k)
 
 abbrev pub NoneInserted : Layout → List Turn → List Turn → ℕ → Type 0
 NoneInserted L start turns k = OnlyWithin L start turns (IsTrueInsert k)
+
+-- after `start` no swap takes out a leaf with the key. So no put gives it another value
+abbrev pub NoneReplaced : Layout → List Turn → List Turn → ℕ → Type 0
+NoneReplaced L start turns k = (so_far rest : List Turn) (t : Turn) → turns ≡ so_far ++ t ∷ rest
+    → length start ≤ length so_far → NoneSwapsOut L so_far t k
 
 -- ---- laws of any turns
 

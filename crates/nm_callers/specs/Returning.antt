@@ -19,12 +19,13 @@ pub record HasComeBack (v : View) (value : ℕ) : Type 0 where
   pub cut : WasCutWith v.layout v.past v.stores node value
   pub freed : IsFreedInGrace v node
 
--- a reader got the value under the key at a moment of the pin that it still has. In all that it has
+-- a reader got the value under the key after the turns `was`, under the pin that it still has. In all that it has
 -- seen, the leaf that had the value is not freed, and no value that was stored for this leaf has come
 -- back. Another worker, whom the reader has heard, got these values back, each of another leaf
 pub record HasNotComeBack (reader : View) (k v : ℕ) (other : View) (back : List ℕ) : Type 0 where
+  pub was : List Turn
   pub stores : List Stored
-  pub got : WasMappedUnderPin reader.layout reader.past stores reader.number k (Some v)
+  pub got : WasMappedUnderPin reader.layout was reader.past stores reader.number k (Some v)
   pub kept : Contains (freed_by reader.past) (got_leaf got) → ⊥
   pub out : (x : Stored) → IsStoreOf reader.layout reader.past x (got_leaf got)
       → ComesBack reader.layout reader.past x → ⊥

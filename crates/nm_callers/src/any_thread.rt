@@ -1,13 +1,14 @@
 //! Threads that call one shared set by whichever worker is free.
-ghost use Rattle.std.specs.Prelude.{◌≡◌, ◌++◌, ◌∷◌, [], Some, Ok, IfSome};
+ghost use Rattle.std.specs.Prelude.{◌≡◌, ◌<◌, ◌++◌, ◌∷◌, [], Some, Ok, IfNone, IfSome};
+ghost use Rattle.nm_edge.specs.Keys.{IsKey};
 ghost use Rattle.nm_model.specs.declared.event.Op.TheVariants.{Has, Insert, Delete};
-ghost use Rattle.nm_callers.specs.AnyThread.{FindsAfterInsert, RemovesApart};
+ghost use Rattle.nm_callers.specs.AnyThread.{FindsAfterInsert, FoundNext, FoundTaken, RemovesApart, TookDue, TookValue};
 ghost use Rattle.nm_set.specs.Managed.{of_insert};
-ghost use Rattle.nm_shared.specs.Sharing.{IsCallerOf, SaysShared};
+ghost use Rattle.nm_shared.specs.Sharing.{IsCallerOf, SaysShared, SaysSharedNext, SaysSharedPop};
 
 use nm_edge::Key;
-use nm_set::Options;
-use nm_shared::{Caller, SharedSet};
+use nm_set::{CallFault, Options};
+use nm_shared::{Caller, MapCaller, SharedMap, SharedSet};
 use std::thread::{Threads, join};
 
 /// Inserts a key, and then looks it up, each by whichever worker is free. `None`: a call had no
@@ -86,6 +87,124 @@ fn remove_shared(
     let (caller, told) = set.remove(caller, key, options);
     match told {
         Some(Ok(answer)) => (caller, Some(answer)),
+        _ => (caller, None),
+    }
+}
+
+/// Removes a key, and asks why if no worker was free. Proved: then this call has found the worker of
+/// the given number in the hands of another one, or another call was faster there.
+pub fn remove_unless_all_are_away(
+    set: &SharedSet,
+    caller: Caller,
+    key: Key,
+    options: &Options,
+    number: u32,
+) -> (Caller, Option<Result<bool, CallFault>>)
+    requires own { IsCallerOf set.now caller }
+    requires within { (number < set.now.table.words) × (number < 4294967295) }
+    ensures own { IsCallerOf set.now result.0 }
+    ensures away { IfNone result.1 (FoundTaken number caller result.0) }
+{
+    set.remove(caller, key, options)
+}
+
+/// Takes a key out of a shared map, and returns its value. `None`: the map did not have the key, or the
+/// call had no answer. Proved: otherwise the map had the key with this value right before the flag of this
+/// very call.
+#[tactic(auto, using(crate::proofs::SharedCalls::took_value))]
+pub fn take_value_shared(
+    map: &SharedMap,
+    caller: MapCaller,
+    key: Key,
+    options: &Options,
+) -> (MapCaller, Option<u64>)
+    requires own { IsCallerOf map.now caller }
+    ensures own { IsCallerOf map.now result.0 }
+    ensures took { IfSome result.1 (TookValue caller result.0 key) }
+{
+    let mut taken = 0;
+    let (caller, told) = map.remove(caller, key, &mut taken, options);
+    match told {
+        Some(Ok(true)) => (caller, Some(taken)),
+        _ => (caller, None),
+    }
+}
+
+/// Takes the least key below a bound, such as the first of a queue whose time has come. `None`: the set
+/// had no such key, or the call had no answer. Proved: otherwise the key is below the bound, and a remove
+/// of it by this call has its moment in the call.
+pub fn take_due_shared(
+    set: &SharedSet,
+    caller: Caller,
+    below: u64,
+    options: &Options,
+) -> (Caller, Option<Key>)
+    requires own { IsCallerOf set.now caller }
+    ensures own { IsCallerOf set.now result.0 }
+    ensures took { IfSome result.1 (TookDue caller result.0 below) }
+{
+    let (caller, taken) = pop_shared(set, caller, below, options);
+    let Some(taken) = taken else {
+        return (caller, None);
+    };
+    (caller, taken)
+}
+
+/// Looks for the least key that is not below a given one. `None`: there was none, or the call had no
+/// answer. Proved: otherwise the set had the key at a moment of the call, and each lower one that is not
+/// below the given one was absent at a moment of its own.
+pub fn next_shared(
+    set: &SharedSet,
+    caller: Caller,
+    least: Key,
+    options: &Options,
+) -> (Caller, Option<Key>)
+    requires own { IsCallerOf set.now caller }
+    ensures own { IsCallerOf set.now result.0 }
+    ensures found { IfSome result.1 (FoundNext caller result.0 least) }
+{
+    let (caller, found) = look_on_shared(set, caller, least, options);
+    let Some(found) = found else {
+        return (caller, None);
+    };
+    (caller, found)
+}
+
+/// Pops the least key below a bound. `None` in place of a result: the call had no answer.
+fn pop_shared(
+    set: &SharedSet,
+    caller: Caller,
+    below: u64,
+    options: &Options,
+) -> (Caller, Option<Option<Key>>)
+    requires own { IsCallerOf set.now caller }
+    ensures own { IsCallerOf set.now result.0 }
+    ensures says { IfSome result.1 (λ x. SaysSharedPop (λ j. IsKey j × (j < below)) ◌<◌ set.now
+        options.now caller result.0 (Ok x)) }
+{
+    let (caller, told) = set.pop_first_below(caller, below, options);
+    match told {
+        Some(Ok(taken)) => (caller, Some(taken)),
+        _ => (caller, None),
+    }
+}
+
+/// Looks for the least key that is not below this one. `None` in place of a result: the call had no
+/// answer.
+fn look_on_shared(
+    set: &SharedSet,
+    caller: Caller,
+    least: Key,
+    options: &Options,
+) -> (Caller, Option<Option<Key>>)
+    requires own { IsCallerOf set.now caller }
+    ensures own { IsCallerOf set.now result.0 }
+    ensures says { IfSome result.1
+        (λ x. SaysSharedNext set.now options.now least caller result.0 (Ok x)) }
+{
+    let (caller, told) = set.next(caller, least, options);
+    match told {
+        Some(Ok(found)) => (caller, Some(found)),
         _ => (caller, None),
     }
 }

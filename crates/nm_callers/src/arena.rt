@@ -43,7 +43,7 @@ fn object_of(objects: &[u64], found: Result<Option<u64>, PinnedGetFault>) -> Opt
 
 /// Reads the object under a key: pins the worker, gets the number under that pin, reads the object, and
 /// unpins. `None`: the map did not have the key, or there is no object of its number, or the pin was
-/// lost in each try. Proved: otherwise the map had the key with the number at a moment of the pin, and
+/// lost in each try. Proved: otherwise the map had the key with the number at a moment of the look-up, and
 /// the object is the one of that number. Argued, not proved: nobody resets the object while it is read,
 /// because a number comes back after the unpin (`reset_returned`).
 pub fn read_object(member: &mut MapMember, objects: &[u64], key: Key, tries: u32) -> Option<u64>

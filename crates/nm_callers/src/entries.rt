@@ -42,8 +42,7 @@ pub fn look_next(member: &mut MapMember, key: Key, tries: u32) -> Option<(Key, u
 
 /// Takes the least key of the map that is below a bound, with its value, as a timer takes a task
 /// that is due. `None`: there is none, or the call returned an error. Proved: otherwise the map had
-/// that key with that value at a moment of the call, in the slot of a leaf that this member has
-/// flagged.
+/// that key with that value right before a flag of this call, in the very leaf that it flagged.
 pub fn take_due(member: &mut MapMember, below: u64, options: &Options) -> Option<(Key, u64)>
     ensures tree { member.new.tree ≡ member.old.tree }
     ensures took { IfSome result
@@ -72,8 +71,8 @@ pub fn look_back(member: &mut MapMember, key: Key, tries: u32) -> Option<(Key, u
 }
 
 /// Removes a key, and returns the value that it had. `None`: the map did not have the key, or the
-/// call returned an error. Proved: otherwise the map had the key with that value at a moment of the
-/// call, in the slot of a leaf that this member has flagged.
+/// call returned an error. Proved: otherwise the map had the key with that value right before a flag
+/// of this call, in the very leaf that it flagged.
 pub fn take_out(member: &mut MapMember, key: Key, options: &Options) -> Option<u64>
     ensures tree { member.new.tree ≡ member.old.tree }
     ensures took { IfSome result (TookMeanwhile member.old.worker.pass member.new.worker.pass key) }

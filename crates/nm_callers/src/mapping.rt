@@ -3,7 +3,7 @@
 ghost use Rattle.std.specs.Prelude.{◌≡◌, Some, IfSome};
 ghost use Rattle.nm_steps.specs.Steps.{PassView};
 ghost use Rattle.nm_callers.specs.Mapping.{PutsThenGets};
-ghost use Rattle.nm_callers.specs.Meanwhile.{NoneDeleted};
+ghost use Rattle.nm_callers.specs.Meanwhile.{NoneDeleted, NoneReplaced};
 
 use nm_edge::Key;
 use nm_set::{Map, MapMember, Options};
@@ -21,8 +21,8 @@ pub struct PutAndGot {
 /// Inserts a key with a value, and then gets the value of the key. The outer `None`: a call returned
 /// an error, or the key was in the map before. Proved: otherwise right after the insert's link the map
 /// had the key with the value, and the get returned what the map had at a later moment (linearization
-/// point). Proved too: the get found the value that was inserted, unless a delete of the key took
-/// effect after all that the member had seen before.
+/// point). Proved too: the get found the value that was inserted, unless a delete or a put of the key
+/// took effect after all that the member had seen before.
 pub fn put_then_get(
     member: &mut MapMember,
     key: Key,
@@ -33,7 +33,9 @@ pub fn put_then_get(
     ensures answers { IfSome result (PutsThenGets member.old.worker.pass member.new.worker.pass key
         value) }
     ensures found { NoneDeleted member.new.worker.pass.view.layout member.old.worker.pass.view.past
-        member.new.worker.pass.view.past key → IfSome result (λ found. found ≡ Some value) }
+        member.new.worker.pass.view.past key → NoneReplaced member.new.worker.pass.view.layout
+        member.old.worker.pass.view.past member.new.worker.pass.view.past key
+        → IfSome result (λ found. found ≡ Some value) }
 {
     let mut unused = 0;
     let Ok(true) = member.insert(key, value, &mut unused, options) else {

@@ -6,7 +6,7 @@ ghost use Rattle.nm_steps.specs.Steps.{IsOf};
 ghost use Rattle.nm_steps.specs.Values.{HasValues};
 ghost use Rattle.nm_tree.specs.Calls.{MayCall};
 ghost use Rattle.nm_callers.specs.Mapping.{AreOfOneMap, PutsThenGets};
-ghost use Rattle.nm_callers.specs.Meanwhile.{NoneDeleted};
+ghost use Rattle.nm_callers.specs.Meanwhile.{NoneDeleted, NoneReplaced};
 
 use crate::trees::tell_worker;
 use nm_edge::Key;
@@ -15,8 +15,8 @@ use nm_tree::{CallFault, Tree, Worker};
 /// Inserts a key with a value, and then gets the value of the key. The outer `None`: a call
 /// returned an error, or the key was in the map before. Proved: otherwise right after the insert's
 /// link the map had the key with the value, and the get returned what the map had at a later moment
-/// (linearization point). Proved too: the get found the value that was inserted, unless a delete of
-/// the key took effect after all that the worker had seen before. And if the get found a value,
+/// (linearization point). Proved too: the get found the value that was inserted, unless a delete or a
+/// put of the key took effect after all that the worker had seen before. And if the get found a value,
 /// each history of the turns is one of a plain map. The insert is one of its acts, which puts the
 /// value that was inserted, and at the moment of the get this map has the value that was found.
 pub fn insert_then_get(
@@ -31,7 +31,9 @@ pub fn insert_then_get(
     requires values { HasValues tree.now }
     ensures answers { IfSome result (PutsThenGets worker.old.pass worker.new.pass key value) }
     ensures found { NoneDeleted worker.new.pass.view.layout worker.old.pass.view.past
-        worker.new.pass.view.past key → IfSome result (λ found. found ≡ Some value) }
+        worker.new.pass.view.past key → NoneReplaced worker.new.pass.view.layout
+        worker.old.pass.view.past worker.new.pass.view.past key
+        → IfSome result (λ found. found ≡ Some value) }
     ensures one_map { IfSome result (λ found. IfSome found
         (AreOfOneMap worker.new.pass.view.layout worker.old.pass.view.past
         worker.new.pass.view.past worker.new.pass.view.number key value)) }
@@ -48,8 +50,8 @@ pub fn insert_then_get(
 
 /// Inserts a key with a value by one worker, and then gets the value of the key by another one, which
 /// has heard of the insert. The outer `None`: a call returned an error, or the key was in the map
-/// before. Proved: the get found the value that was inserted, unless a delete of the key took effect
-/// after all that the first worker had seen before. Proved too: if the get found a value, each history
+/// before. Proved: the get found the value that was inserted, unless a delete or a put of the key took
+/// effect after all that the first worker had seen before. Proved too: if the get found a value, each history
 /// of the turns is one of a plain map, which both workers share. The insert is one of its acts, and at
 /// the moment of the get this map has the value that was found.
 pub fn insert_then_get_told(
@@ -66,6 +68,7 @@ pub fn insert_then_get_told(
     requires free_two { two.old.held ≡ None }
     requires values { HasValues tree.now }
     ensures found { NoneDeleted two.new.pass.view.layout one.old.pass.view.past
+        two.new.pass.view.past key → NoneReplaced two.new.pass.view.layout one.old.pass.view.past
         two.new.pass.view.past key → IfSome result (λ found. found ≡ Some value) }
     ensures one_map { IfSome result (λ found. IfSome found
         (AreOfOneMap two.new.pass.view.layout one.old.pass.view.past two.new.pass.view.past

@@ -4,7 +4,7 @@ ghost use Rattle.std.specs.Prelude.{◌≡◌, true, Some, IfSome};
 ghost use Rattle.nm_callers.specs.Meanwhile.{NoneDeleted};
 
 use nm_edge::Key;
-use nm_set::{Member, Options, ResignError, Set};
+use nm_set::{Member, Options, ResignError, ResignReason, Set};
 
 /// A member that has looked up a key, and the answer.
 #[derive(Drop)]
@@ -82,7 +82,8 @@ pub struct StayedLeaver {
 
 /// Lets a worker at home resign to a member. If it may not, because it has a pending key, the same
 /// worker is taken again by its ticket, and goes on with its own remove. `None`: the worker resigned,
-/// or it was not found, or another member has had it since, or the remove is not finished. Proved:
+/// or it was not found, or its queues had no room, or another member has had it since, or the remove
+/// is not finished. Proved:
 /// otherwise the worker has finished a remove that was pending when it was found, and the heir is
 /// unchanged.
 pub fn finish_own_remove(heir: Member, number: u32, tries: u32) -> Option<StayedLeaver>
@@ -94,10 +95,13 @@ pub fn finish_own_remove(heir: Member, number: u32, tries: u32) -> Option<Stayed
         return None;
     };
     let ResignError {
-        reason: _,
+        reason,
         member,
         leaver,
     } = error;
+    let ResignReason::Pending = reason else {
+        return None;
+    };
     let Some(returned) = leaver else {
         return None;
     };

@@ -4,6 +4,7 @@ ghost use Rattle.std.specs.Prelude.{◌≡◌, ◌≢◌, true, false, None, IfO
 ghost use Rattle.nm_model.specs.declared.event.Op.TheVariants.{Has, Insert, Delete};
 ghost use Rattle.nm_steps.specs.Rules.{ExtendsStores};
 ghost use Rattle.nm_steps.specs.Steps.{PassView, IsOf, IsSamePass, HasHeard, HasSeenAllOf};
+ghost use Rattle.nm_steps.specs.Values.{HasSeenStores, HasValues};
 ghost use Rattle.nm_calls.specs.Moments.{AnswerHasMoment};
 ghost use Rattle.nm_walks.specs.WonCounts.{won_flags};
 ghost use Rattle.nm_callers.specs.Meanwhile.{NoneDeleted, NoneInserted};
@@ -21,7 +22,9 @@ pub fn tell_worker(tree: &Tree, from: &mut Worker, to: &mut Worker)
     ensures held { to.new.held ≡ to.old.held }
     ensures heard { HasSeenAllOf to.new.pass from.old.pass }
     ensures past { HasSeenAllOf to.new.pass to.old.pass }
+    ensures stores { ExtendsStores to.new.pass.view.stores to.old.pass.view.stores }
     ensures heard_stores { ExtendsStores to.new.pass.view.stores from.old.pass.view.stores }
+    ensures values { HasValues tree.now → HasSeenStores to.new.pass.view }
 {
     let note = tree.note(from);
     tree.hear(to, note);

@@ -114,7 +114,8 @@ nodes_are_freed_once L turns h before between rest one other n are in_one in_oth
 -- ---- nor before a worker that was pinned has unpinned
 
 pub pinned_values_stay_out : PinnedValuesStayOut
-pinned_values_stay_out L turns h now stores w k v got mid between rest cut free n slot are in_cut in_free = by (list_any (leaves w) mid) refl
+pinned_values_stay_out L turns h was now stores w k v got mid between rest cut free n slot are in_cut in_free =
+    by (list_any (leaves w) mid) refl
   where
     joined : list_any (leaves w) (mid ++ cut ∷ between) ≡ (list_any (leaves w) mid || (leaves w cut || list_any (leaves w) between))
     joined = list_any-append (leaves w) mid (cut ∷ between)

@@ -86,11 +86,14 @@ placed true p r key e h call = (h.over, h.read ThePin (Insert, call), within h.n
     within (inl first) = inl first
     within (inr w) = inr (w.0, w.1, w.2, w.3, w.4, w.5 ThePin (Insert, call))
 
-pub may_grow : (b : TreeView) (p r q : PassView) (key : ℕ) (e : WalkEnd) (c : List ChainEdge) (made : NewNodes) → q.view.layout ≡ b.layout → Tells p (CallIs Insert key) → (search p).linked ≡ false → GoesOn p r → OnlyLooks p r
+pub may_grow : (b : TreeView) (p r q : PassView) (key : ℕ) (e : WalkEnd) (c : List ChainEdge) (made : NewNodes)
+    → q.view.layout ≡ b.layout → Tells p (CallIs Insert key) → (search p).linked ≡ false → (search p).swapped ≡ false
+    → GoesOn p r → OnlyLooks p r
     → HasStopped b.layout key p r c e → HasPlace b.layout.radix p r key e → e.key ≢ key → GoesOn r q → OnlyMakes r q → HasBothNodes q made → MayGrow q key e made
-may_grow b p r q key e c made layout call unlinked on only stopped place other on' only' ready = record {
+may_grow b p r q key e c made layout call unlinked unswapped on only stopped place other on' only' ready = record {
   call = on'.keeps (CallIs Insert key) (on.keeps (CallIs Insert key) call);
   unlinked = ap (λ (s : Search). s.linked) only'.search ∙ (only.linked ∙ unlinked);
+  unswapped = ap (λ (s : Search). s.swapped) only'.search ∙ (only.swapped ∙ unswapped);
   parent = on'.keeps (KnowsSlot e.seek_record.parent) stopped.at.parent;
   known = on'.keeps (KnowsSlot e.seek_record.edge.slot) stopped.at.node;
   within = subst (λ (L : Layout). e.seek_record.edge.slot ≤ L.nodes) (sym layout) stopped.within;
@@ -116,6 +119,7 @@ tries_then o p q same a b = record {
   pin = b.pin ∙ a.pin;
   labelled = λ none'. b.labelled (a.labelled none');
   call = b.call ∙ a.call;
+  swapped = b.swapped ∙ a.swapped;
   flagged = b.flagged ∙ a.flagged;
   ledgers = ledgers_then o p q same a.ledgers b.ledgers;
 }

@@ -1,5 +1,5 @@
 -- The value of the key that an insert has found.
-use Rattle.std.proofs.Common.{◌≡◌, ◌<◌, ◌≤◌, ℕ, false, List, ap, subst, sym, ◌∙◌, arith}
+use Rattle.std.proofs.Common.{◌≡◌, ◌<◌, ◌≤◌, ℕ, false, List, [], ap, subst, sym, ◌∙◌, arith}
 use Rattle.std.specs.Prelude.{None, Option, Some}
 use Rattle.nm_edge.specs.Keys.{IsKey}
 use Rattle.nm_edge.specs.Layouts.{Layout, IsLayout}
@@ -41,8 +41,9 @@ leaf_within p fits seen k leaf is_key ended =
     let low = enough p.view.layout fits in
     let small : k < infinity_1 = omega (arith, is_key) in
     let walk = walk_in_run p fits k is_key seen leaf ended.0 ended.1 k ended.2 in (
-      leaf_is_high p.view.layout low seen.events seen.keys p.view.number k leaf ended.0 ended.1 small walk (omega (arith, is_key)),
-      leaf_is_inside p.view.layout low seen.events seen.keys p.view.number k leaf ended.0 ended.1 small walk,
+      leaf_is_high p.view.layout low [] seen.events seen.keys p.view.number k leaf ended.0 ended.1 small walk
+          (omega (arith, is_key)),
+      leaf_is_inside p.view.layout low [] seen.events seen.keys p.view.number k leaf ended.0 ended.1 small walk,
     )
 
 found_within : (p : PassView) → IsInRun p → HasSeen p.view → (k leaf : ℕ) → EndedWith p ThePin k leaf k → (6 ≤ leaf) × (leaf ≤ p.view.layout.nodes)

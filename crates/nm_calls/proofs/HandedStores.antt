@@ -1,16 +1,15 @@
 -- The value that a leaf has right before its cut is the one that was stored for the leaf.
-use Rattle.std.proofs.Common.{◌≡◌, ℕ, ◌+◌, ◌<◌, true, List, [], ◌∷◌, ◌++◌, append_assoc, length, sym, ap, subst, ◌∙◌, arith}
+use Rattle.std.proofs.Common.{◌≡◌, ◌⊎◌, inl, inr, ℕ, ◌+◌, ◌<◌, true, List, [], ◌∷◌, ◌++◌, append_assoc, length, sym, ap, subst, ◌∙◌, arith}
 use Rattle.std.specs.Prelude.{All, AllPairs, Contains, Ok}
 use Rattle.std.proofs.lemmas.List.{length-append}
 use Rattle.std.proofs.lemmas.List.Elements.{Contains-append_left}
 use Rattle.nm_edge.specs.Layouts.{IsLayout, Layout}
-use Rattle.nm_edge.specs.declared.edge.Side.{Side}
 use Rattle.nm_edge.specs.declared.node.NodeId.{NodeId}
 use Rattle.nm_model.specs.declared.event.Event.{Event}
-use Rattle.nm_model.specs.declared.event.Event.TheVariants.{Link}
-use Rattle.nm_model.specs.declared.reply.Reply.TheVariants.{Linked}
+use Rattle.nm_model.specs.declared.reply.Reply.{Reply}
 use Rattle.nm_model.specs.declared.trace.Turn.{Turn}
 use Rattle.nm_model.specs.Headline.{CutsItsNodes, Headline, cuts_of, nodes_cut_of, words_after}
+use Rattle.nm_model.specs.Headline.Place.{InHands, OnPath}
 use Rattle.nm_model.specs.Memory.{Memory, named}
 use Rattle.nm_model.specs.Ordered.{HasKey, after_in, ordered, outcome_in, trace_in}
 use Rattle.nm_model.specs.Paths.{Reached}
@@ -34,25 +33,25 @@ use Rattle.nm_walks.proofs.Looks.{enough}
 use Rattle.nm_calls.specs.HandedBack.{WasCutWith}
 use Rattle.nm_calls.specs.KeptValues.{NoneCuts}
 use Rattle.nm_calls.specs.Maps.{HoldsStores, WasInHands}
-use Rattle.nm_calls.specs.OnceBack.{HasLinked, IsStoreOf, ValuesComeBackAsStored}
+use Rattle.nm_calls.specs.OnceBack.{HasPutIn, IsStoreOf, LinksIn, SwapsIn, ValuesComeBackAsStored}
 use Rattle.nm_calls.proofs.KeptLeaves.{one_holds, unheld_until}
-use Rattle.nm_calls.proofs.LeavesInHands.{in_hands_then, leaf_high, leaf_low, leaf_named, leaf_reached}
+use Rattle.nm_calls.proofs.LeavesInHands.{in_hands_then, leaf_held, leaf_high, leaf_low, leaf_named, leaf_reached}
 use Rattle.nm_calls.proofs.MadeLeaves.{LastEvent, last_event}
 use Rattle.nm_calls.proofs.OneStore.{one_store}
-use Rattle.nm_calls.proofs.OnceBack.{TwoPlaces, one_entry, part_append, two_places}
+use Rattle.nm_calls.proofs.OnceBack.{IsAnswered, TwoPlaces, one_entry, part_append, put_answered, two_places}
 use Rattle.nm_calls.proofs.OnceBack.TwoPlaces.{AreOne, IsEarlier, IsLater}
 use Rattle.nm_calls.proofs.ReachedNodes.{NodeFate, cut_has_birth, cut_is_named, node_fate_then, now_cut}
 use Rattle.nm_calls.proofs.ReachedNodes.NodeFate.{StaysIn, WasCutOff}
 use Rattle.nm_calls.proofs.StoresInTurns.{were_held}
+use Rattle.nm_calls.proofs.Unheld.{not_place}
 
--- ---- from a link until a moment before which no turn cuts the leaf
+-- ---- from a link or a swap until a moment before which no turn cuts the leaf
 
-module _ (L : Layout) (fits : IsLayout L) (events : List (ℕ × Event)) (keys : All (λ t. HasKey t.1) events) (before mid rest : List Turn) (w p : ℕ) (side : Side) (old new : ℕ) (node : NodeId)
-    (are : trace_in (ordered L) events ≡ (before ++ answered_turn w (Link p side old new) (Linked node) ∷ []) ++ (mid ++ rest)) (s : ℕ) (reached : Reached (words_after L (before ++ answered_turn w (Link p side old new) (Linked node) ∷ [])) s) (uncut : NoneCuts mid s)
+module _ (L : Layout) (fits : IsLayout L) (events : List (ℕ × Event)) (keys : All (λ t. HasKey t.1) events)
+    (before mid rest : List Turn) (w : ℕ) (e : Event) (r : Reply) (its : Turn) (its_is : its ≡ answered_turn w e r)
+    (are : trace_in (ordered L) events ≡ (before ++ its ∷ []) ++ (mid ++ rest)) (s : ℕ)
+    (reached : Reached (words_after L (before ++ its ∷ [])) s) (uncut : NoneCuts mid s)
     (stores : List Stored) (held : WereHeld L events stores) (order : AllPairs ComesBefore stores) (at : IsStored stores w (length (part_of w before)) s) where
-  abbrev its : Turn
-  its = answered_turn w (Link p side old new) (Linked node)
-
   a : Parts (ordered L) events (before ++ its ∷ []) (mid ++ rest)
   a = parts_of (ordered L) events (before ++ its ∷ []) (mid ++ rest) are
 
@@ -63,10 +62,10 @@ module _ (L : Layout) (fits : IsLayout L) (events : List (ℕ × Event)) (keys :
   l = last_event before a.early (ordered L) its (sym a.first_is)
 
   abbrev event : ℕ × Event
-  event = (w, Link p side old new)
+  event = (w, e)
 
   last_is : l.last ≡ event
-  last_is = λ i. ((ap (λ (t : Turn). t.worker) l.is) i, (ap (λ (t : Turn). t.event) l.is) i)
+  last_is = λ i. ((ap (λ (t : Turn). t.worker) (l.is ∙ its_is)) i, (ap (λ (t : Turn). t.event) (l.is ∙ its_is)) i)
 
   abbrev linked : List (ℕ × Event)
   linked = l.first ++ event ∷ []
@@ -106,7 +105,7 @@ module _ (L : Layout) (fits : IsLayout L) (events : List (ℕ × Event)) (keys :
   grows =
       let here = ap (λ (ts : List Turn). length (part_of w ts)) l.firsts in
       let there = ap (λ (ts : List Turn). length (part_of w ts)) traced ∙ part_append w before (its ∷ []) in
-      let one = one_entry w (Link p side old new) (Linked node) [] in
+      let one = ap (λ (t : Turn). length (part_of w (t ∷ []))) its_is ∙ one_entry w e r [] in
       omega (arith, here, there, one)
 
   abbrev at_event : IsStored stores w (entries L w l.first) s
@@ -118,21 +117,22 @@ module _ (L : Layout) (fits : IsLayout L) (events : List (ℕ × Event)) (keys :
     for_slot = at.for_slot;
   }
 
-  won : outcome_in (after_in (ordered L) l.first) event ≡ Ok (Linked node)
-  won = ap (outcome_in (after_in (ordered L) l.first)) (sym last_is) ∙ ap (λ (t : Turn). t.outcome) l.is
+  won : outcome_in (after_in (ordered L) l.first) event ≡ Ok r
+  won = ap (outcome_in (after_in (ordered L) l.first)) (sym last_is) ∙ ap (λ (t : Turn). t.outcome) (l.is ∙ its_is)
 
   worker : w < L.workers
   worker =
       let c = after_in (ordered L) l.first in
       subst (λ (M : Layout). w < M.workers) (layout_is L (enough L fits) l.first (first_keys l.first (event ∷ []) (first_keys linked (b.early ++ b.late) all_keys)))
-      (allowed c.state w (Link p side old new) (allowed_by_state c w (Link p side old new) (was_allowed c event (Linked node) won))).worker
+      (allowed c.state w e (allowed_by_state c w e (was_allowed c event r won))).worker
 
   pub value_until_cut : value_before (length ((before ++ its ∷ []) ++ mid)) stores s ≡ at.stored.value
   value_until_cut =
       ap (λ (n : ℕ). value_before n stores s) (sym long)
       ∙ (let size = length-append l.first (event ∷ []) in
       let more = length-append linked b.early in
-      value_since_link L events stores held order l.first (b.early ++ b.late) w s (Link p side old new) whole worker grows (one_holds L (enough L fits) events keys s) at_event (length (linked ++ b.early)) (omega (arith, size, more))
+      value_since_link L events stores held order l.first (b.early ++ b.late) w s e whole worker grows
+      (one_holds L (enough L fits) events keys s) at_event (length (linked ++ b.early)) (omega (arith, size, more))
       (λ now later is least most u. free now later is (omega (arith, least, size)) (omega (arith, most)) u))
 
 -- ---- a leaf that was cut
@@ -145,11 +145,14 @@ module _ (L : Layout) (fits : IsLayout L) (events : List (ℕ × Event)) (keys :
   h : Headline L turns
   h = each_run_has_it L fits true events keys
 
-  abbrev lk : HasLinked L turns x.worker n
-  lk = is.link
+  abbrev lk : HasPutIn L turns x.worker n
+  lk = is.put_in
 
   abbrev turn : Turn
-  turn = answered_turn x.worker (Link lk.parent lk.side lk.old lk.new) (Linked lk.node)
+  turn = lk.put
+
+  answered : IsAnswered x.worker turn
+  answered = put_answered L turns x.worker n lk
 
   abbrev so_far : List Turn
   so_far = lk.before ++ turn ∷ []
@@ -174,7 +177,7 @@ module _ (L : Layout) (fits : IsLayout L) (events : List (ℕ × Event)) (keys :
       (subst (λ (ns : List NodeId). Contains ns n) (sym (ap (cuts_of w) parts ∙ cuts-append w first rest)) (Contains-append_left (cuts_of w first) (cuts_of w rest) n c)) was.reached in
       omega (arith, born, less)
 
-  -- nor between the link and the cut
+  -- nor between the turn that put it in and the cut
   uncut : (mid : List Turn) → was.before ≡ so_far ++ mid → NoneCuts mid n.slot
   uncut mid parts before since t at c = by (node_fate_then L turns h n.slot (leaf_low L turns h x n is hands) (leaf_high L turns h x n is hands) so_far before (t ∷ (since ++ was.cut ∷ was.since)) moment reached_then)
     where
@@ -197,7 +200,10 @@ module _ (L : Layout) (fits : IsLayout L) (events : List (ℕ × Event)) (keys :
   value_by mid parts =
       sym was.has_value
       ∙ (ap (λ (ts : List Turn). value_before (length ts) was.first n.slot) parts
-      ∙ (value_until_cut L fits events keys lk.before mid (was.cut ∷ was.since) x.worker lk.parent lk.side lk.old lk.new lk.node (was.are ∙ (ap (λ (ts : List Turn). ts ++ was.cut ∷ was.since) parts ∙ append_assoc so_far mid (was.cut ∷ was.since)))
+      ∙ (value_until_cut L fits events keys lk.before mid
+      (was.cut ∷ was.since) x.worker answered.event answered.reply turn answered.is
+      (was.are ∙ (ap (λ (ts : List Turn). ts ++ was.cut ∷ was.since) parts
+      ∙ append_assoc so_far mid (was.cut ∷ was.since)))
       n.slot reached_then (uncut mid parts) was.first (were_held L fits events was.stored.until was.stored.ends.more was.stored.ends.is was.first was.stored.held) was.stored.order first_at
       ∙ ap (λ (y : Stored). y.value) same))
     where
@@ -208,9 +214,19 @@ module _ (L : Layout) (fits : IsLayout L) (events : List (ℕ × Event)) (keys :
           ∙ (append_assoc so_far mid was.stored.from.more ∙ append_assoc lk.before (turn ∷ []) (mid ++ was.stored.from.more)))
 
       first_at : IsStored was.first x.worker (length (part_of x.worker lk.before)) n.slot
-      first_at =
-          subst (λ (s : ℕ). IsStored was.first x.worker (length (part_of x.worker lk.before)) s) (sym (ap (λ (m : NodeId). m.slot) lk.is))
-          (was.stored.linked lk.before (mid ++ was.stored.from.more) x.worker lk.parent lk.side lk.on lk.old lk.new lk.node until_is lk.beside)
+      first_at = by lk.way
+        where
+          by : LinksIn (words_after L lk.before) x.worker turn n ⊎ SwapsIn (words_after L lk.before) x.worker turn n
+              → IsStored was.first x.worker (length (part_of x.worker lk.before)) n.slot
+          by (inl l) =
+              subst (λ (s : ℕ). IsStored was.first x.worker (length (part_of x.worker lk.before)) s)
+              (sym (ap (λ (m : NodeId). m.slot) l.is))
+              (was.stored.linked lk.before (mid ++ was.stored.from.more) x.worker l.parent l.side l.on l.old l.new
+              l.node
+              (until_is ∙ ap (λ (t : Turn). lk.before ++ t ∷ (mid ++ was.stored.from.more)) l.is_link) l.beside)
+          by (inr k) =
+              was.stored.swapped lk.before (mid ++ was.stored.from.more) x.worker k.parent k.side k.old n.slot k.nodes
+              (until_is ∙ ap (λ (t : Turn). lk.before ++ t ∷ (mid ++ was.stored.from.more)) k.is_swap)
 
       same : first_at.stored ≡ x
       same = one_store stores all_held.order first_at.stored x
@@ -220,10 +236,14 @@ module _ (L : Layout) (fits : IsLayout L) (events : List (ℕ × Event)) (keys :
   value_as_stored = by (two_places lk.before lk.since was.before was.since turn was.cut (sym lk.are ∙ was.are))
     where
       by : TwoPlaces lk.before lk.since was.before was.since turn was.cut → v ≡ x.value
-      by (AreOne same it) = absurd (none_there (subst (λ (t : Turn). Contains (nodes_cut_of t.outcome) n) (sym it) was.cuts))
-        where
-          none_there : Contains [] n → ⊥
-          none_there c = let below = c.1 in omega (arith, below)
+      by (AreOne same it) = absurd (
+          let low = leaf_low L turns h x n is hands in
+          let most = leaf_high L turns h x n is hands in
+          let place = h.places lk.before (turn ∷ lk.since) lk.are n.slot low most in
+          let r : Reached (words_after L lk.before) n.slot = subst
+          (λ (ts : List Turn). Reached (words_after L ts) n.slot) (sym same) was.reached in
+          not_place x.worker r.path (place.only (InHands x.worker) (leaf_held L turns h x n is hands)
+          ∙ sym (place.only (OnPath r.path) r.ends)))
       by (IsLater mid rest parts) = value_by mid (parts ∙ sym (append_assoc lk.before (turn ∷ []) mid))
       by (IsEarlier mid rest parts) = absurd (
           let less = h.younger so_far lk.since (lk.are ∙ sym (append_assoc lk.before (turn ∷ []) lk.since)) was.cut.worker n

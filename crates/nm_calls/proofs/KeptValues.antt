@@ -34,10 +34,9 @@ use Rattle.nm_steps.proofs.LinkedValues.{entries, held_at, value_since_link}
 use Rattle.nm_steps.proofs.StoreOrders.{order_of_first}
 use Rattle.nm_steps.proofs.ValueStays.{value_before}
 use Rattle.std.proofs.lemmas.List.Elements.{Contains-append_left}
-use Rattle.nm_calls.specs.KeptValues.{LeavesKeepTheirValues, NoneCuts, PutValuesStay, TakenValuesAreCut}
+use Rattle.nm_calls.specs.KeptValues.{LeavesKeepTheirValues, NoneCuts, PutValuesStay}
 use Rattle.nm_calls.specs.Maps.{HoldsStores}
 use Rattle.nm_calls.proofs.MadeLeaves.{LastEvent, last_event}
-use Rattle.nm_calls.proofs.MapMoments.{holds_longer}
 use Rattle.nm_calls.proofs.StoresInTurns.{were_held}
 use Rattle.nm_calls.proofs.KeptLeaves.{one_holds, stays_reached, unheld_until}
 
@@ -276,7 +275,3 @@ put_values_stay L fits events keys was first seen stores w k v worker put on fro
 
     same : there.slot ≡ put.is.slot
     same = same_slot L fits events keys so_far mid rest are put.is.slot put.is.reached uncut put.is.leaf there.slot there.reached there.leaf (there.has_key ∙ sym put.is.has_key)
-
-pub taken_values_are_cut : TakenValuesAreCut
-taken_values_are_cut L fits events keys was now stores w k v t on mid rest cut is uncut cuts =
-    (leaves_keep_their_values L fits events keys t.so_far mid (cut ∷ rest) is t.first t.so_far (holds_longer L t.so_far now (trace_in (ordered L) events) t.first on t.stored) k v t.is (subst (NoneCuts mid) (sym t.slot) uncut)).now

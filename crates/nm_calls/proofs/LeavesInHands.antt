@@ -1,36 +1,38 @@
--- A leaf with a store is in its worker's hands until its link, and a path from the root reaches it right
--- after: by turns with the headline alone.
-use Rattle.std.proofs.Common.{◌≡◌, ◌⊎◌, inl, inr, ℕ, ◌+◌, ◌-◌, ◌<◌, ◌≤◌, ◌==◌, ◌&&◌, ◌||◌, not, Bool, true, false, cond, List, [], ◌∷◌, ◌++◌, append-nil, append_assoc, length, length-set, refl, sym, ap, subst, ◌∙◌, arith, true≢false}
-use Rattle.std.specs.Prelude.{Contains, Ok, Err, Result, filter, option_map, slice_get, slice_get}
+-- A leaf with a store is in its worker's hands until the link or the swap that puts it in, and a path from
+-- the root reaches it right after: by turns with the headline alone.
+use Rattle.std.proofs.Common.{◌≡◌, ◌⊎◌, inl, inr, ℕ, zero, suc, ◌+◌, ◌-◌, ◌<◌, ◌≤◌, ◌==◌, ◌&&◌, ◌||◌, not, Bool, true, false, cond, List, [], ◌∷◌, ◌++◌, append-nil, append_assoc, length, length-set, refl, sym, ap, subst, ◌∙◌, arith, true≢false}
+use Rattle.std.specs.Prelude.{Contains, None, Ok, Err, Option, Result, Some, filter, option_map, slice_get}
 use Rattle.std.proofs.lemmas.Bool.{cases_lt, eq-eqb, eqb-true}
 use Rattle.std.proofs.lemmas.List.{get_or_past, length-append, length-replicate}
-use Rattle.std.proofs.lemmas.List.Elements.{All-contains}
+use Rattle.std.proofs.lemmas.List.Elements.{All-contains, Contains-append_cases}
+use Rattle.std.proofs.lemmas.Option.{none-some, same_Some}
 use Rattle.nm_edge.specs.Layouts.{Layout}
 use Rattle.nm_edge.specs.declared.edge.Side.{Side}
 use Rattle.nm_edge.specs.declared.edge.Side.TheVariants.{Left, Right}
 use Rattle.nm_edge.specs.declared.node.NodeId.{NodeId}
 use Rattle.nm_model.specs.declared.event.Event.{Event}
-use Rattle.nm_model.specs.declared.event.Event.TheVariants.{Advance, Announce, Claim, Fill, Flag, Give, Leave, LeaveWith, Link, Splice, Tag}
+use Rattle.nm_model.specs.declared.event.Event.TheVariants.{Advance, Announce, Claim, Fill, Flag, Give, Leave, LeaveWith, Link, Splice, Swap, Tag}
 use Rattle.nm_model.specs.declared.event.Field.TheVariants.{Birth, Edge as EdgeOn, Key}
 use Rattle.nm_model.specs.declared.reply.Reply.{Reply}
 use Rattle.nm_model.specs.declared.reply.Reply.TheVariants.{Announced, Claimed, Cut, Departed, Filled, Flagged, Freed, Linked, Moved, Returned, Was}
 use Rattle.nm_model.specs.declared.reply.Refused.{Refused}
 use Rattle.nm_model.specs.declared.trace.Turn.{Turn}
-use Rattle.nm_model.specs.Headline.{Headline, OnePlace, Place, StandsAt, TellsWhatStands, after_turn, cuts_of, freed_by, has_after, is_among, lets_go, takes, waits_of, words_after, words_from, written}
+use Rattle.nm_model.specs.Headline.{Headline, OnePlace, Place, StandsAt, TellsWhatStands, after_turn, cuts_of, freed_by, has_after, is_among, lets_go, slots_of, takes, waits_of, words_after, words_from, written}
 use Rattle.nm_model.specs.Headline.Place.{InHands, InPool, OnPath, Waits}
 use Rattle.nm_model.specs.Memory.{Memory, child, in_pool, opening, named}
 use Rattle.nm_model.specs.Paths.{Reached}
 use Rattle.nm_model.specs.Walks.{logged_by}
 use Rattle.nm_order.specs.Logs.{is_leaver, part_of, takes_part}
+use Rattle.nm_order.proofs.CutTurns.{mapped_among}
 use Rattle.nm_order.proofs.RealTime.{begins_with}
 use Rattle.nm_theorem.proofs.FreedOfRuns.{cuts-append}
 use Rattle.nm_steps.specs.declared.view.Stored.{Stored}
 use Rattle.nm_steps.specs.Rules.{answered_turn}
 use Rattle.nm_calls.specs.Maps.{HoldsStores, WasInHands}
-use Rattle.nm_calls.specs.OnceBack.{HasLinked, IsStoreOf}
-use Rattle.nm_calls.proofs.OnceBack.{one_entry, part_append}
-use Rattle.nm_calls.proofs.ReachedNodes.{link_keeps_birth}
-use Rattle.nm_calls.proofs.Unheld.{freed_by-append, or_right}
+use Rattle.nm_calls.specs.OnceBack.{HasPutIn, IsStoreOf, LinksIn, SwapsIn}
+use Rattle.nm_calls.proofs.OnceBack.{IsAnswered, one_entry, part_append, put_answered, put_named}
+use Rattle.nm_calls.proofs.ReachedNodes.{link_keeps_birth, swap_keeps_birth}
+use Rattle.nm_calls.proofs.Unheld.{freed_by-append, in_filter, or_right}
 
 -- ---- hands
 
@@ -91,6 +93,7 @@ pool_long m w (Link p side leaf new) (Ok (Linked n)) = refl
 pool_long m w (Flag p side leaf) (Ok (Flagged n)) = refl
 pool_long m w (Tag p side) (Ok (Was e)) = refl
 pool_long m w (Splice a side s p keep) (Ok (Cut ns)) = refl
+pool_long m w (Swap p side leaf new) (Ok (Cut ns)) = refl
 pool_long m w e o = refl
 
 in_pool_inside : (m : Memory) (x : ℕ) → in_pool m x ≡ true → x < length m.pool
@@ -228,6 +231,137 @@ module _ (L : Layout) (turns : List Turn) (h : Headline L turns) (before late : 
           waits : Waits u i ≡ InHands w → ⊥
           waits e = cc
 
+-- ---- right after a swap
+
+-- a node of those that pass is among all, and passes
+pub from_filter : (p : NodeId → Bool) (ns : List NodeId) (i : ℕ) (n : NodeId) → slice_get (filter p ns) i ≡ Some n
+    → Contains ns n × (p n ≡ true)
+from_filter p [] zero n is = absurd (none-some n is)
+from_filter p [] (suc i) n is = absurd (none-some n is)
+from_filter p (m ∷ ms) i n is = by (p m) refl i is (λ j. from_filter p ms j n)
+  where
+    more : Contains ms n × (p n ≡ true) → Contains (m ∷ ms) n × (p n ≡ true)
+    more r = let below = r.0.1 in ((suc r.0.0, omega (arith, below), r.0.2), r.1)
+
+    by : (b : Bool) → p m ≡ b → (j : ℕ) → slice_get (cond b (m ∷ filter p ms) (filter p ms)) j ≡ Some n
+        → ((k : ℕ) → slice_get (filter p ms) k ≡ Some n → Contains ms n × (p n ≡ true)) → Contains (m ∷ ms) n
+        × (p n ≡ true)
+    by true passes zero at rest = ((0, omega arith, same_Some m n at), ap p (sym (same_Some m n at)) ∙ passes)
+    by true passes (suc j) at rest = more (rest j at)
+    by false other j at rest = more (rest j at)
+
+module _ (L : Layout) (turns : List Turn) (h : Headline L turns) (before late : List Turn) (w p : ℕ) (side : Side)
+    (old new : ℕ) (ns : List NodeId) (are : turns ≡ before ++ answered_turn w (Swap p side old new) (Cut ns) ∷ late)
+    (held : has_after (opening L) w new false before ≡ true) where
+  abbrev swap : Turn
+  swap = answered_turn w (Swap p side old new) (Cut ns)
+
+  new_low : 6 ≤ new
+  new_low = held_low L turns h before (swap ∷ late) are w new held
+
+  new_most : new ≤ L.nodes
+  new_most = held_high L turns h before (swap ∷ late) are w new held
+
+  new_apart : (there : Place) → StandsAt L before new there → there ≡ InHands w
+  new_apart there stands =
+      let was = h.places before (swap ∷ late) are new new_low new_most in
+      was.only there stands ∙ sym (was.only (InHands w) held)
+
+  swap_words : words_after L (before ++ swap ∷ []) ≡ after_turn (words_after L before) swap
+  swap_words = push (opening L) before
+    where
+      push : (k : Memory) (ts : List Turn) → words_from k (ts ++ swap ∷ []) ≡ after_turn (words_from k ts) swap
+      push k [] = refl
+      push k (u ∷ ts) = push (after_turn k u) ts
+
+  -- nobody has it in hands then
+  new_unheld : (u : ℕ) → has_after (opening L) u new false (before ++ swap ∷ []) ≡ false
+  new_unheld u = has_append (opening L) u new false before (swap ∷ [])
+      ∙ by (w == u) refl (has_after (opening L) u new false before) refl
+    where
+      lets : (had : Bool) → (had && not (new == new)) ≡ false
+      lets true = ap not (eq-eqb new new refl)
+      lets false = refl
+
+      none' : (b : Bool) → (w == u) ≡ false → has_after (opening L) u new false before ≡ b → b ≡ false
+      none' false other is = refl
+      none' true other is = absurd (same (new_apart (InHands u) is))
+        where
+          same : InHands u ≡ InHands w → ⊥
+          same e = let one : u ≡ w = cc in true≢false (sym (eq-eqb w u (sym one)) ∙ other)
+
+      by : (b : Bool) → (w == u) ≡ b → (had : Bool) → has_after (opening L) u new false before ≡ had
+          → cond (w == u) (false || (has_after (opening L) u new false before && not (new == new)))
+          (has_after (opening L) u new false before) ≡ false
+      by true own had is = ap (λ (c : Bool). cond c
+          (false || (has_after (opening L) u new false before && not (new == new)))
+          (has_after (opening L) u new false before)) own ∙ lets (has_after (opening L) u new false before)
+      by false other had is = ap (λ (c : Bool). cond c
+          (false || (has_after (opening L) u new false before && not (new == new)))
+          (has_after (opening L) u new false before)) other ∙ (is ∙ none' had other is)
+
+  -- it is none of the nodes that were cut, nor one that waited
+  not_waiting_then : (u i : ℕ) → StandsAt L (before ++ swap ∷ []) new (Waits u i) → ⊥
+  not_waiting_then u i here = by (slice_get (waits_of u (before ++ swap ∷ [])) i) refl here
+    where
+      freed : freed_by (before ++ swap ∷ []) ≡ freed_by before
+      freed = freed_by-append before (swap ∷ []) ∙ append-nil (freed_by before)
+
+      cut_or_was : (n : NodeId) → n.slot ≡ new → Contains (cuts_of u before) n
+          ⊎ Contains (cond (w == u) ns [] ++ []) n → not (is_among (freed_by before) n) ≡ true → ⊥
+      cut_or_was n slot (inl was) passes =
+          let there = in_filter (λ (m : NodeId). not (is_among (freed_by before) m)) (cuts_of u before) n was passes in
+          waits there.0 (new_apart (Waits u there.0)
+          (ap (option_map (λ (m : NodeId). m.slot)) there.1 ∙ ap (λ (x : ℕ). Some x) slot))
+        where
+          waits : (k : ℕ) → Waits u k ≡ InHands w → ⊥
+          waits k e = cc
+      cut_or_was n slot (inr now) passes = go (w == u) now
+        where
+          on_path : (path : List Side) → OnPath path ≡ InHands w → ⊥
+          on_path path e = cc
+
+          cut_now : Contains ns n → ⊥
+          cut_now c =
+              let r = (((h.cuts before late swap are).just new).1
+              (subst (Contains (slots_of ns)) slot (mapped_among (λ (m : NodeId). m.slot) ns n c))).was in
+              on_path r.path (new_apart (OnPath r.path) r.ends)
+
+          go : (b : Bool) → Contains (cond b ns [] ++ []) n → ⊥
+          go true c = cut_now (subst (λ (l : List NodeId). Contains l n) (append-nil ns) c)
+          go false c = let below = c.1 in omega (arith, below)
+
+      by : (o : Option NodeId) → slice_get (waits_of u (before ++ swap ∷ [])) i ≡ o
+          → option_map (λ (n : NodeId). n.slot) o ≡ Some new → ⊥
+      by None is at = absurd (none-some new at)
+      by (Some n) is at =
+          let f = from_filter (λ (m : NodeId). not (is_among (freed_by (before ++ swap ∷ [])) m))
+          (cuts_of u (before ++ swap ∷ [])) i n is in
+          cut_or_was n (same_Some n.slot new at)
+          (Contains-append_cases (cuts_of u before) (cond (w == u) ns [] ++ []) n
+          (subst (λ (l : List NodeId). Contains l n) (cuts-append u before (swap ∷ [])) f.0))
+          (ap (λ (fs : List NodeId). not (is_among fs n)) (sym freed) ∙ f.1)
+
+  pub reached_after_swap : Reached (words_after L (before ++ swap ∷ [])) new
+  reached_after_swap = by one.place one.here
+    where
+      one : OnePlace L (before ++ swap ∷ []) new
+      one = h.places (before ++ swap ∷ []) late (are ∙ sym (append_assoc before (swap ∷ []) late)) new new_low new_most
+
+      by : (p : Place) → StandsAt L (before ++ swap ∷ []) new p → Reached (words_after L (before ++ swap ∷ [])) new
+      by (OnPath path) here = record {
+        path = path;
+        ends = here;
+        is_slot = λ zero'.
+            (let least = new_low in omega (arith, least, zero'));
+      }
+      by InPool here = absurd (pooled (new_apart InPool (ap (λ (k : Memory). in_pool k new) (sym swap_words) ∙ here)))
+        where
+          pooled : InPool ≡ InHands w → ⊥
+          pooled e = cc
+      by (InHands u) here = absurd (true≢false (sym here ∙ new_unheld u))
+      by (Waits u i) here = absurd (not_waiting_then u i here)
+
 -- ---- a leaf with a store
 
 pub in_hands_then : (L : Layout) (was turns : List Turn) (stores : List Stored) → HoldsStores L was turns stores → (x : Stored) → Contains stores x → WasInHands L turns x
@@ -243,52 +377,83 @@ in_hands_then L _ turns stores s x there = longer (All-contains (WasInHands L s.
       held = g.held;
     }
 
--- from the store to the link its worker has taken no step
+-- from the store to the turn that put the leaf in, its worker has taken no step
 module _ (L : Layout) (turns : List Turn) (h : Headline L turns) (x : Stored) (leaf : NodeId) (is : IsStoreOf L turns x leaf) (hands : WasInHands L turns x) where
-  abbrev link : HasLinked L turns x.worker leaf
-  link = is.link
+  abbrev put_in : HasPutIn L turns x.worker leaf
+  put_in = is.put_in
 
   abbrev its : Turn
-  its = answered_turn x.worker (Link link.parent link.side link.old link.new) (Linked link.node)
+  its = put_in.put
 
-  slot_is : child (words_after L link.before) link.new link.on ≡ x.slot
-  slot_is = sym (is.slot ∙ ap (λ (n : NodeId). n.slot) link.is)
+  answered : IsAnswered x.worker its
+  answered = put_answered L turns x.worker leaf put_in
 
-  pub held_at_link : has_after (opening L) x.worker x.slot false link.before ≡ true
-  held_at_link = by (cases_lt (length link.before) (length hands.before))
+  pub held_at_put : has_after (opening L) x.worker x.slot false put_in.before ≡ true
+  held_at_put = by (cases_lt (length put_in.before) (length hands.before))
     where
-      same : length (part_of x.worker hands.before) ≡ length (part_of x.worker link.before)
+      same : length (part_of x.worker hands.before) ≡ length (part_of x.worker put_in.before)
       same = hands.own ∙ is.own
 
-      by : (length link.before < length hands.before) ⊎ (length hands.before ≤ length link.before) → has_after (opening L) x.worker x.slot false link.before ≡ true
+      by : (length put_in.before < length hands.before) ⊎ (length hands.before ≤ length put_in.before)
+          → has_after (opening L) x.worker x.slot false put_in.before ≡ true
       by (inr early) =
-          let mid = begins_with hands.before hands.since link.before (its ∷ link.since) (sym hands.are ∙ link.are) early in
+          let mid = begins_with hands.before hands.since put_in.before (its ∷ put_in.since)
+          (sym hands.are ∙ put_in.are) early in
           subst (λ (ts : List Turn). has_after (opening L) x.worker x.slot false ts ≡ true) (sym mid.1)
           (still_in_hands L x.worker x.slot hands.before mid.0 (ap (λ (ts : List Turn). length (part_of x.worker ts)) (sym mid.1) ∙ sym same) hands.held)
       by (inl late) =
-          let long = length-append link.before (its ∷ []) in
-          let mid = begins_with (link.before ++ its ∷ []) link.since hands.before hands.since (append_assoc link.before (its ∷ []) link.since ∙ (sym link.are ∙ hands.are)) (omega (arith, late, long)) in
-          let sum = ap (λ (ts : List Turn). length (part_of x.worker ts)) mid.1 ∙ (part_append x.worker (link.before ++ its ∷ []) mid.0) in
-          let first = part_append x.worker link.before (its ∷ []) in
-          let one = one_entry x.worker (Link link.parent link.side link.old link.new) (Linked link.node) [] in
+          let long = length-append put_in.before (its ∷ []) in
+          let mid = begins_with (put_in.before ++ its ∷ []) put_in.since hands.before hands.since
+          (append_assoc put_in.before (its ∷ []) put_in.since ∙ (sym put_in.are ∙ hands.are))
+          (omega (arith, late, long)) in
+          let sum = ap (λ (ts : List Turn). length (part_of x.worker ts)) mid.1
+          ∙ (part_append x.worker (put_in.before ++ its ∷ []) mid.0) in
+          let first = part_append x.worker put_in.before (its ∷ []) in
+          let one = ap (λ (t : Turn). length (part_of x.worker (t ∷ []))) answered.is
+          ∙ one_entry x.worker answered.event answered.reply [] in
           absurd (omega (arith, sum, first, one, same))
 
-  abbrev held_child : has_after (opening L) x.worker (child (words_after L link.before) link.new link.on) false link.before ≡ true
-  held_child = subst (λ (s : ℕ). has_after (opening L) x.worker s false link.before ≡ true) (sym slot_is) held_at_link
+  pub leaf_held : has_after (opening L) x.worker leaf.slot false put_in.before ≡ true
+  leaf_held = subst (λ (s : ℕ). has_after (opening L) x.worker s false put_in.before ≡ true) is.slot held_at_put
 
   pub leaf_low : 6 ≤ leaf.slot
-  leaf_low = subst (λ (s : ℕ). 6 ≤ s) is.slot (held_low L turns h link.before (its ∷ link.since) link.are x.worker x.slot held_at_link)
+  leaf_low = held_low L turns h put_in.before (its ∷ put_in.since) put_in.are x.worker leaf.slot leaf_held
 
   pub leaf_high : leaf.slot ≤ L.nodes
-  leaf_high = subst (λ (s : ℕ). s ≤ L.nodes) is.slot (held_high L turns h link.before (its ∷ link.since) link.are x.worker x.slot held_at_link)
+  leaf_high = held_high L turns h put_in.before (its ∷ put_in.since) put_in.are x.worker leaf.slot leaf_held
 
-  pub leaf_reached : Reached (words_after L (link.before ++ its ∷ [])) leaf.slot
-  leaf_reached =
-      subst (λ (s : ℕ). Reached (words_after L (link.before ++ its ∷ [])) s) (slot_is ∙ is.slot)
-      (reached_after_link L turns h link.before link.since x.worker link.parent link.side link.on link.old link.new link.node link.are held_child)
+  pub leaf_reached : Reached (words_after L (put_in.before ++ its ∷ [])) leaf.slot
+  leaf_reached = by put_in.way
+    where
+      by : LinksIn (words_after L put_in.before) x.worker its leaf
+          ⊎ SwapsIn (words_after L put_in.before) x.worker its leaf
+          → Reached (words_after L (put_in.before ++ its ∷ [])) leaf.slot
+      by (inl l) =
+          let slot : leaf.slot ≡ child (words_after L put_in.before) l.new l.on = ap (λ (n : NodeId). n.slot) l.is in
+          subst (λ (t : Turn). Reached (words_after L (put_in.before ++ t ∷ [])) leaf.slot) (sym l.is_link)
+          (subst (λ (s : ℕ). Reached (words_after L
+          (put_in.before ++ answered_turn x.worker (Link l.parent l.side l.old l.new) (Linked l.node) ∷ [])) s)
+          (sym slot)
+          (reached_after_link L turns h put_in.before put_in.since x.worker l.parent l.side l.on l.old l.new l.node
+          (put_in.are ∙ ap (λ (t : Turn). put_in.before ++ t ∷ put_in.since) l.is_link)
+          (subst (λ (s : ℕ). has_after (opening L) x.worker s false put_in.before ≡ true) slot leaf_held)))
+      by (inr s) =
+          subst (λ (t : Turn). Reached (words_after L (put_in.before ++ t ∷ [])) leaf.slot) (sym s.is_swap)
+          (reached_after_swap L turns h put_in.before put_in.since x.worker s.parent s.side s.old leaf.slot s.nodes
+          (put_in.are ∙ ap (λ (t : Turn). put_in.before ++ t ∷ put_in.since) s.is_swap) leaf_held)
 
--- right after its link its slot has its birth
-pub leaf_named : (L : Layout) (turns : List Turn) (x : Stored) (leaf : NodeId) (is : IsStoreOf L turns x leaf) → named (words_after L (is.link.before ++ answered_turn x.worker (Link is.link.parent is.link.side is.link.old is.link.new) (Linked is.link.node) ∷ [])) leaf.slot ≡ leaf
-leaf_named L turns x leaf is =
-    link_keeps_birth L is.link.before x.worker is.link.parent is.link.side is.link.old is.link.new is.link.node leaf.slot
-    ∙ (ap (named (words_after L is.link.before)) (ap (λ (n : NodeId). n.slot) is.link.is) ∙ sym is.link.is)
+-- right after it its slot has its birth
+pub leaf_named : (L : Layout) (turns : List Turn) (x : Stored) (leaf : NodeId) (is : IsStoreOf L turns x leaf)
+    → named (words_after L (is.put_in.before ++ is.put_in.put ∷ [])) leaf.slot ≡ leaf
+leaf_named L turns x leaf is = by is.put_in.way ∙ sym (put_named L turns x.worker leaf is.put_in)
+  where
+    by : LinksIn (words_after L is.put_in.before) x.worker is.put_in.put leaf
+        ⊎ SwapsIn (words_after L is.put_in.before) x.worker is.put_in.put leaf
+        → named (words_after L (is.put_in.before ++ is.put_in.put ∷ [])) leaf.slot ≡ named
+        (words_after L is.put_in.before) leaf.slot
+    by (inl l) =
+        ap (λ (t : Turn). named (words_after L (is.put_in.before ++ t ∷ [])) leaf.slot) l.is_link
+        ∙ link_keeps_birth L is.put_in.before x.worker l.parent l.side l.old l.new l.node leaf.slot
+    by (inr s) =
+        ap (λ (t : Turn). named (words_after L (is.put_in.before ++ t ∷ [])) leaf.slot) s.is_swap
+        ∙ swap_keeps_birth L is.put_in.before x.worker s.parent s.side s.old leaf.slot s.nodes leaf.slot

@@ -1,7 +1,7 @@
 -- A look-up of a value: its walk, and the moment at which the map had the value that was read.
-use Rattle.std.proofs.Common.{◌≡◌, ◌≢◌, ℕ, ◌<◌, ◌≤◌, ◌==◌, Bool, true, false, List, [], ◌∷◌, ◌++◌, append_assoc, length, refl, sym, ap, subst, ◌∙◌, arith}
+use Rattle.std.proofs.Common.{◌≡◌, ◌≢◌, ℕ, ◌<◌, ◌≤◌, ◌==◌, Bool, true, false, List, [], ◌∷◌, ◌++◌, append_assoc, drop, length, refl, sym, ap, subst, ◌∙◌, arith}
 use Rattle.std.specs.Prelude.{All, IsSome, None, Some, Option, Result, Ok, Err, IfOk, IfErr, IfSome}
-use Rattle.std.proofs.lemmas.List.{append_cancel_left, length-map}
+use Rattle.std.proofs.lemmas.List.{append_cancel_left, drop-append-le, drop_all, length-map}
 use Rattle.std.proofs.lemmas.Result.{IfErr-weaker}
 use Rattle.nm_edge.specs.Keys.{IsKey}
 use Rattle.nm_edge.specs.Layouts.{Layout, IsLayout}
@@ -17,14 +17,16 @@ use Rattle.nm_model.specs.Headline.{HasLeft, IsPinned, has_after, words_after}
 use Rattle.nm_model.specs.Memory.{Memory, infinity_1, is_leaf, node, opening}
 use Rattle.nm_model.specs.Ordered.{ordered, after_in, trace_in, turn_of, HasKey}
 use Rattle.nm_model.specs.Paths.{Reached}
-use Rattle.nm_model.specs.Walks.{Entry, WalkEnds, since_pin}
+use Rattle.nm_model.specs.Walks.{Entry, WalkEnds, log_of, since_pin}
 use Rattle.nm_order.specs.Logs.{part_of, known_by}
-use Rattle.nm_order.specs.StalePaths.{HasPin, WasReachedSince, log_under_pin}
-use Rattle.nm_order.specs.WalkAnswers.{WasSoUnderPin}
+use Rattle.nm_order.specs.Moments.{PinStands}
+use Rattle.nm_order.specs.StalePaths.{HasPin, WasReachedLater, log_since, log_under_pin}
+use Rattle.nm_order.specs.WalkAnswers.{WasSoLater}
+use Rattle.nm_order.proofs.AnswersSince.{part-append}
 use Rattle.nm_order.proofs.PartWalks.{ends_in_log}
 use Rattle.nm_order.proofs.PinNumbers.{length_trace}
 use Rattle.nm_order.proofs.RealTime.{begins_with}
-use Rattle.nm_order.proofs.WalkTells.{any_walk_tells}
+use Rattle.nm_order.proofs.WalkTells.{walk_tells}
 use Rattle.nm_order.proofs.WalksOfRuns.{trace_in-append}
 use Rattle.nm_theorem.proofs.GraceOfRuns.{pin_is}
 use Rattle.nm_theorem.proofs.Hands.{run_hands}
@@ -55,9 +57,14 @@ use Rattle.nm_calls.specs.Maps.{AfterGet, HasLookedUp, HasReadValue, HoldsStores
 use Rattle.nm_calls.specs.PlainWalks.{HasPassed, LooksUnderPin, WasSo, events_of, most_looks}
 use Rattle.nm_calls.proofs.Adding.{cuts_none, has_won, plain_moved_adds}
 use Rattle.nm_calls.proofs.NamedLeaves.{leaf_has_key, leaf_is_one, leaf_was, moment_is_later, pin_not_left}
-use Rattle.nm_calls.proofs.PlainLooks.{as_events, call_adds, events_go_on, events_of_trace, pin_missed, walks_missed, was_so}
+use Rattle.nm_calls.proofs.PlainLooks.{as_events, call_adds, ended_in_all, events_go_on, events_of_trace, pin_missed, walks_missed, was_so}
 use Rattle.nm_calls.proofs.StoresInTurns.{stores_in_turns}
 use Rattle.nm_calls.proofs.Unheld.{unheld}
+
+-- what follows a first list
+drop-past : {A : Type 0} (xs ys : List A) → drop (length xs) (xs ++ ys) ≡ ys
+drop-past {A = A} xs ys = drop-append-le (length xs) xs ys (omega arith)
+    ∙ ap (λ (l : List A). l ++ ys) (drop_all (length xs) xs (omega arith))
 
 -- a walk ends at the leaf that it has read
 pub ends_at : (p q : PassView) (n k x : ℕ) (on : Onward) → Reads k x p.view.log q.view.log on → (c : HasPassed n p.view.log k x) → on.next.slot ≡ 0 → WalkEnds k (since_pin [] q.view.log) x c.0 c.1 on.found
@@ -73,6 +80,7 @@ holds_longer L was now later stores more s = record {
   ends = goes_on_through later now s.until more s.ends;
   held = s.held;
   linked = s.linked;
+  swapped = s.swapped;
   order = s.order;
 }
 
@@ -106,6 +114,23 @@ module _ (L : Layout) (fits : IsLayout L) (turns : List (ℕ × Event)) (keys : 
 
 -- ---- the moment of a value that was read, under the pin that the worker still has
 
+-- after the first turns of a run, at a moment since which the worker is pinned, the map had the key
+-- with the value at this slot
+pub record ReadAt (m : PassView) (past events : List (ℕ × Event)) (k v x : ℕ) : Type 0 where
+  pub before : List (ℕ × Event)
+  pub since : List (ℕ × Event)
+  pub is_run : events ≡ before ++ since
+  pub later : length past < length before
+  pub has_pin : HasPin (after_in (ordered m.view.layout) before) m.view.number
+  pub stands : PinStands m.view.number (trace_in (after_in (ordered m.view.layout) before) since)
+  pub are : m.view.past ≡ trace_in (ordered m.view.layout) before ++ trace_in
+      (after_in (ordered m.view.layout) before) since
+  pub pinned : IsPinned m.view.number (trace_in (ordered m.view.layout) before)
+  pub stays : HasLeft m.view.number (trace_in (after_in (ordered m.view.layout) before) since) → ⊥
+  pub in_map : IsInMap m.view.layout (trace_in (ordered m.view.layout) before) m.view.stores k v
+  pub slot_is : in_map.slot ≡ x
+  pub stored : HoldsStores m.view.layout (trace_in (ordered m.view.layout) before) m.view.past m.view.stores
+
 module _ (m : PassView) (fits : IsLayout m.view.layout) (k : ℕ) (is_key : IsKey k) where
   abbrev L : Layout
   L = m.view.layout
@@ -116,12 +141,6 @@ module _ (m : PassView) (fits : IsLayout m.view.layout) (k : ℕ) (is_key : IsKe
   abbrev small : k < infinity_1
   small = let le = is_key in omega (arith, le)
 
-  -- a walk, in the run that the pass has seen
-  module _ (seen : HasSeen m.view) (slot parent : ℕ) (side : Side) (v : ℕ) (ends : WalkEnds k (since_pin [] m.view.log) slot parent side v) where
-    pub walk_in_run : WalkEnds k (log_under_pin L seen.events w) slot parent side v
-    walk_in_run = ends_in_log w (trace_in (ordered L) seen.events) k slot parent side v
-        (subst (λ (l : List Entry). WalkEnds k (since_pin [] l) slot parent side v) (sym (ap (part_of w) (sym seen.are) ∙ seen.is_part)) ends)
-
   -- a moment of the run that the pass has seen
   module _ (seen : HasSeen m.view) (before since : List (ℕ × Event)) (is_run : seen.events ≡ before ++ since) where
     pub parts_are : m.view.past ≡ trace_in (ordered L) before ++ trace_in (after_in (ordered L) before) since
@@ -130,80 +149,178 @@ module _ (m : PassView) (fits : IsLayout m.view.layout) (k : ℕ) (is_key : IsKe
     pub pinned_at : HasPin (after_in (ordered L) before) w → IsPinned w (trace_in (ordered L) before)
     pinned_at pinned = pinned_by_turns w (trace_in (ordered L) before) (subst (λ (p : Option ℕ). IsSome p) (sym pinned.1 ∙ pin_is L fits true before w) refl)
 
+  -- a walk, in the run that the pass has seen: what it looked at after the turns that an earlier pass
+  -- had seen
+  module _ (seen : HasSeen m.view) (past more : List (ℕ × Event)) (grown : seen.events ≡ past ++ more) (n : ℕ)
+      (first : length (part_of w (trace_in (ordered L) past)) ≡ n) (slot parent : ℕ) (side : Side) (v : ℕ) where
+    pub walk_since : WalkEnds k (since_pin [] (drop n m.view.log)) slot parent side v
+        → WalkEnds k (log_since L past (past ++ more) w) slot parent side v
+    walk_since ends =
+        subst (λ (l : List Turn). WalkEnds k (since_pin [] (log_of w l)) slot parent side v) (sym rest_is)
+        (ends_in_log w (trace_in (after_in (ordered L) past) more) k slot parent side v
+        (subst (λ (l : List Entry). WalkEnds k (since_pin [] l) slot parent side v) log_is ends))
+      where
+        first_turns : List Turn
+        first_turns = trace_in (ordered L) past
+
+        last_turns : List Turn
+        last_turns = trace_in (after_in (ordered L) past) more
+
+        rest_is : drop (length past) (trace_in (ordered L) (past ++ more)) ≡ last_turns
+        rest_is = ap (drop (length past)) (trace_in-append (ordered L) past more)
+            ∙ (ap (λ (j : ℕ). drop j (first_turns ++ last_turns)) (sym (length_trace (ordered L) past))
+            ∙ drop-past first_turns last_turns)
+
+        log_is : drop n m.view.log ≡ part_of w last_turns
+        log_is = ap (drop n) (sym seen.is_part
+            ∙ ap (part_of w) (seen.are ∙ (ap (trace_in (ordered L)) grown ∙ trace_in-append (ordered L) past more)))
+            ∙ (ap (drop n) (part-append w first_turns last_turns)
+            ∙ (ap (λ (j : ℕ). drop j (part_of w first_turns ++ part_of w last_turns)) (sym first)
+            ∙ drop-past (part_of w first_turns) (part_of w last_turns)))
+
   -- the leaf with the value
-  module _ (v : ℕ) (r : HasReadValue m k v) where
-    abbrev turns : List (ℕ × Event)
-    turns = r.seen.run.events
+  module _ (v : ℕ) (r : HasReadValue m k v) (past more : List (ℕ × Event)) (grown : r.seen.run.events ≡ past ++ more)
+      (walk : WalkEnds k (log_since L past (past ++ more) w) r.slot r.parent r.side k) where
+    keys : All (λ t. HasKey t.1) (past ++ more)
+    keys = subst (λ (ts : List (ℕ × Event)). All (λ t. HasKey t.1) ts) grown r.seen.run.keys
 
-    abbrev walk : WalkEnds k (log_under_pin L turns w) r.slot r.parent r.side k
-    walk = walk_in_run r.seen.run r.slot r.parent r.side k r.walk
+    was : WasReachedLater L past (past ++ more) w k r.slot
+    was = leaf_was L (enough L fits) past more keys w k r.slot r.parent r.side small walk
 
-    abbrev pub was : WasReachedSince (ordered L) turns w k r.slot
-    was = leaf_was L (enough L fits) turns r.seen.run.keys w k r.slot r.parent r.side small walk
-
-    abbrev pub so_far : List Turn
-    so_far = trace_in (ordered L) was.before
-
-    abbrev pub remaining : List Turn
-    remaining = trace_in (after_in (ordered L) was.before) was.since
-
-    pub are : m.view.past ≡ so_far ++ remaining
-    are = parts_are r.seen.run was.before was.since was.is_run
-
-    pub pinned_then : IsPinned w so_far
-    pinned_then = pinned_at r.seen.run was.before was.since was.is_run was.pinned
-
-    pub not_left : HasLeft w remaining → ⊥
-    not_left = pin_not_left w remaining was.stands
-
-    words : words_after L so_far ≡ (after_in (ordered L) was.before).state.memory
-    words = run_words L fits true was.before
-
-    reached_then : Reached (words_after L so_far) r.slot
-    reached_then = subst (λ (x : Memory). Reached x r.slot) (sym words) was.reached
-
-    pub in_map : IsInMap L so_far m.view.stores k v
-    in_map = record {
-      slot = r.slot;
-      reached = reached_then;
-      leaf = ap (λ (x : Memory). is_leaf (node x r.slot)) words ∙ leaf_is_one L (enough L fits) turns r.seen.run.keys w k r.slot r.parent r.side small walk;
-      has_key = ap (λ (x : Memory). (node x r.slot).key) words ∙ leaf_has_key L (enough L fits) turns r.seen.run.keys w k r.slot r.parent r.side small walk;
-      has_value = value_stays L turns m.view.stores (length so_far) r.slot r.seen.held
-          (nobody_holds L fits turns r.seen.run.keys w r.slot r.high r.within was.before was.since was.is_run pinned_then not_left reached_then)
-          ∙ sym r.value;
+    pub read_at : ReadAt m past r.seen.run.events k v r.slot
+    unfolding was
+    read_at = record {
+      before = was.0.before;
+      since = was.0.since;
+      is_run = is_run;
+      later = was.1;
+      has_pin = was.0.pinned;
+      stands = was.0.stands;
+      are = are;
+      pinned = pinned;
+      stays = stays;
+      in_map = record {
+        slot = r.slot;
+        reached = reached;
+        leaf = ap (λ (x : Memory). is_leaf (node x r.slot)) words
+            ∙ leaf_is_one L (enough L fits) past more keys w k r.slot r.parent r.side small walk;
+        has_key = ap (λ (x : Memory). (node x r.slot).key) words
+            ∙ leaf_has_key L (enough L fits) past more keys w k r.slot r.parent r.side small walk;
+        has_value = value_stays L r.seen.run.events m.view.stores (length so_far) r.slot r.seen.held
+            (nobody_holds L fits r.seen.run.events r.seen.run.keys w r.slot r.high r.within was.0.before was.0.since
+            is_run pinned stays reached)
+            ∙ sym r.value;
+      };
+      slot_is = refl;
+      stored = stores_in_turns m.view fits r.seen so_far (record { more = remaining; is = are });
     }
+      where
+        so_far : List Turn
+        so_far = trace_in (ordered L) was.0.before
 
-    pub in_map_slot : in_map.slot ≡ r.slot
-    unfolding in_map
-    in_map_slot = refl
+        remaining : List Turn
+        remaining = trace_in (after_in (ordered L) was.0.before) was.0.since
 
-    pub stores_then : HoldsStores L so_far m.view.past m.view.stores
-    stores_then = stores_in_turns m.view fits r.seen so_far (record { more = remaining; is = are })
+        is_run : r.seen.run.events ≡ was.0.before ++ was.0.since
+        is_run = grown ∙ was.0.is_run
 
-  -- what a walk and a look found was so at a moment of the pin
-  pub mapped_under_pin : HasSeen m.view → (answer : Option ℕ) → HasLookedUp m k answer → WasMappedUnderPin L m.view.past m.view.stores w k answer
-  mapped_under_pin seen (Some v) r = record {
-    so_far = so_far v r;
-    rest = remaining v r;
-    are = are v r;
-    pinned = pinned_then v r;
-    stays = not_left v r;
-    gives = in_map v r;
-    stored = stores_then v r;
-  }
-  mapped_under_pin seen None e =
-      let t : WasSoUnderPin L seen.events w k (e.2 == k) = any_walk_tells L (enough L fits) seen.events seen.keys w k e.0 e.1 e.3 e.2 small (walk_in_run seen e.0 e.1 e.3 e.2 e.4) in
+        are : m.view.past ≡ so_far ++ remaining
+        are = parts_are r.seen.run was.0.before was.0.since is_run
+
+        pinned : IsPinned w so_far
+        pinned = pinned_at r.seen.run was.0.before was.0.since is_run was.0.pinned
+
+        stays : HasLeft w remaining → ⊥
+        stays = pin_not_left w remaining was.0.stands
+
+        words : words_after L so_far ≡ (after_in (ordered L) was.0.before).state.memory
+        words = run_words L fits true was.0.before
+
+        reached : Reached (words_after L so_far) r.slot
+        reached = subst (λ (x : Memory). Reached x r.slot) (sym words) was.0.reached
+
+  -- a walk, in the run that the pass has seen
+  module _ (seen : HasSeen m.view) (slot parent : ℕ) (side : Side) (v : ℕ)
+      (ends : WalkEnds k (since_pin [] m.view.log) slot parent side v) where
+    pub walk_in_run : WalkEnds k (log_under_pin L seen.events w) slot parent side v
+    walk_in_run = ends_in_log w (trace_in (ordered L) seen.events) k slot parent side v
+        (subst (λ (l : List Entry). WalkEnds k (since_pin [] l) slot parent side v)
+        (sym (ap (part_of w) (sym seen.are) ∙ seen.is_part)) ends)
+
+  -- at some moment of the run
+  abbrev pub read_in_run : (v : ℕ) (r : HasReadValue m k v) → ReadAt m [] r.seen.run.events k v r.slot
+  read_in_run v r = read_at v r [] r.seen.run.events refl (walk_in_run r.seen.run r.slot r.parent r.side k r.walk)
+
+-- ---- its moment is in the call, which an earlier pass has begun
+
+module _ (o m : PassView) (first_seen : HasSeen o.view) (fits : IsLayout m.view.layout) (same : IsSamePass o m)
+    (since : HasSeenAllOf m o) (k : ℕ) (is_key : IsKey k) where
+  abbrev begun : List (ℕ × Event)
+  begun = events_of o.view.past
+
+  abbrev since_begun : List (ℕ × Event)
+  since_begun = events_of since.goes_on.more
+
+  module _ (seen : HasSeen m.view) where
+    run_grown : seen.events ≡ begun ++ since_begun
+    run_grown = sym (ap events_of seen.are ∙ events_of_trace (ordered m.view.layout) seen.events)
+        ∙ events_go_on m.view.past o.view.past since.goes_on
+
+    log_then : length (part_of m.view.number (trace_in (ordered m.view.layout) begun)) ≡ length o.view.log
+    log_then = ap length (subst
+        (λ (s : PassView). part_of s.view.number (trace_in (ordered s.view.layout) begun) ≡ o.view.log) (sym same)
+        (as_events o.view first_seen).is_part)
+
+  turns_then : length begun ≡ length o.view.past
+  turns_then = length-map o.view.past turn_of
+
+  -- what a walk and a look found was so
+  pub mapped_under_pin : HasSeen m.view → (answer : Option ℕ) → HasLookedUp (length o.view.log) m k answer
+      → WasMappedUnderPin m.view.layout o.view.past m.view.past m.view.stores m.view.number k answer
+  mapped_under_pin seen (Some v) r =
+      let run = r.read.seen.run in
+      let at = read_at m fits k is_key v r.read begun since_begun (run_grown run)
+      (walk_since m fits k is_key run begun since_begun (run_grown run) (length o.view.log)
+      (log_then run) r.read.slot r.read.parent r.read.side k r.walk) in
       record {
-        so_far = trace_in (ordered L) t.before;
-        rest = trace_in (after_in (ordered L) t.before) t.since;
-        are = parts_are seen t.before t.since t.is_run;
-        pinned = pinned_at seen t.before t.since t.is_run t.pinned;
-        stays = pin_not_left w (trace_in (after_in (ordered L) t.before) t.since) t.stands;
-        gives = none_there (subst (λ (b : Bool). Gives (InSet (words_after L (trace_in (ordered L) t.before))) Has k b) (sym e.5) (subst (λ (x : Memory). Gives (InSet x) Has k (e.2 == k)) (sym (run_words L fits true t.before)) t.gives));
+        so_far = trace_in (ordered m.view.layout) at.before;
+        rest = trace_in (after_in (ordered m.view.layout) at.before) at.since;
+        are = at.are;
+        later = (let less = at.later in let turns = length_trace (ordered m.view.layout) at.before in let earlier =
+            turns_then in omega (arith, less, turns, earlier));
+        pinned = at.pinned;
+        stays = at.stays;
+        gives = at.in_map;
+        stored = at.stored;
+      }
+  mapped_under_pin seen None e =
+      let L = m.view.layout in
+      let w = m.view.number in
+      let small : k < infinity_1 = (let le = is_key in omega (arith, le)) in
+      let keys = subst (λ (ts : List (ℕ × Event)). All (λ t. HasKey t.1) ts) (run_grown seen) seen.keys in
+      let t : WasSoLater L begun (begun ++ since_begun) w k (e.2 == k) =
+      walk_tells L (enough L fits) begun since_begun keys w k e.0 e.1 e.3 e.2
+      (walk_since m fits k is_key seen begun since_begun (run_grown seen) (length o.view.log)
+      (log_then seen) e.0 e.1 e.3 e.2 e.4)
+      small in
+      let is_run = run_grown seen ∙ t.0.is_run in
+      record {
+        so_far = trace_in (ordered L) t.0.before;
+        rest = trace_in (after_in (ordered L) t.0.before) t.0.since;
+        are = parts_are m fits k is_key seen t.0.before t.0.since is_run;
+        later = (let less = t.1 in let turns = length_trace (ordered L) t.0.before in let earlier =
+            turns_then in omega (arith, less, turns, earlier));
+        pinned = pinned_at m fits k is_key seen t.0.before t.0.since is_run t.0.pinned;
+        stays = pin_not_left w (trace_in (after_in (ordered L) t.0.before) t.0.since) t.0.stands;
+        gives = none_there (subst
+            (λ (b : Bool). Gives (InSet (words_after L (trace_in (ordered L) t.0.before))) Has k b) (sym e.5)
+            (subst (λ (x : Memory). Gives (InSet x) Has k (e.2 == k))
+            (sym (run_words L fits true t.0.before)) t.0.gives));
         stored = tt;
       }
     where
-      none_there : {turns : List Turn} → Gives (InSet (words_after L turns)) Has k false → (v : ℕ) → IsInMap L turns m.view.stores k v → ⊥
+      none_there : {turns : List Turn} → Gives (InSet (words_after m.view.layout turns)) Has k false → (v : ℕ)
+          → IsInMap m.view.layout turns m.view.stores k v → ⊥
       none_there gives v in_map = gives (record { slot = in_map.slot; reached = in_map.reached; leaf = in_map.leaf; has_key = in_map.has_key })
 
 -- ---- it is later than an earlier moment at which the worker was not pinned
@@ -227,13 +344,17 @@ module _ (o m : PassView) (first_seen : HasSeen o.view) (first_fits : IsLayout o
     grown : r.seen.run.events ≡ earlier ++ more
     grown = sym (ap events_of r.seen.run.are ∙ events_of_trace (ordered m.view.layout) r.seen.run.events) ∙ events_go_on m.view.past o.view.past past.goes_on
 
-    abbrev reached : WasReachedSince (ordered m.view.layout) r.seen.run.events m.view.number k r.slot
-    reached = was m fits_later k is_key v r
+    abbrev at : ReadAt m [] r.seen.run.events k v r.slot
+    at = read_in_run m fits_later k is_key v r
 
-    pub later : length o.view.past < length (so_far m fits_later k is_key v r)
+    pub later : length o.view.past < length
+        (trace_in (ordered m.view.layout) (read_in_run m fits_later k is_key v r).before)
     later =
-        let moment = moment_is_later m.view.layout (enough m.view.layout fits_later) m.view.number r.seen.run.worker earlier more (subst (λ (ts : List (ℕ × Event)). All (λ t. HasKey t.1) ts) grown r.seen.run.keys) unpinned_then reached.before reached.since (sym grown ∙ reached.is_run) reached.pinned reached.stands in
-        let long = length_trace (ordered m.view.layout) reached.before in
+        let moment = moment_is_later m.view.layout
+        (enough m.view.layout fits_later) m.view.number r.seen.run.worker earlier more
+        (subst (λ (ts : List (ℕ × Event)). All (λ t. HasKey t.1) ts) grown r.seen.run.keys) unpinned_then at.before
+        at.since (sym grown ∙ at.is_run) at.has_pin at.stands in
+        let long = length_trace (ordered m.view.layout) at.before in
         let first = length-map o.view.past turn_of in
         omega (arith, moment, long, first)
 
@@ -270,18 +391,24 @@ module _ (o a m : PassView) (first_seen : HasSeen o.view) (first_fits : IsLayout
 
   pub value_was : (v : ℕ) → HasReadValue m k v → WasMapped m.view.layout o.view.past m.view.past m.view.stores m.view.number k (Some v)
   value_was v r = record {
-    so_far = so_far m fits k is_key v r;
-    rest = remaining m fits k is_key v r;
-    are = are m fits k is_key v r;
+    so_far = trace_in (ordered m.view.layout) at.before;
+    rest = trace_in (after_in (ordered m.view.layout) at.before) at.since;
+    are = at.are;
     later = later o m first_seen first_fits unpinned same past k is_key v r;
-    pinned = pinned_then m fits k is_key v r;
-    gives = in_map m fits k is_key v r;
-    stored = stores_then m fits k is_key v r;
+    pinned = at.pinned;
+    gives = at.in_map;
+    stored = at.stored;
   }
+    where
+      at : ReadAt m [] r.seen.run.events k v r.slot
+      at = read_in_run m fits k is_key v r
 
   -- what the call found was so
-  pub was_mapped : (q : PassView) → TakesStep m q Leave Departed → HasSeen m.view → (answer : Option ℕ) → HasLookedUp m k answer → WasMapped q.view.layout o.view.past q.view.past q.view.stores q.view.number k answer
-  was_mapped q leaves seen None e = none_of (was_so o a m q first_seen first_fits unpinned pinning walked seen leaves k false is_key e)
+  pub was_mapped : (q : PassView) → TakesStep m q Leave Departed → HasSeen m.view → (n : ℕ) (answer : Option ℕ)
+      → HasLookedUp n m k answer → WasMapped q.view.layout o.view.past q.view.past q.view.stores q.view.number k answer
+  was_mapped q leaves seen n None e =
+      none_of (was_so o a m q first_seen first_fits unpinned pinning walked seen leaves k false is_key
+      (ended_in_all n m k false e))
     where
       none_of : WasSo o q k false → WasMapped q.view.layout o.view.past q.view.past q.view.stores q.view.number k None
       none_of so = record {
@@ -293,7 +420,8 @@ module _ (o a m : PassView) (first_seen : HasSeen o.view) (first_fits : IsLayout
         gives = λ v in_map. so.gives (record { slot = in_map.slot; reached = in_map.reached; leaf = in_map.leaf; has_key = in_map.has_key });
         stored = tt;
       }
-  was_mapped q leaves seen (Some v) r = mapped_longer o.view.past m q Leave Departed leaves k (Some v) (value_was v r)
+  was_mapped q leaves seen n (Some v) r =
+      mapped_longer o.view.past m q Leave Departed leaves k (Some v) (value_was v r.read)
 
 -- ---- the whole call
 

@@ -35,7 +35,7 @@ pub no_call_on : (o p q : PassView) → HadNoCall o p → IsSamePass p q → Has
 no_call_on o p q had same past = record { same = same_then o p q had.same same; past = seen_through o p q had.past past; call = had.call }
 
 -- the call that a log tells is the one that the turns have begun
-call_seen : (v : View) → IsLayout v.layout → (seen : HasSeen v) → (call : Option Call) → (search_after idle v.log).call ≡ call → call_begun v.number v.past ≡ with_pin (pin_of v.layout seen.events v.number) call
+pub call_seen : (v : View) → IsLayout v.layout → (seen : HasSeen v) → (call : Option Call) → (search_after idle v.log).call ≡ call → call_begun v.number v.past ≡ with_pin (pin_of v.layout seen.events v.number) call
 call_seen v fits seen call is =
     ap (call_begun v.number) seen.are
     ∙ call_by_log v.layout fits v.number seen.worker seen.events seen.keys call

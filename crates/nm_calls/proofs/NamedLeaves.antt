@@ -28,7 +28,7 @@ use Rattle.nm_order.specs.Intervals.{HasKey, key}
 use Rattle.nm_order.specs.Logs.{part_of, known_by}
 use Rattle.nm_order.specs.Moments.{PinStands}
 use Rattle.nm_order.specs.Ranges.{StandsFor}
-use Rattle.nm_order.specs.StalePaths.{HasPin, log_under_pin, WasReachedSince}
+use Rattle.nm_order.specs.StalePaths.{HasPin, WasReachedLater, log_since}
 use Rattle.nm_order.proofs.AnswersSince.{later_keys}
 use Rattle.nm_order.proofs.CutTurns.{reached_inside}
 use Rattle.nm_order.proofs.FactLaws.{leaf_is}
@@ -38,67 +38,54 @@ use Rattle.nm_order.proofs.PartsOfRuns.{logs_tell}
 use Rattle.nm_order.proofs.RealTime.{begins_with}
 use Rattle.nm_order.proofs.RunExchanges.{first_keys}
 use Rattle.nm_order.proofs.Sentinels.{sentinel_is_high, sentinels_of}
-use Rattle.nm_order.proofs.StaleRuns.{any_walk_was_reached, any_walk_reads, any_walk_knows_leaf, radix_walk}
+use Rattle.nm_order.proofs.StaleRuns.{radix_walk, walk_was_reached}
 use Rattle.nm_order.proofs.WalkAnswers.{pin_lasts}
+use Rattle.nm_order.proofs.WalkTells.{ends_at_leaf, read_key, stands}
 use Rattle.nm_order.proofs.WalksOfRuns.{trace_in-append, log-append}
 
 -- ---- the moment of the leaf
 
-module _ (L : Layout) (enough : 5 ≤ L.nodes) (turns : List (ℕ × Event)) (keys : All (λ t. HasKey t.1) turns) (u k slot parent : ℕ) (side : Side) (small : k < infinity_1) (walk : WalkEnds k (log_under_pin L turns u) slot parent side k) where
-  comes : WalkComes k (log_under_pin L turns u) slot parent side
+-- the looks of the walk came after the first turns of the run
+module _ (L : Layout) (enough : 5 ≤ L.nodes) (past more : List (ℕ × Event))
+    (keys : All (λ t. HasKey t.1) (past ++ more)) (u k slot parent : ℕ) (side : Side) (small : k < infinity_1)
+    (walk : WalkEnds k (log_since L past (past ++ more) u) slot parent side k) where
+  abbrev turns : List (ℕ × Event)
+  turns = past ++ more
+
+  comes : WalkComes k (log_since L past (past ++ more) u) slot parent side
   comes = record {
     looks = walk.looks;
     leads = walk.leads;
     is_part = part_within walk.is_part walk.looks (part_grows ((Look slot Key, KeyIs k) ∷ (Look slot (EdgeOn (side_of k k)), EdgeIs walk.null) ∷ []) (part_itself walk.looks));
   }
 
-  reads : WalkReads k (log_under_pin L turns u) slot parent side k
-  reads = record {
-    looks = walk.looks;
-    leads = walk.leads;
-    is_part = part_within walk.is_part (walk.looks ++ (Look slot Key, KeyIs k) ∷ [])
-        (subst (λ (l : List Entry). IsPart (walk.looks ++ (Look slot Key, KeyIs k) ∷ []) l) (append_assoc walk.looks ((Look slot Key, KeyIs k) ∷ []) ((Look slot (EdgeOn (side_of k k)), EdgeIs walk.null) ∷ []))
-        (part_grows ((Look slot (EdgeOn (side_of k k)), EdgeIs walk.null) ∷ []) (part_itself (walk.looks ++ (Look slot Key, KeyIs k) ∷ []))));
-  }
-
-  key_now : key (after_in (ordered L) turns).state.memory slot ≡ k
-  key_now = any_walk_reads L enough turns keys u k slot parent side k reads
-
-  leaf_now : is_leaf (node (after_in (ordered L) turns).state.memory slot) ≡ true
-  leaf_now = leaf_is L enough (after_in (ordered L) turns) (each_ordered L enough turns keys) u slot (any_walk_knows_leaf L enough turns keys u k slot parent side k walk)
-
-  null : (f : Side) → child (after_in (ordered L) turns).state.memory slot f ≡ 0
-  null f = go f (and_parts ((node (after_in (ordered L) turns).state.memory slot).left.slot == 0) ((node (after_in (ordered L) turns).state.memory slot).right.slot == 0) leaf_now)
-    where
-      go : (f : Side) → (((node (after_in (ordered L) turns).state.memory slot).left.slot == 0) ≡ true) × (((node (after_in (ordered L) turns).state.memory slot).right.slot == 0) ≡ true) → child (after_in (ordered L) turns).state.memory slot f ≡ 0
-      go Left both = eqb-true (node (after_in (ordered L) turns).state.memory slot).left.slot 0 both.0
-      go Right both = eqb-true (node (after_in (ordered L) turns).state.memory slot).right.slot 0 both.1
-
-  stands : StandsFor (child (after_in (ordered L) turns).state.memory) (key (after_in (ordered L) turns).state.memory) slot k
-  stands = inl (null, key_now)
-
-  pub leaf_was : WasReachedSince (ordered L) turns u k slot
+  pub leaf_was : WasReachedLater L past (past ++ more) u k slot
   leaf_was = by L.radix refl
     where
-      by : (shape : Bool) → L.radix ≡ shape → WasReachedSince (ordered L) turns u k slot
-      by false search = any_walk_was_reached L enough turns keys search u k slot parent side small comes
-      by true radix = elim (radix_walk L enough turns keys radix u k slot parent side small comes) [ inl was ↦ was | inr out ↦ absurd (out.1 stands) ]
+      by : (shape : Bool) → L.radix ≡ shape → WasReachedLater L past turns u k slot
+      by false search = walk_was_reached L enough past more keys search u k slot parent side small comes
+      by true radix = elim (radix_walk L enough past more keys radix u k slot parent side small comes) [
+        | inl was ↦ was
+        | inr out ↦ absurd (out.1 (stands L enough past more keys u k slot parent side k walk refl))
+      ]
 
-  pub leaf_has_key : key (after_in (ordered L) leaf_was.before).state.memory slot ≡ k
-  leaf_has_key = leaf_was.same_key ∙ key_now
+  pub leaf_has_key : key (after_in (ordered L) leaf_was.0.before).state.memory slot ≡ k
+  leaf_has_key = leaf_was.0.same_key ∙ read_key L enough past more keys u k slot parent side k walk
 
-  pub leaf_is_one : is_leaf (node (after_in (ordered L) leaf_was.before).state.memory slot) ≡ true
-  leaf_is_one = leaf_was.same_kind ∙ leaf_now
+  pub leaf_is_one : is_leaf (node (after_in (ordered L) leaf_was.0.before).state.memory slot) ≡ true
+  leaf_is_one = leaf_was.0.same_kind ∙ ends_at_leaf L enough past more keys u k slot parent side k walk
 
   -- it is a slot of the layout, and none of a fixed node
   abbrev then' : Configuration
-  then' = after_in (ordered L) leaf_was.before
+  then' = after_in (ordered L) leaf_was.0.before
 
   ordered_then : IsOrdered L then'
-  ordered_then = each_ordered L enough leaf_was.before (first_keys leaf_was.before leaf_was.since (subst (λ (l : List (ℕ × Event)). All (λ t. HasKey t.1) l) leaf_was.is_run keys))
+  ordered_then = each_ordered L enough leaf_was.0.before
+      (first_keys leaf_was.0.before leaf_was.0.since
+      (subst (λ (l : List (ℕ × Event)). All (λ t. HasKey t.1) l) leaf_was.0.is_run keys))
 
   pub leaf_is_inside : slot ≤ L.nodes
-  leaf_is_inside = reached_inside L enough then' ordered_then slot leaf_was.reached
+  leaf_is_inside = reached_inside L enough then' ordered_then slot leaf_was.0.reached
 
   pub leaf_is_high : k < infinity_0 → 6 ≤ slot
   leaf_is_high low = elim (cases_lt 5 slot) [
@@ -107,7 +94,7 @@ module _ (L : Layout) (enough : 5 ≤ L.nodes) (turns : List (ℕ × Event)) (ke
   ]
     where
       positive : 1 ≤ slot
-      positive = let some : slot ≢ 0 = leaf_was.reached.is_slot in omega (arith, some)
+      positive = let some : slot ≢ 0 = leaf_was.0.reached.is_slot in omega (arith, some)
 
       too_low : slot ≤ 5 → ⊥
       too_low fixed =

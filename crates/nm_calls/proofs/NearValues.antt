@@ -1,5 +1,5 @@
 -- The value of the key that is nearest to a given one.
-use Rattle.std.proofs.Common.{◌≡◌, ◌≤◌, ℕ, List, [], sym, subst, arith}
+use Rattle.std.proofs.Common.{◌≡◌, ◌≤◌, ℕ, List, [], drop, sym, subst, arith}
 use Rattle.std.specs.Prelude.{IfOk, IfSome, None, Option, Some, Result, Ok, Err}
 use Rattle.nm_edge.specs.Keys.{IsKey}
 use Rattle.nm_edge.specs.Layouts.{Layout, IsLayout}
@@ -14,11 +14,12 @@ use Rattle.nm_steps.specs.Values.{HasSeenStores}
 use Rattle.nm_epoch.specs.Resting.{epochs}
 use Rattle.nm_walks.specs.Telling.{GoesOn}
 use Rattle.nm_calls.specs.declared.fault.CallFault.{CallFault}
-use Rattle.nm_calls.specs.Maps.{HasReadValue, MapGave}
+use Rattle.nm_calls.specs.Maps.{HasReadLater, HasReadValue, MapGave}
 use Rattle.nm_calls.specs.NearKeys.{IsNearBy}
-use Rattle.nm_calls.specs.PlainWalks.{HasEndedAt, HasEndedSo}
+use Rattle.nm_calls.specs.PlainWalks.{HasEndedAt, HasEndedSo, after_entries}
 use Rattle.nm_calls.proofs.FoundValues.{leaf_within}
 use Rattle.nm_calls.proofs.MapMoments.{mapped_longer, value_was}
+use Rattle.nm_calls.proofs.PlainLooks.{ends_in_all}
 
 -- ---- the leaf with the key
 
@@ -48,6 +49,16 @@ read_near p m log fits k leaf v at seen value =
       seen = seen;
       value = value;
     }
+
+-- if the looks of its walk came after the first n entries of the log, they did so in the log that m has
+pub read_later : (n : ℕ) (p m : PassView) → m.view.log ≡ p.view.log → IsLayout m.view.layout → (k leaf v : ℕ) → IsKey k
+    → HasEndedAt (after_entries n p) k leaf → HasSeenStores m.view → v ≡ value_of m.view.stores leaf
+    → HasReadLater n m k v
+unfolding read_near
+read_later n p m log fits k leaf v is_key ended seen value = record {
+  read = read_near p m log fits k leaf v (is_key, (ended.0, ended.1, ends_in_all n k leaf ended.0 ended.1 k p.view.log ended.2)) seen value;
+  walk = subst (λ (l : List Entry). WalkEnds k (since_pin [] (drop n l)) leaf ended.0 ended.1 k) (sym log) ended.2;
+}
 
 -- ---- the moment in the call
 

@@ -1,12 +1,14 @@
 -- A stored value comes back once: its store is of one leaf, and this leaf is freed once.
-use Rattle.std.proofs.Common.{◌≡◌, ℕ, suc, ◌+◌, ◌||◌, Bool, cond, List, [], ◌∷◌, ◌++◌, length, refl, sym, ap, subst, ◌∙◌, arith}
+use Rattle.std.proofs.Common.{◌≡◌, ◌⊎◌, inl, inr, ℕ, suc, ◌+◌, ◌||◌, Bool, cond, List, [], ◌∷◌, ◌++◌, length, refl, sym, ap, subst, ◌∙◌, arith}
 use Rattle.std.specs.Prelude.{Contains}
 use Rattle.std.proofs.lemmas.Bool.{eq-eqb}
 use Rattle.std.proofs.lemmas.List.{length-append}
 use Rattle.nm_edge.specs.Layouts.{Layout}
 use Rattle.nm_edge.specs.declared.node.NodeId.{NodeId}
 use Rattle.nm_model.specs.declared.event.Event.{Event}
+use Rattle.nm_model.specs.declared.event.Event.TheVariants.{Link, Swap}
 use Rattle.nm_model.specs.declared.reply.Reply.{Reply}
+use Rattle.nm_model.specs.declared.reply.Reply.TheVariants.{Cut, Linked}
 use Rattle.nm_model.specs.declared.trace.Turn.{Turn}
 use Rattle.nm_model.specs.Headline.{nodes_freed_of, words_after}
 use Rattle.nm_model.specs.Memory.{named}
@@ -14,7 +16,7 @@ use Rattle.nm_model.specs.Walks.{logged_by}
 use Rattle.nm_order.specs.Logs.{is_leaver, part_of, takes_part}
 use Rattle.nm_steps.specs.declared.view.Stored.{Stored}
 use Rattle.nm_steps.specs.Rules.{answered_turn}
-use Rattle.nm_calls.specs.OnceBack.{IsStoreOf, ValuesComeBackOnce}
+use Rattle.nm_calls.specs.OnceBack.{HasPutIn, IsStoreOf, LinksIn, SwapsIn, ValuesComeBackOnce}
 use Rattle.nm_calls.proofs.ComingBack.{nodes_are_freed_once}
 
 -- ---- two places in one list
@@ -73,16 +75,52 @@ same_place w e e' r r' turns before since before' since' is is' same = by (two_p
     by (IsLater mid rest at) = absurd (longer before before' mid e r at same)
     by (IsEarlier mid rest at) = absurd (longer before' before mid e' r' at (sym same))
 
+-- ---- the turn that puts a leaf in
+
+-- it is its worker's, and was answered
+pub record IsAnswered (w : ℕ) (t : Turn) : Type 0 where
+  pub event : Event
+  pub reply : Reply
+  pub is : t ≡ answered_turn w event reply
+
+pub put_answered : (L : Layout) (turns : List Turn) (w : ℕ) (n : NodeId) (p : HasPutIn L turns w n) → IsAnswered w p.put
+put_answered L turns w n p = by p.way
+  where
+    by : LinksIn (words_after L p.before) w p.put n ⊎ SwapsIn (words_after L p.before) w p.put n → IsAnswered w p.put
+    by (inl l) = record { event = Link l.parent l.side l.old l.new; reply = Linked l.node; is = l.is_link }
+    by (inr s) = record { event = Swap s.parent s.side s.old n.slot; reply = Cut s.nodes; is = s.is_swap }
+
+pub put_named : (L : Layout) (turns : List Turn) (w : ℕ) (n : NodeId) (p : HasPutIn L turns w n)
+    → n ≡ named (words_after L p.before) n.slot
+put_named L turns w n p = by p.way
+  where
+    by : LinksIn (words_after L p.before) w p.put n ⊎ SwapsIn (words_after L p.before) w p.put n
+        → n ≡ named (words_after L p.before) n.slot
+    by (inl l) = l.is ∙ ap (named (words_after L p.before)) (sym (ap (λ (m : NodeId). m.slot) l.is))
+    by (inr s) = s.is
+
 -- ---- a store is of one leaf
 
-pub one_link : (L : Layout) (turns : List Turn) (x : Stored) (n m : NodeId) (one : IsStoreOf L turns x n) (other : IsStoreOf L turns x m) → one.link.before ≡ other.link.before
-one_link L turns x n m one other = same_place x.worker _ _ _ _ turns one.link.before one.link.since other.link.before other.link.since one.link.are other.link.are (sym one.own ∙ other.own)
+pub one_put : (L : Layout) (turns : List Turn) (x : Stored) (n m : NodeId) (one : IsStoreOf L turns x n)
+    (other : IsStoreOf L turns x m) → one.put_in.before ≡ other.put_in.before
+one_put L turns x n m one other =
+    let a = put_answered L turns x.worker n one.put_in in
+    let b = put_answered L turns x.worker m other.put_in in
+    same_place x.worker a.event b.event a.reply b.reply turns one.put_in.before one.put_in.since other.put_in.before
+    other.put_in.since
+    (one.put_in.are ∙ ap (λ (t : Turn). one.put_in.before ++ t ∷ one.put_in.since) a.is)
+    (other.put_in.are ∙ ap (λ (t : Turn). other.put_in.before ++ t ∷ other.put_in.since) b.is)
+    (sym one.own ∙ other.own)
 
-named_slot : (L : Layout) (turns : List Turn) (x : Stored) (n : NodeId) (s : IsStoreOf L turns x n) → n ≡ named (words_after L s.link.before) x.slot
-named_slot L turns x n s = s.link.is ∙ ap (named (words_after L s.link.before)) (sym (ap (λ (m : NodeId). m.slot) s.link.is) ∙ sym s.slot)
+named_slot : (L : Layout) (turns : List Turn) (x : Stored) (n : NodeId) (s : IsStoreOf L turns x n)
+    → n ≡ named (words_after L s.put_in.before) x.slot
+named_slot L turns x n s = put_named L turns x.worker n s.put_in
+    ∙ ap (named (words_after L s.put_in.before)) (sym s.slot)
 
 pub one_leaf : (L : Layout) (turns : List Turn) (x : Stored) (n m : NodeId) → IsStoreOf L turns x n → IsStoreOf L turns x m → n ≡ m
-one_leaf L turns x n m one other = named_slot L turns x n one ∙ (ap (λ (ts : List Turn). named (words_after L ts) x.slot) (one_link L turns x n m one other) ∙ sym (named_slot L turns x m other))
+one_leaf L turns x n m one other = named_slot L turns x n one
+    ∙ (ap (λ (ts : List Turn). named (words_after L ts) x.slot) (one_put L turns x n m one other)
+    ∙ sym (named_slot L turns x m other))
 
 -- ---- and this leaf is freed once
 

@@ -1,4 +1,4 @@
--- A leaf has one store: no two workers link it, and none links it twice.
+-- A leaf has one store: no two workers put it in, and none does so twice.
 use Rattle.std.proofs.Common.{◌≡◌, ◌⊎◌, inl, inr, ℕ, ◌<◌, ◌≤◌, List, [], ◌∷◌, ◌++◌, append_assoc, length, get_or, true, false, sym, ap, subst, ◌∙◌, arith}
 use Rattle.std.specs.Prelude.{AllPairs, Contains}
 use Rattle.std.proofs.lemmas.Bool.{cases_lt}
@@ -6,8 +6,6 @@ use Rattle.std.proofs.lemmas.List.{get_or_default}
 use Rattle.std.proofs.lemmas.List.Elements.{Contains-append_left}
 use Rattle.nm_edge.specs.Layouts.{Layout}
 use Rattle.nm_edge.specs.declared.node.NodeId.{NodeId}
-use Rattle.nm_model.specs.declared.event.Event.TheVariants.{Link}
-use Rattle.nm_model.specs.declared.reply.Reply.TheVariants.{Linked}
 use Rattle.nm_model.specs.declared.trace.Turn.{Turn}
 use Rattle.nm_model.specs.Headline.{Headline, cuts_of, has_after, words_after}
 use Rattle.nm_model.specs.Headline.Place.{InHands, OnPath}
@@ -15,12 +13,12 @@ use Rattle.nm_model.specs.Memory.{named, opening}
 use Rattle.nm_order.specs.Logs.{part_of}
 use Rattle.nm_theorem.proofs.FreedOfRuns.{cuts-append}
 use Rattle.nm_steps.specs.declared.view.Stored.{Stored}
-use Rattle.nm_steps.specs.Rules.{ComesBefore, answered_turn}
+use Rattle.nm_steps.specs.Rules.{ComesBefore}
 use Rattle.nm_calls.specs.Maps.{WasInHands}
 use Rattle.nm_calls.specs.OnceBack.{IsStoreOf}
 use Rattle.nm_calls.specs.StoredLeaves.{LeavesHaveOneStore}
-use Rattle.nm_calls.proofs.LeavesInHands.{held_at_link, in_hands_then, leaf_high, leaf_low, leaf_named, leaf_reached}
-use Rattle.nm_calls.proofs.OnceBack.{TwoPlaces, two_places}
+use Rattle.nm_calls.proofs.LeavesInHands.{in_hands_then, leaf_held, leaf_high, leaf_low, leaf_named, leaf_reached}
+use Rattle.nm_calls.proofs.OnceBack.{TwoPlaces, put_answered, two_places}
 use Rattle.nm_calls.proofs.OnceBack.TwoPlaces.{AreOne, IsEarlier, IsLater}
 use Rattle.nm_calls.proofs.ReachedNodes.{NodeFate, node_fate_then}
 use Rattle.nm_calls.proofs.ReachedNodes.NodeFate.{StaysIn, WasCutOff}
@@ -43,15 +41,12 @@ one_store stores order x y (i, below, at) (j, below', at') who own = by (cases_l
         let same : i ≡ j = omega (arith, most, least) in
         sym at ∙ (ap (λ (k : ℕ). get_or stores k x) same ∙ (get_or_default stores j x y below' ∙ at'))
 
--- ---- a leaf is linked once
-
-abbrev its_link : {L : Layout} {turns : List Turn} {x : Stored} {leaf : NodeId} → IsStoreOf L turns x leaf → Turn
-its_link {x = x} s = answered_turn x.worker (Link s.link.parent s.link.side s.link.old s.link.new) (Linked s.link.node)
+-- ---- a leaf is put in once
 
 module _ (L : Layout) (turns : List Turn) (h : Headline L turns) (x y : Stored) (leaf : NodeId) (one : IsStoreOf L turns x leaf) (other : IsStoreOf L turns y leaf) (hands : WasInHands L turns x) (hands' : WasInHands L turns y)
-    (mid : List Turn) (at : other.link.before ≡ one.link.before ++ its_link one ∷ mid) where
+    (mid : List Turn) (at : other.put_in.before ≡ one.put_in.before ++ one.put_in.put ∷ mid) where
   abbrev so_far : List Turn
-  so_far = one.link.before ++ its_link one ∷ []
+  so_far = one.put_in.before ++ one.put_in.put ∷ []
 
   low : 6 ≤ leaf.slot
   low = leaf_low L turns h x leaf one hands
@@ -59,34 +54,42 @@ module _ (L : Layout) (turns : List Turn) (h : Headline L turns) (x y : Stored) 
   most : leaf.slot ≤ L.nodes
   most = leaf_high L turns h x leaf one hands
 
-  then' : so_far ++ mid ≡ other.link.before
-  then' = append_assoc one.link.before (its_link one ∷ []) mid ∙ sym at
+  then' : so_far ++ mid ≡ other.put_in.before
+  then' = append_assoc one.put_in.before (one.put_in.put ∷ []) mid ∙ sym at
 
-  moment : turns ≡ (so_far ++ mid) ++ its_link other ∷ other.link.since
-  moment = other.link.are ∙ ap (λ (ts : List Turn). ts ++ its_link other ∷ other.link.since) (sym then')
+  moment : turns ≡ (so_far ++ mid) ++ other.put_in.put ∷ other.put_in.since
+  moment = other.put_in.are ∙ ap (λ (ts : List Turn). ts ++ other.put_in.put ∷ other.put_in.since) (sym then')
 
   held : has_after (opening L) y.worker leaf.slot false (so_far ++ mid) ≡ true
   held =
       ap (has_after (opening L) y.worker leaf.slot false) then'
-      ∙ (ap (λ (s : ℕ). has_after (opening L) y.worker s false other.link.before) (sym other.slot) ∙ held_at_link L turns h y leaf other hands')
+      ∙ leaf_held L turns h y leaf other hands'
 
   by : NodeFate L (so_far ++ mid) (named (words_after L so_far) leaf.slot) → ⊥
   by (StaysIn r born) =
-      let place = h.places (so_far ++ mid) (its_link other ∷ other.link.since) moment leaf.slot low most in
+      let place = h.places (so_far ++ mid) (other.put_in.put ∷ other.put_in.since) moment leaf.slot low most in
       not_place y.worker r.path (place.only (InHands y.worker) held ∙ sym (place.only (OnPath r.path) r.ends))
   by (WasCutOff w c) =
-      let cut : Contains (cuts_of w other.link.before) leaf = subst (λ (ts : List Turn). Contains (cuts_of w ts) leaf) then' (subst (λ (n : NodeId). Contains (cuts_of w (so_far ++ mid)) n) (leaf_named L turns x leaf one) c) in
-      let less = h.younger (other.link.before ++ its_link other ∷ []) other.link.since (other.link.are ∙ sym (append_assoc other.link.before (its_link other ∷ []) other.link.since)) w leaf
-      (subst (λ (ns : List NodeId). Contains ns leaf) (sym (cuts-append w other.link.before (its_link other ∷ []))) (Contains-append_left (cuts_of w other.link.before) (cuts_of w (its_link other ∷ [])) leaf cut))
+      let cut : Contains (cuts_of w other.put_in.before) leaf = subst
+      (λ (ts : List Turn). Contains (cuts_of w ts) leaf) then'
+      (subst (λ (n : NodeId). Contains (cuts_of w (so_far ++ mid)) n) (leaf_named L turns x leaf one) c) in
+      let less = h.younger (other.put_in.before ++ other.put_in.put ∷ []) other.put_in.since
+      (other.put_in.are ∙ sym (append_assoc other.put_in.before (other.put_in.put ∷ []) other.put_in.since)) w leaf
+      (subst (λ (ns : List NodeId). Contains ns leaf)
+      (sym (cuts-append w other.put_in.before (other.put_in.put ∷ [])))
+      (Contains-append_left (cuts_of w other.put_in.before) (cuts_of w (other.put_in.put ∷ [])) leaf cut))
       (leaf_reached L turns h y leaf other hands') in
       let born = ap (λ (n : NodeId). n.birth) (leaf_named L turns y leaf other) in
       omega (arith, less, born)
 
-  linked_again : ⊥
-  linked_again = by (node_fate_then L turns h leaf.slot low most so_far mid (its_link other ∷ other.link.since) moment (leaf_reached L turns h x leaf one hands))
+  put_in_again : ⊥
+  put_in_again = by (node_fate_then L turns h leaf.slot low most so_far mid
+      (other.put_in.put ∷ other.put_in.since) moment (leaf_reached L turns h x leaf one hands))
 
 pub leaves_have_one_store : LeavesHaveOneStore
-leaves_have_one_store L turns h was stores s leaf x y there there' one other = by (two_places one.link.before one.link.since other.link.before other.link.since (its_link one) (its_link other) (sym one.link.are ∙ other.link.are))
+leaves_have_one_store L turns h was stores s leaf x y there there' one other = by
+    (two_places one.put_in.before one.put_in.since other.put_in.before other.put_in.since one.put_in.put
+    other.put_in.put (sym one.put_in.are ∙ other.put_in.are))
   where
     hands : WasInHands L turns x
     hands = in_hands_then L was turns stores s x there
@@ -94,10 +97,14 @@ leaves_have_one_store L turns h was stores s leaf x y there there' one other = b
     hands' : WasInHands L turns y
     hands' = in_hands_then L was turns stores s y there'
 
-    by : TwoPlaces one.link.before one.link.since other.link.before other.link.since (its_link one) (its_link other) → x ≡ y
+    by : TwoPlaces one.put_in.before one.put_in.since other.put_in.before other.put_in.since one.put_in.put
+        other.put_in.put → x ≡ y
     by (AreOne same it) =
-        let who = ap (λ (t : Turn). t.worker) it in
+        let a = put_answered L turns x.worker leaf one.put_in in
+        let b = put_answered L turns y.worker leaf other.put_in in
+        let who : x.worker ≡ y.worker = sym (ap (λ (t : Turn). t.worker) a.is)
+        ∙ (ap (λ (t : Turn). t.worker) it ∙ ap (λ (t : Turn). t.worker) b.is) in
         one_store stores s.order x y there there' who
         (one.own ∙ ((λ i. length (part_of (who i) (same i))) ∙ sym other.own))
-    by (IsLater mid rest at) = absurd (linked_again L turns h x y leaf one other hands hands' mid at)
-    by (IsEarlier mid rest at) = absurd (linked_again L turns h y x leaf other one hands' hands mid at)
+    by (IsLater mid rest at) = absurd (put_in_again L turns h x y leaf one other hands hands' mid at)
+    by (IsEarlier mid rest at) = absurd (put_in_again L turns h y x leaf other one hands' hands mid at)

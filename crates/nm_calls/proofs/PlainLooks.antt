@@ -1,11 +1,11 @@
 -- Looks that are added to a log under a pin for no call: a walk begins, goes on, and tells of its
 -- key.
-use Rattle.std.proofs.Common.{◌≡◌, ◌≢◌, ◌≤◌, inl, inr, ℕ, zero, suc, ◌+◌, ◌*◌, ◌==◌, Bool, true, false, cond, List, [], ◌∷◌, ◌++◌, append-nil, append_assoc, length, refl, sym, ap, subst, ◌∙◌, arith}
+use Rattle.std.proofs.Common.{◌≡◌, ◌≢◌, ◌≤◌, inl, inr, ℕ, zero, suc, ◌+◌, ◌*◌, ◌==◌, Bool, true, false, cond, List, [], ◌∷◌, ◌++◌, append-nil, append_assoc, drop, take, length, refl, sym, ap, subst, ◌∙◌, arith}
 use Rattle.std.specs.Prelude.{filter, Option, None, All, Result, Ok, Err, IfOk, IfErr}
 use Rattle.std.proofs.lemmas.Result.{IfErr-weaker}
 use Rattle.std.specs.List.{list_all}
 use Rattle.std.proofs.lemmas.Bool.{and_parts, and_from}
-use Rattle.std.proofs.lemmas.List.{length-append, length-map, map-append}
+use Rattle.std.proofs.lemmas.List.{drop-append-le, length-append, length-map, map-append, take-append-drop}
 use Rattle.std.proofs.lemmas.List.Folds.{list_all-append}
 use Rattle.nm_edge.specs.Edges.{Edge}
 use Rattle.nm_edge.specs.Keys.{IsKey}
@@ -20,13 +20,15 @@ use Rattle.nm_model.specs.declared.trace.Turn.{Turn}
 use Rattle.nm_model.specs.Ordered.{Configuration, ordered, next_in, trace_in, turn_of, HasKey}
 use Rattle.nm_model.specs.declared.knowledge.Brief.{Brief}
 use Rattle.nm_model.specs.Searches.{Search, side_of}
-use Rattle.nm_model.specs.Walks.{Entry, since_pin, IsPart}
+use Rattle.nm_model.specs.Walks.{Entry, WalkEnds, begins_anew, since_pin, IsPart}
+use Rattle.nm_model.specs.Walks.IsPart.{nothing, takes, skips}
 use Rattle.nm_model.specs.Walks.Leads.{begins, leads_on}
 use Rattle.nm_order.specs.Exchanges.{is_won_link}
 use Rattle.nm_order.specs.Logs.{part_of, known_by}
 use Rattle.nm_order.specs.WalkAnswers.{WasSoSince}
 use Rattle.nm_order.specs.WalksToArrivals.{is_won_flag}
-use Rattle.nm_order.proofs.LogParts.{part_grows}
+use Rattle.nm_order.proofs.LogParts.{part_grows, part_itself, part_of_nothing, part_within}
+use Rattle.nm_order.proofs.WalksOfRuns.{since_pin-append}
 use Rattle.nm_model.specs.Histories.{WasSoBehind}
 use Rattle.nm_theorem.proofs.LooksBehind.{was_behind}
 use Rattle.nm_order.proofs.WalkAnswers.{walks_tell_of_their_pin}
@@ -40,7 +42,7 @@ use Rattle.nm_epoch.proofs.Allowed.{may_leave}
 use Rattle.nm_epoch.specs.Tries.{IsPinnedBy, IsMoved}
 use Rattle.nm_walks.specs.declared.looking.Onward.{Onward}
 use Rattle.nm_walks.specs.AddedLooks.{is_look, AddsLooks}
-use Rattle.nm_calls.specs.PlainWalks.{HasEndedAt, HasEndedSo, HasPassed, LooksUnderPin, PlainMissed, WasSo, events_of, most_looks}
+use Rattle.nm_calls.specs.PlainWalks.{HasEndedAt, HasEndedSo, HasPassed, LooksUnderPin, PlainMissed, WasSo, after_entries, events_of, most_looks}
 use Rattle.nm_calls.specs.NearKeys.{AfterNear, GiveUp, WasNear}
 use Rattle.nm_calls.specs.declared.fault.CallFault.{CallFault}
 use Rattle.nm_calls.specs.declared.fault.CallFault.TheVariants as fault
@@ -51,7 +53,7 @@ use Rattle.nm_walks.specs.WonCounts.{is_won_splice}
 use Rattle.nm_walks.proofs.Adding.{Adds, adds_then, adds_these}
 use Rattle.nm_calls.proofs.Adding.{plain_pin_adds, plain_moved_adds, has_won, cuts_none}
 use Rattle.nm_walks.proofs.Looks.{enough}
-use Rattle.nm_walks.proofs.PlainLooks.{first_look, look_is, looks_longer, since_grows, walk_looks}
+use Rattle.nm_walks.proofs.PlainLooks.{first_look, look_is, looks_longer, node_looks, read_grows, since_grows, walk_looks}
 
 -- ---- looks alone
 
@@ -68,6 +70,10 @@ looks_then {n} {m} old mid new a b = record {
   only = list_all-append is_look a.looks b.looks ∙ and_from (list_all is_look a.looks) (list_all is_look b.looks) a.only b.only;
   few = let x = a.few in let y = b.few in let l = length-append a.looks b.looks in omega (arith, x, y, l);
 }
+
+pub not_shorter : {m : ℕ} (p q : PassView) → AddsLooks m p.view.log q.view.log → length p.view.log ≤ length q.view.log
+not_shorter p q a = let long = ap length a.grown in let sum =
+    length-append p.view.log a.looks in omega (arith, long, sum)
 
 -- one look, and the three by which a node is read
 abbrev pub look_added : (p q : PassView) (x : ℕ) (side : Side) (e : Edge) → Stepped p q (Look x (EdgeOn side)) (EdgeIs e) → AddsLooks 1 p.view.log q.view.log
@@ -110,7 +116,93 @@ module _ {n : ℕ} (p q : PassView) (a : AddsLooks n p.view.log q.view.log) wher
   pub ended_at_still : (k leaf : ℕ) → HasEndedAt p k leaf → HasEndedAt q k leaf
   ended_at_still k leaf e = (e.0, e.1, record { looks = e.2.looks; leads = e.2.leads; null = e.2.null; is_null = e.2.is_null; is_part = part_still _ e.2.is_part })
 
+-- ---- the log after its first entries
+
+-- the last looks of a log are added to it after any entries that it had
+pub looks_after : {m : ℕ} (n : ℕ) (old new : List Entry) → n ≤ length old → AddsLooks m old new
+    → AddsLooks m (drop n old) (drop n new)
+looks_after n old new le a =
+    record {
+      looks = a.looks;
+      grown = ap (drop n) a.grown ∙ drop-append-le n old a.looks le;
+      only = a.only;
+      few =
+          a.few;
+    }
+
+-- a part of a first list, and what follows in both
+part_and_more : {xs ys : List Entry} → IsPart xs ys → (zs : List Entry) → IsPart (xs ++ zs) (ys ++ zs)
+part_and_more nothing zs = part_itself zs
+part_and_more (takes p) zs = takes (part_and_more p zs)
+part_and_more (skips p) zs = skips (part_and_more p zs)
+
+since_part : (es xs ys : List Entry) → IsPart xs ys → IsPart (since_pin xs es) (since_pin ys es)
+since_part [] xs ys part = part
+since_part (e ∷ es) xs ys part =
+    since_part es (cond (begins_anew e) [] (xs ++ e ∷ [])) (cond (begins_anew e) [] (ys ++ e ∷ [])) (by (begins_anew e))
+  where
+    by : (b : Bool) → IsPart (cond b [] (xs ++ e ∷ [])) (cond b [] (ys ++ e ∷ []))
+    by true = nothing
+    by false = part_and_more part (e ∷ [])
+
+-- what was looked at after the first n entries was looked at in all
+pub part_of_all : (n : ℕ) (log : List Entry) → IsPart (since_pin [] (drop n log)) (since_pin [] log)
+part_of_all n log =
+    subst (λ (l : List Entry). IsPart (since_pin [] (drop n log)) (since_pin [] l)) (take-append-drop n log)
+    (subst (IsPart (since_pin [] (drop n log))) (sym (since_pin-append [] (take n log) (drop n log)))
+    (since_part (drop n log) [] (since_pin [] (take n log)) (part_of_nothing (since_pin [] (take n log)))))
+
+-- so are the walks
+pub passed_in_all : (n m k slot : ℕ) (log : List Entry) → HasPassed m (drop n log) k slot → HasPassed m log k slot
+passed_in_all n m k slot log c = (
+  c.0,
+  c.1,
+  record {
+    looks = c.2.looks;
+    leads = c.2.leads;
+    is_part =
+        part_within (part_of_all n log) c.2.looks c.2.is_part;
+  },
+  c.3,
+)
+
+pub ends_in_all : (n k slot parent : ℕ) (side : Side) (v : ℕ) (log : List Entry)
+    → WalkEnds k (since_pin [] (drop n log)) slot parent side v → WalkEnds k (since_pin [] log) slot parent side v
+ends_in_all n k slot parent side v log w =
+    record {
+      looks = w.looks;
+      leads = w.leads;
+      null = w.null;
+      is_null = w.is_null;
+      is_part =
+          part_within (part_of_all n log) _ w.is_part;
+    }
+
+pub ended_in_all : (n : ℕ) (p : PassView) (k : ℕ) (answer : Bool) → HasEndedSo (after_entries n p) k answer
+    → HasEndedSo p k answer
+ended_in_all n p k answer e = (e.0, e.1, e.2, e.3, ends_in_all n k e.0 e.1 e.3 e.2 p.view.log e.4, e.5)
+
+pub ended_at_in_all : (n : ℕ) (p : PassView) (k leaf : ℕ) → HasEndedAt (after_entries n p) k leaf → HasEndedAt p k leaf
+ended_at_in_all n p k leaf e = (e.0, e.1, ends_in_all n k leaf e.0 e.1 k p.view.log e.2)
+
 -- ---- a walk begins
+
+-- after any entries that the log had
+pub comes_first_after : (n : ℕ) (p q : PassView) (e : Edge) → Stepped p q (Look 2 (EdgeOn Left)) (EdgeIs e)
+    → n ≤ length p.view.log → e.slot ≢ 0 → (k : ℕ) → HasPassed 0 (drop n q.view.log) k e.slot
+comes_first_after n p q e step le some k = (
+  2,
+  Left,
+  record {
+    looks = (Look 2 (EdgeOn Left), EdgeIs e) ∷ [];
+    leads = begins e some;
+    is_part = subst (λ (log : List Entry). IsPart ((Look 2 (EdgeOn Left), EdgeIs e) ∷ []) (since_pin [] log))
+        (sym (ap (λ (s : PassView). drop n s.view.log) step
+        ∙ drop-append-le n p.view.log ((Look 2 (EdgeOn Left), EdgeIs e) ∷ []) le))
+        (first_look (drop n p.view.log) e);
+  },
+  omega arith,
+)
 
 pub comes_first : (p q : PassView) (e : Edge) → Stepped p q (Look 2 (EdgeOn Left)) (EdgeIs e) → e.slot ≢ 0 → (k : ℕ) → HasPassed 0 q.view.log k e.slot
 comes_first p q e step some k = (
@@ -125,6 +217,19 @@ comes_first p q e step some k = (
 )
 
 -- ---- and goes on
+
+-- a node is read after any entries that the log had
+pub reads_after : (n k x : ℕ) (old new : List Entry) (on : Onward) → n ≤ length old → Reads k x old new on
+    → Reads k x (drop n old) (drop n new) on
+reads_after n k x old new on le r = (
+  r.0,
+  r.1,
+  ap (drop n) (read_grows k x old new on r)
+      ∙ (drop-append-le n old (node_looks x on.found r.0 r.1) le
+      ∙ sym (read_grows k x (drop n old) _ on (r.0, r.1, refl, r.3, r.4))),
+  r.3,
+  r.4,
+)
 
 module _ (p q : PassView) (n k x : ℕ) (on : Onward) (r : Reads k x p.view.log q.view.log on) where
   pub comes_on : HasPassed n p.view.log k x → on.next.slot ≢ 0 → HasPassed (n + 1) q.view.log k on.next.slot
@@ -199,7 +304,9 @@ was_so o a p q first fits unpinned pinned walked mid leaves k answer key e =
 
 -- the worker may leave where its walks end
 pub may_end : (e : ℕ) (a p : PassView) → IsPinnedAt e None a → OnlyLooks a p → MayStep p Leave
-may_end e a p at only = may_leave p (ap (λ (b : Brief). b.unlabelled) only.epochs ∙ at.labelled) (only.linked ∙ ap (λ (s : Search). s.linked) at.begun) (only.flagged ∙ ap (λ (s : Search). s.flagged) at.begun)
+may_end e a p at only = may_leave p (ap (λ (b : Brief). b.unlabelled) only.epochs ∙ at.labelled)
+    (only.linked ∙ ap (λ (s : Search). s.linked) at.begun) (only.swapped ∙ ap (λ (s : Search). s.swapped) at.begun)
+    (only.flagged ∙ ap (λ (s : Search). s.flagged) at.begun)
 
 -- a pin, looks and a leave: what they add
 pub call_adds : (tries most : ℕ) (old new : List Entry) → LooksUnderPin tries most old new → Adds 0 0 0 (2 * tries + 1 + (most + 1)) old new

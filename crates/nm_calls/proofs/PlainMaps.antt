@@ -1,13 +1,13 @@
 -- Plain maps beside plain sets: what calls leave under a key, and the values of calls.
-use Rattle.std.proofs.Common.{◌≡◌, ◌⊎◌, inl, inr, ℕ, zero, suc, ◌≤◌, ◌<◌, ◌==◌, get_or, Bool, true, false, cond, List, [], ◌∷◌, ◌++◌, length, map, refl, sym, ap, subst, ◌∙◌, eq-eqb, ne_eqb, true≢false, arith}
-use Rattle.std.specs.Prelude.{All, AllPairs, Contains, Option, None, Some, filter}
+use Rattle.std.proofs.Common.{◌≡◌, ◌⊎◌, inl, inr, ℕ, zero, suc, ◌<◌, ◌==◌, get_or, Bool, true, false, cond, List, [], ◌∷◌, ◌++◌, length, map, refl, sym, ap, subst, ◌∙◌, eq-eqb, ne_eqb, true≢false, arith}
+use Rattle.std.specs.Prelude.{All, AllPairs, Contains, Option, None, Some, filter, is_none}
 use Rattle.std.proofs.lemmas.Bool.{eqb-true}
 use Rattle.std.proofs.lemmas.Option.{none-some}
 use Rattle.nm_edge.specs.Keys.{IsKey}
 use Rattle.nm_model.specs.declared.event.Op.{Op}
 use Rattle.nm_model.specs.declared.event.Op.TheVariants.{Has, Insert, Delete}
 use Rattle.nm_model.specs.Acts.{Act, Gives, IsAmong, Replays, changed, nothing}
-use Rattle.nm_calls.specs.MapHistories.{GivesEach, MapAct, PlainMap, found_by, map_after, map_changed, no_map}
+use Rattle.nm_calls.specs.MapHistories.{GivesEach, IsEarlier, MapAct, PlainMap, PutsThere, found_by, is_plain, map_after, map_changed, map_left, map_then, no_map}
 
 -- ---- lists
 
@@ -41,9 +41,19 @@ contains_in [] x at = absurd at
 contains_in (y ∷ ys) x (inl is) = (0, omega arith, is)
 contains_in (y ∷ ys) x (inr at) = let r = contains_in ys x at in let below = r.1 in (suc r.0, omega (arith, below), r.2)
 
+pub contained_in : (xs : List MapAct) (x : MapAct) → Contains xs x → In xs x
+contained_in [] x c = absurd (let below = c.1 in omega (arith, below))
+contained_in (y ∷ ys) x (zero, below, is) = inl is
+contained_in (y ∷ ys) x (suc i, below, is) = inr (contained_in ys x (i, omega (arith, below), is))
+
 pub in_right : (xs ys : List MapAct) (x : MapAct) → In ys x → In (xs ++ ys) x
 in_right [] ys x at = at
 in_right (y ∷ xs) ys x at = inr (in_right xs ys x at)
+
+pub in_left : (xs ys : List MapAct) (x : MapAct) → In xs x → In (xs ++ ys) x
+in_left [] ys x at = absurd at
+in_left (y ∷ xs) ys x (inl is) = inl is
+in_left (y ∷ xs) ys x (inr at) = inr (in_left xs ys x at)
 
 pub in_parts : (xs ys : List MapAct) (x : MapAct) → In (xs ++ ys) x → In xs x ⊎ In ys x
 in_parts [] ys x at = inr at
@@ -104,45 +114,69 @@ in_all P (y ∷ ys) each x (inr at) = in_all P ys (λ k d below. each (suc k) d 
 
 abbrev pub Sorted : List MapAct → Type 0
 Sorted [] = Unit {0}
-Sorted (x ∷ xs) = ((y : MapAct) → In xs y → x.act.moment ≤ y.act.moment) × Sorted xs
+Sorted (x ∷ xs) = ((y : MapAct) → In xs y → IsEarlier x y) × Sorted xs
 
-place_of : (xs : List MapAct) (y : MapAct) → In xs y → (j : ℕ) × (j < length (map act_of xs)) × ((d : Act) → get_or (map act_of xs) j d ≡ y.act)
-place_of [] y at = absurd at
-place_of (x ∷ xs) y (inl is) = (0, omega arith, λ d. ap act_of is)
-place_of (x ∷ xs) y (inr at) = let r = place_of xs y at in let below = r.1 in (suc r.0, omega (arith, below), r.2)
+in_at : (xs : List MapAct) (j : ℕ) (d : MapAct) → j < length xs → In xs (get_or xs j d)
+in_at [] j d below = absurd (omega (arith, below))
+in_at (x ∷ xs) zero d below = inl refl
+in_at (x ∷ xs) (suc j) d below = inr (in_at xs j d (omega (arith, below)))
 
-pub sorted : (xs : List MapAct) → AllPairs (λ (a b : Act). a.moment ≤ b.moment) (map act_of xs) → Sorted xs
-sorted [] order = tt
-sorted (x ∷ xs) order = (
-  λ y at. let r = place_of xs y at in let below = r.1 in subst (λ (b : Act). x.act.moment ≤ b.moment) (r.2 x.act) (order 0 (suc r.0) x.act (omega arith) (omega (arith, below))),
-  sorted xs (λ i j d less inside. order (suc i) (suc j) d (omega (arith, less)) (omega (arith, inside))),
-)
+pub all_pairs : (xs : List MapAct) → Sorted xs → AllPairs IsEarlier xs
+all_pairs [] s i j d less inside = absurd (omega (arith, inside))
+all_pairs (x ∷ xs) s zero zero d less inside = absurd (omega (arith, less))
+all_pairs (x ∷ xs) s zero (suc j) d less inside = s.0 (get_or xs j d) (in_at xs j d (omega (arith, inside)))
+all_pairs (x ∷ xs) s (suc i) zero d less inside = absurd (omega (arith, less))
+all_pairs (x ∷ xs) s (suc i) (suc j) d less inside =
+    all_pairs xs s.1 i j d (omega (arith, less)) (omega (arith, inside))
 
-pub sorted_filter : (p : MapAct → Bool) (xs : List MapAct) → Sorted xs → Sorted (filter p xs)
-sorted_filter p [] s = tt
-sorted_filter p (x ∷ xs) s = by (p x) (sorted_filter p xs s.1)
+-- lists of which each act of the first comes before each act of the second
+pub sorted_join : (xs ys : List MapAct) → Sorted xs → Sorted ys → ((x y : MapAct) → In xs x → In ys y → IsEarlier x y)
+    → Sorted (xs ++ ys)
+sorted_join [] ys s t before = t
+sorted_join (x ∷ xs) ys s t before = (first, sorted_join xs ys s.1 t (λ z y at there. before z y (inr at) there))
   where
-    by : (b : Bool) → Sorted (filter p xs) → Sorted (cond b (x ∷ filter p xs) (filter p xs))
-    by true rest = (λ y at. s.0 y (from_filter p xs y at).0, rest)
-    by false rest = rest
+    either : (y : MapAct) → In xs y ⊎ In ys y → IsEarlier x y
+    either y (inl at) = s.0 y at
+    either y (inr at) = before x y (inl refl) at
 
-pub sorted_before : (front back : List MapAct) (a y : MapAct) → Sorted (front ++ a ∷ back) → In front y → y.act.moment ≤ a.act.moment
-sorted_before [] back a y s at = absurd at
-sorted_before (x ∷ front) back a y s (inl is) = subst (λ (z : MapAct). z.act.moment ≤ a.act.moment) is (s.0 a (in_right front (a ∷ back) a (inl refl)))
-sorted_before (x ∷ front) back a y s (inr at) = sorted_before front back a y s.1 at
+    first : (y : MapAct) → In (xs ++ ys) y → IsEarlier x y
+    first y at = either y (in_parts xs ys y at)
+
+pub split_in : (xs : List MapAct) (x : MapAct) → In xs x → (front back : List MapAct) × (xs ≡ front ++ x ∷ back)
+split_in [] x at = absurd at
+split_in (y ∷ ys) x (inl is) = ([], ys, ap (λ (z : MapAct). z ∷ ys) is)
+split_in (y ∷ ys) x (inr at) = let r = split_in ys x at in (y ∷ r.0, r.1, ap (λ (l : List MapAct). y ∷ l) r.2)
+
+pub none_kept : (p : MapAct → Bool) (xs : List MapAct) → ((x : MapAct) → In xs x → p x ≡ false) → filter p xs ≡ []
+none_kept p [] none' = refl
+none_kept p (x ∷ xs) none' = ap (λ (b : Bool). cond b (x ∷ filter p xs) (filter p xs)) (none' x (inl refl)) ∙ none_kept p xs (λ y at. none' y (inr at))
+
+pub all_kept : (p : MapAct → Bool) (xs : List MapAct) → ((x : MapAct) → In xs x → p x ≡ true) → filter p xs ≡ xs
+all_kept p [] each = refl
+all_kept p (x ∷ xs) each = ap (λ (b : Bool). cond b (x ∷ filter p xs) (filter p xs)) (each x (inl refl))
+    ∙ ap (λ (l : List MapAct). x ∷ l) (all_kept p xs (λ y at. each y (inr at)))
 
 -- ---- what calls leave under a key
 
--- the act changes what is under the key
+-- the act changes what is under the key: it is a put, or a true insert or delete
 abbrev pub Changes : ℕ → MapAct → Type 0
-Changes k x = ((x.act.op ≡ Insert) ⊎ (x.act.op ≡ Delete)) × (x.act.answer ≡ true) × (x.act.key ≡ k)
+Changes k x = ((is_plain x ≡ false) ⊎ (((x.act.op ≡ Insert) ⊎ (x.act.op ≡ Delete)) × (x.act.answer ≡ true)))
+    × (x.act.key ≡ k)
 
-untouched_by_one : (m : PlainMap) (k : ℕ) (op : Op) (j : ℕ) (answer : Bool) (v : ℕ) → (((op ≡ Insert) ⊎ (op ≡ Delete)) × (answer ≡ true) × (j ≡ k) → ⊥) → map_changed m op j answer v k ≡ m k
-untouched_by_one m k Has j answer v none' = refl
-untouched_by_one m k Insert j true v none' = ap (λ (b : Bool). cond b (Some v) (m k)) (ne_eqb k j (λ e. none' (inl refl, refl, sym e)))
-untouched_by_one m k Insert j false v none' = refl
-untouched_by_one m k Delete j true v none' = ap (λ (b : Bool). cond b None (m k)) (ne_eqb k j (λ e. none' (inr refl, refl, sym e)))
-untouched_by_one m k Delete j false v none' = refl
+untouched_by_call : (m : PlainMap) (k : ℕ) (op : Op) (j : ℕ) (answer : Bool) (v : ℕ) → ((((op ≡ Insert) ⊎ (op ≡ Delete)) × (answer ≡ true)) × (j ≡ k) → ⊥) → map_changed m op j answer v k ≡ m k
+untouched_by_call m k Has j answer v none' = refl
+untouched_by_call m k Insert j true v none' = ap (λ (b : Bool). cond b (Some v) (m k)) (ne_eqb k j (λ e. none' ((inl refl, refl), sym e)))
+untouched_by_call m k Insert j false v none' = refl
+untouched_by_call m k Delete j true v none' = ap (λ (b : Bool). cond b None (m k)) (ne_eqb k j (λ e. none' ((inr refl, refl), sym e)))
+untouched_by_call m k Delete j false v none' = refl
+
+untouched_by_one : (m : PlainMap) (k : ℕ) (x : MapAct) → (Changes k x → ⊥) → map_then m x k ≡ m k
+untouched_by_one m k x none' = by x.left refl
+  where
+    by : (l : Option ℕ) → x.left ≡ l → map_left m l x.act x.value k ≡ m k
+    by None is = untouched_by_call m k x.act.op x.act.key x.act.answer x.value (λ c. none' (inr c.0, c.1))
+    by (Some v) is = ap (λ (b : Bool). cond b (Some v) (m k))
+        (ne_eqb k x.act.key (λ e. none' (inl (ap (λ (l : Option ℕ). is_none l) is), sym e)))
 
 abbrev pub NoneChanges : ℕ → List MapAct → Type 0
 NoneChanges k xs = (x : MapAct) → In xs x → Changes k x → ⊥
@@ -150,64 +184,87 @@ NoneChanges k xs = (x : MapAct) → In xs x → Changes k x → ⊥
 pub untouched : (xs : List MapAct) (m : PlainMap) (k : ℕ) → NoneChanges k xs → map_after m xs k ≡ m k
 untouched [] m k none' = refl
 untouched (x ∷ xs) m k none' =
-    untouched xs (map_changed m x.act.op x.act.key x.act.answer x.value) k (λ y at. none' y (inr at))
-    ∙ untouched_by_one m k x.act.op x.act.key x.act.answer x.value (none' x (inl refl))
+    untouched xs (map_then m x) k (λ y at. none' y (inr at)) ∙ untouched_by_one m k x (none' x (inl refl))
 
-put_by_one : (m : PlainMap) (k : ℕ) (op : Op) (j : ℕ) (answer : Bool) (v : ℕ) → op ≡ Insert → answer ≡ true → j ≡ k → map_changed m op j answer v k ≡ Some v
-put_by_one m k op j answer v o t e =
+put_by_call : (m : PlainMap) (k : ℕ) (op : Op) (j : ℕ) (answer : Bool) (v : ℕ) → op ≡ Insert → answer ≡ true → j ≡ k → map_changed m op j answer v k ≡ Some v
+put_by_call m k op j answer v o t e =
     subst (λ (p : Op). map_changed m p j answer v k ≡ Some v) (sym o)
     (subst (λ (b : Bool). map_changed m Insert j b v k ≡ Some v) (sym t) (ap (λ (b : Bool). cond b (Some v) (m k)) (eq-eqb k j (sym e))))
 
-taken_by_one : (m : PlainMap) (k : ℕ) (op : Op) (j : ℕ) (answer : Bool) (v : ℕ) → op ≡ Delete → answer ≡ true → j ≡ k → map_changed m op j answer v k ≡ None
-taken_by_one m k op j answer v o t e =
-    subst (λ (p : Op). map_changed m p j answer v k ≡ None) (sym o)
-    (subst (λ (b : Bool). map_changed m Delete j b v k ≡ None) (sym t) (ap (λ (b : Bool). cond b None (m k)) (eq-eqb k j (sym e))))
+put_by_one : (m : PlainMap) (k : ℕ) (x : MapAct) (v : ℕ) → PutsThere x v → x.act.key ≡ k → map_then m x k ≡ Some v
+put_by_one m k x v (inl (left, o, t, is)) e =
+    ap (λ (l : Option ℕ). map_left m l x.act x.value k) left
+    ∙ (put_by_call m k x.act.op x.act.key x.act.answer x.value o t e ∙ ap (λ (u : ℕ). Some u) is)
+put_by_one m k x v (inr left) e =
+    ap (λ (l : Option ℕ). map_left m l x.act x.value k) left
+    ∙ ap (λ (b : Bool). cond b (Some v) (m k)) (eq-eqb k x.act.key (sym e))
 
--- the last insert of a key that no later act changes
-pub put_last : (front back : List MapAct) (a : MapAct) (m : PlainMap) (k : ℕ) → a.act.op ≡ Insert → a.act.answer ≡ true → a.act.key ≡ k → NoneChanges k back → map_after m (front ++ a ∷ back) k ≡ Some a.value
-put_last [] back a m k o t e none' = untouched back (map_changed m a.act.op a.act.key a.act.answer a.value) k none' ∙ put_by_one m k a.act.op a.act.key a.act.answer a.value o t e
-put_last (x ∷ front) back a m k o t e none' = put_last front back a (map_changed m x.act.op x.act.key x.act.answer x.value) k o t e none'
+taken_by_one : (m : PlainMap) (k : ℕ) (x : MapAct) → x.left ≡ None → x.act.op ≡ Delete → x.act.answer ≡ true → x.act.key ≡ k → map_then m x k ≡ None
+taken_by_one m k x left o t e =
+    ap (λ (l : Option ℕ). map_left m l x.act x.value k) left
+    ∙ subst (λ (p : Op). map_changed m p x.act.key x.act.answer x.value k ≡ None) (sym o)
+    (subst (λ (b : Bool). map_changed m Delete x.act.key b x.value k ≡ None) (sym t) (ap (λ (b : Bool). cond b None (m k)) (eq-eqb k x.act.key (sym e))))
 
--- what a key has after these acts: what it had, what the last insert put, or nothing after a delete
+-- the last act that puts a value under a key that no later act changes
+pub put_last : (front back : List MapAct) (a : MapAct) (m : PlainMap) (k v : ℕ) → PutsThere a v → a.act.key ≡ k → NoneChanges k back → map_after m (front ++ a ∷ back) k ≡ Some v
+put_last [] back a m k v puts e none' = untouched back (map_then m a) k none' ∙ put_by_one m k a v puts e
+put_last (x ∷ front) back a m k v puts e none' = put_last front back a (map_then m x) k v puts e none'
+
+-- what a key has after these acts: what it had, what the last one put there, or nothing after a delete
 pub data Last (xs : List MapAct) (m : PlainMap) (k : ℕ) : Type 0 where
   Untouched : NoneChanges k xs → Last xs m k
-  Put : (front back : List MapAct) (a : MapAct) → xs ≡ front ++ a ∷ back → a.act.op ≡ Insert → a.act.answer ≡ true → a.act.key ≡ k → NoneChanges k back → Last xs m k
+  Put : (front back : List MapAct) (a : MapAct) (v : ℕ) → xs ≡ front ++ a ∷ back → PutsThere a v → a.act.key ≡ k → NoneChanges k back → Last xs m k
   Taken : map_after m xs k ≡ None → Last xs m k
 
-no_option : (op : Op) (answer : Bool) (j k : ℕ) → (((op ≡ Insert) × (answer ≡ true) × (j ≡ k)) ⊎ ((op ≡ Delete) × (answer ≡ true) × (j ≡ k))) ⊎ (((op ≡ Insert) ⊎ (op ≡ Delete)) × (answer ≡ true) × (j ≡ k) → ⊥)
-no_option Has answer j k = inr (λ c. by c.0)
+-- what an act does to what is under a key
+data Deed (x : MapAct) (k : ℕ) : Type 0 where
+  Puts : (v : ℕ) → PutsThere x v → x.act.key ≡ k → Deed x k
+  Takes : x.left ≡ None → x.act.op ≡ Delete → x.act.answer ≡ true → x.act.key ≡ k → Deed x k
+  Leaves : (Changes k x → ⊥) → Deed x k
+
+deed_of : (x : MapAct) (k : ℕ) → Deed x k
+deed_of x k = by (x.act.key == k) refl x.left refl x.act.op refl x.act.answer refl
   where
-    by : (Has ≡ Insert) ⊎ (Has ≡ Delete) → ⊥
-    by (inl e) = cc
-    by (inr e) = cc
-no_option op false j k = inr (λ c. true≢false (sym c.1))
-no_option Insert true j k = by (j == k) refl
-  where
-    by : (b : Bool) → (j == k) ≡ b → (((Insert ≡ Insert) × (true ≡ true) × (j ≡ k)) ⊎ ((Insert ≡ Delete) × (true ≡ true) × (j ≡ k))) ⊎ (((Insert ≡ Insert) ⊎ (Insert ≡ Delete)) × (true ≡ true) × (j ≡ k) → ⊥)
-    by true is = inl (inl (refl, refl, eqb-true j k is))
-    by false is = inr (λ c. true≢false (sym (eq-eqb j k c.2) ∙ is))
-no_option Delete true j k = by (j == k) refl
-  where
-    by : (b : Bool) → (j == k) ≡ b → (((Delete ≡ Insert) × (true ≡ true) × (j ≡ k)) ⊎ ((Delete ≡ Delete) × (true ≡ true) × (j ≡ k))) ⊎ (((Delete ≡ Insert) ⊎ (Delete ≡ Delete)) × (true ≡ true) × (j ≡ k) → ⊥)
-    by true is = inl (inr (refl, refl, eqb-true j k is))
-    by false is = inr (λ c. true≢false (sym (eq-eqb j k c.2) ∙ is))
+    by : (b : Bool) → (x.act.key == k) ≡ b → (l : Option ℕ) → x.left ≡ l → (op : Op) → x.act.op ≡ op
+        → (t : Bool) → x.act.answer ≡ t → Deed x k
+    by false other l left op o t answer = Leaves (λ c. true≢false (sym (eq-eqb x.act.key k c.1) ∙ other))
+    by true same (Some v) left op o t answer = Puts v (inr left) (eqb-true x.act.key k same)
+    by true same None left Insert o true answer =
+        Puts x.value (inl (left, o, answer, refl)) (eqb-true x.act.key k same)
+    by true same None left Delete o true answer = Takes left o answer (eqb-true x.act.key k same)
+    by true same None left op o false answer = Leaves (λ c. not c.0)
+      where
+        not : (is_plain x ≡ false) ⊎ (((x.act.op ≡ Insert) ⊎ (x.act.op ≡ Delete)) × (x.act.answer ≡ true)) → ⊥
+        not (inl put) = true≢false (sym (ap (λ (l : Option ℕ). is_none l) left) ∙ put)
+        not (inr call) = true≢false (sym call.1 ∙ answer)
+    by true same None left Has o true answer = Leaves (λ c. not c.0)
+      where
+        is_has : (Has ≡ Insert) ⊎ (Has ≡ Delete) → ⊥
+        is_has (inl e) = cc
+        is_has (inr e) = cc
+
+        not : (is_plain x ≡ false) ⊎ (((x.act.op ≡ Insert) ⊎ (x.act.op ≡ Delete)) × (x.act.answer ≡ true)) → ⊥
+        not (inl put) = true≢false (sym (ap (λ (l : Option ℕ). is_none l) left) ∙ put)
+        not (inr (inl e, t)) = is_has (inl (sym o ∙ e))
+        not (inr (inr e, t)) = is_has (inr (sym o ∙ e))
 
 pub last_of : (xs : List MapAct) (m : PlainMap) (k : ℕ) → Last xs m k
 last_of [] m k = Untouched (λ x at. absurd at)
-last_of (x ∷ xs) m k = by (last_of xs (map_changed m x.act.op x.act.key x.act.answer x.value) k)
+last_of (x ∷ xs) m k = by (last_of xs (map_then m x) k)
   where
-    first : NoneChanges k xs → (((x.act.op ≡ Insert) × (x.act.answer ≡ true) × (x.act.key ≡ k)) ⊎ ((x.act.op ≡ Delete) × (x.act.answer ≡ true) × (x.act.key ≡ k))) ⊎ (Changes k x → ⊥) → Last (x ∷ xs) m k
-    first none' (inl (inl put)) = Put [] xs x refl put.0 put.1 put.2 none'
-    first none' (inl (inr took)) = Taken (untouched xs (map_changed m x.act.op x.act.key x.act.answer x.value) k none' ∙ taken_by_one m k x.act.op x.act.key x.act.answer x.value took.0 took.1 took.2)
-    first none' (inr not) = Untouched nobody
+    first : NoneChanges k xs → Deed x k → Last (x ∷ xs) m k
+    first none' (Puts v puts e) = Put [] xs x v refl puts e none'
+    first none' (Takes left o t e) = Taken (untouched xs (map_then m x) k none' ∙ taken_by_one m k x left o t e)
+    first none' (Leaves not) = Untouched nobody
       where
         nobody : NoneChanges k (x ∷ xs)
         nobody y (inl is) c = not (subst (Changes k) (sym is) c)
         nobody y (inr at) c = none' y at c
 
-    by : Last xs (map_changed m x.act.op x.act.key x.act.answer x.value) k → Last (x ∷ xs) m k
-    by (Untouched none') = first none' (no_option x.act.op x.act.answer x.act.key k)
-    by (Put front back a are o t e none') = Put (x ∷ front) back a (ap (λ (l : List MapAct). x ∷ l) are) o t e none'
+    by : Last xs (map_then m x) k → Last (x ∷ xs) m k
+    by (Untouched none') = first none' (deed_of x k)
+    by (Put front back a v are puts e none') =
+        Put (x ∷ front) back a v (ap (λ (l : List MapAct). x ∷ l) are) puts e none'
     by (Taken is) = Taken is
 
 -- ---- a plain set and a plain map with its keys
@@ -237,10 +294,14 @@ agree_step S m Delete j true v agree k is_key = by (k == j) refl
     by true is = (λ there. absurd (there.1 (eqb-true k j is)), λ u e. absurd (none-some u e))
     by false is = (λ there. (agree k is_key).0 there.0, λ u e. ((agree k is_key).1 u e, λ same. true≢false (sym (eq-eqb k j same) ∙ is)))
 
-pub agree_after : (xs : List MapAct) (S last : ℕ → Type 0) (m : PlainMap) → Agree S m → Replays S (map act_of xs) last → Agree last (map_after m xs)
-agree_after [] S last m agree r = λ k is_key. (λ there. (agree k is_key).0 ((r k is_key).1 there), λ v is. (r k is_key).0 ((agree k is_key).1 v is))
-agree_after (x ∷ xs) S last m agree r =
-    agree_after xs (changed S x.act.op x.act.key x.act.answer) last (map_changed m x.act.op x.act.key x.act.answer x.value) (agree_step S m x.act.op x.act.key x.act.answer x.value agree) r.2
+-- a put of a key that is there
+pub agree_put : (S : ℕ → Type 0) (m : PlainMap) (a : Act) (old new : ℕ) → S a.key → Agree S m → Agree S (map_left m (Some new) a old)
+agree_put S m a old new has agree k is_key = by (k == a.key) refl
+  where
+    by : (b : Bool) → (k == a.key) ≡ b → (S k → (u : ℕ) × (cond b (Some new) (m k) ≡ Some u))
+        × ((u : ℕ) → cond b (Some new) (m k) ≡ Some u → S k)
+    by true is = (λ there. (new, refl), λ u e. subst S (sym (eqb-true k a.key is)) has)
+    by false is = agree k is_key
 
 -- ---- values for the acts of a plain set
 
@@ -259,34 +320,65 @@ value_for S m Insert j false put agree is_key gives = let r = (agree j is_key).0
 value_for S m Delete j true put agree is_key gives = let r = (agree j is_key).0 gives in (r.0, r.1, λ o t. cc)
 value_for S m Delete j false put agree is_key gives = (0, none_of m j (λ v is. gives ((agree j is_key).1 v is)), λ o t. cc)
 
--- the acts of a plain set with values, of which those of the inserts are given
-pub record Valued (m : PlainMap) (acts : List Act) (Good : Act → ℕ → Type 0) : Type 0 where
+-- the acts of a plain set with values, of which those of the inserts are given. After them the map has
+-- the keys of the set
+pub record Valued (m : PlainMap) (acts : List Act) (last : ℕ → Type 0) (Good : Act → ℕ → Type 0) : Type 0 where
   pub xs : List MapAct
   pub are : map act_of xs ≡ acts
+  pub plain : (x : MapAct) → In xs x → x.left ≡ None
   pub gives : GivesEach m xs
   pub good : (x : MapAct) → In xs x → x.act.op ≡ Insert → x.act.answer ≡ true → Good x.act x.value
+  pub agree : Agree last (map_after m xs)
 
-pub valued : (Good : Act → ℕ → Type 0) (acts : List Act) (S last : ℕ → Type 0) (m : PlainMap) → Agree S m → Replays S acts last → ((a : Act) → IsAmong acts a → (v : ℕ) × Good a v) → Valued m acts Good
-valued Good [] S last m agree r puts = record { xs = []; are = refl; gives = tt; good = λ x at. absurd at }
+pub valued : (Good : Act → ℕ → Type 0) (acts : List Act) (S last : ℕ → Type 0) (m : PlainMap) → Agree S m → Replays S acts last → ((a : Act) → IsAmong acts a → (v : ℕ) × Good a v) → Valued m acts last Good
+valued Good [] S last m agree r puts = record {
+  xs = [];
+  are = refl;
+  plain = λ x at. absurd at;
+  gives = tt;
+  good = λ x at. absurd at;
+  agree = λ k is_key. (λ there. (agree k is_key).0 ((r k is_key).1 there), λ v is. (r k is_key).0 ((agree k is_key).1 v is));
+}
 valued Good (a ∷ acts) S last m agree r puts =
     let p = puts a (inl refl) in
     let v = value_for S m a.op a.key a.answer p.0 agree r.0 r.1 in
     with_rest p v (valued Good acts (changed S a.op a.key a.answer) last (map_changed m a.op a.key a.answer v.0) (agree_step S m a.op a.key a.answer v.0 agree) r.2 (λ b among. puts b (inr among)))
   where
-    with_rest : (p : (v : ℕ) × Good a v) → (v : (u : ℕ) × (m a.key ≡ found_by a.op a.answer u) × (a.op ≡ Insert → a.answer ≡ true → u ≡ p.0)) → Valued (map_changed m a.op a.key a.answer v.0) acts Good → Valued m (a ∷ acts) Good
+    with_rest : (p : (v : ℕ) × Good a v) → (v : (u : ℕ) × (m a.key ≡ found_by a.op a.answer u) × (a.op ≡ Insert → a.answer ≡ true → u ≡ p.0)) → Valued (map_changed m a.op a.key a.answer v.0) acts last Good → Valued m (a ∷ acts) last Good
     with_rest p v rest = record {
-      xs = record { act = a; value = v.0 } ∷ rest.xs;
+      xs = record { act = a; value = v.0; left = None } ∷ rest.xs;
       are = ap (λ (l : List Act). a ∷ l) rest.are;
+      plain = each_plain;
       gives = (v.1, rest.gives);
       good = each;
+      agree = rest.agree;
     }
       where
-        each : (x : MapAct) → In (record { act = a; value = v.0 } ∷ rest.xs) x → x.act.op ≡ Insert → x.act.answer ≡ true → Good x.act x.value
+        each_plain : (x : MapAct) → In (record { act = a; value = v.0; left = None } ∷ rest.xs) x → x.left ≡ None
+        each_plain x (inl is) = ap (λ (y : MapAct). y.left) (sym is)
+        each_plain x (inr at) = rest.plain x at
+
+        each : (x : MapAct) → In (record { act = a; value = v.0; left = None } ∷ rest.xs) x → x.act.op ≡ Insert → x.act.answer ≡ true → Good x.act x.value
         each x (inl is) = subst (λ (y : MapAct). y.act.op ≡ Insert → y.act.answer ≡ true → Good y.act y.value) is (λ o t. subst (Good a) (sym (v.2 o t)) p.1)
         each x (inr at) = rest.good x at
+
+-- what the map has under the key of an act right before it
+pub gives_at : (front back : List MapAct) (x : MapAct) (m : PlainMap) → GivesEach m (front ++ x ∷ back) → map_after m front x.act.key ≡ found_by x.act.op x.act.answer x.value
+gives_at [] back x m g = g.0
+gives_at (y ∷ front) back x m g = gives_at front back x (map_then m y) g.1
 
 -- each act of a plain set is for a key
 pub keys_of_acts : (acts : List Act) (S last : ℕ → Type 0) → Replays S acts last → (a : Act) → IsAmong acts a → IsKey a.key
 keys_of_acts [] S last r a among = absurd among
 keys_of_acts (b ∷ acts) S last r a (inl is) = subst (λ (c : Act). IsKey c.key) is r.0
 keys_of_acts (b ∷ acts) S last r a (inr among) = keys_of_acts acts (changed S b.op b.key b.answer) last r.2 a among
+
+-- ---- lists joined
+
+pub gives_join : (xs ys : List MapAct) (m : PlainMap) → GivesEach m xs → GivesEach (map_after m xs) ys → GivesEach m (xs ++ ys)
+gives_join [] ys m g h = h
+gives_join (x ∷ xs) ys m g h = (g.0, gives_join xs ys (map_then m x) g.1 h)
+
+pub after_join : (xs ys : List MapAct) (m : PlainMap) → map_after m (xs ++ ys) ≡ map_after (map_after m xs) ys
+after_join [] ys m = refl
+after_join (x ∷ xs) ys m = after_join xs ys (map_then m x)

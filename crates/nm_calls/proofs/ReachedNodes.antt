@@ -12,7 +12,7 @@ use Rattle.nm_edge.specs.declared.edge.Side.{Side}
 use Rattle.nm_edge.specs.declared.edge.Side.TheVariants.{Left, Right}
 use Rattle.nm_edge.specs.declared.node.NodeId.{NodeId}
 use Rattle.nm_model.specs.declared.event.Event.{Event}
-use Rattle.nm_model.specs.declared.event.Event.TheVariants.{Advance, Announce, Claim, Fill, Flag, Give, Leave, LeaveWith, Link, Splice, Tag}
+use Rattle.nm_model.specs.declared.event.Event.TheVariants.{Advance, Announce, Claim, Fill, Flag, Give, Leave, LeaveWith, Link, Splice, Swap, Tag}
 use Rattle.nm_model.specs.declared.event.Field.TheVariants.{Birth, Edge as EdgeOn, Key}
 use Rattle.nm_model.specs.declared.memory.Node.{Node}
 use Rattle.nm_model.specs.declared.reply.Reply.{Reply}
@@ -66,9 +66,10 @@ birth_kept m w (Link p side leaf new) (Ok (Linked n)) x other = put_birth m p si
 birth_kept m w (Flag p side leaf) (Ok (Flagged n)) x other = put_birth m p side (record { slot = leaf; flag = true; tag = false }) x
 birth_kept m w (Tag p side) (Ok (Was e)) x other = put_birth m p side (tagged e) x
 birth_kept m w (Splice a side s p keep) (Ok (Cut ns)) x other = put_birth m a side (untagged (edge m p keep)) x
+birth_kept m w (Swap p side leaf new) (Ok (Cut ns)) x other = put_birth m p side (to new) x
 birth_kept m w e o x other = refl
 
-words_push : (m : Memory) (ts : List Turn) (t : Turn) → words_from m (ts ++ t ∷ []) ≡ after_turn (words_from m ts) t
+pub words_push : (m : Memory) (ts : List Turn) (t : Turn) → words_from m (ts ++ t ∷ []) ≡ after_turn (words_from m ts) t
 words_push m [] t = refl
 words_push m (u ∷ ts) t = words_push (after_turn m u) ts t
 
@@ -78,7 +79,24 @@ link_keeps_birth L before w p side old new n x =
     ap (λ (m : Memory). named m x) (words_push (opening L) before (record { worker = w; event = Link p side old new; outcome = Ok (Linked n) }))
     ∙ (λ i. record { slot = x; birth = put_birth (words_after L before) p side (to new) x i })
 
+-- nor does a swap
+pub swap_keeps_birth : (L : Layout) (before : List Turn) (w p : ℕ) (side : Side) (old new : ℕ) (ns : List NodeId)
+    (x : ℕ) → named (words_after L (before ++ record
+    { worker = w; event = Swap p side old new; outcome = Ok (Cut ns) } ∷ [])) x ≡ named (words_after L before) x
+swap_keeps_birth L before w p side old new ns x =
+    ap (λ (m : Memory). named m x) (words_push (opening L) before
+    (record { worker = w; event = Swap p side old new; outcome = Ok (Cut ns) }))
+    ∙ (λ i. record { slot = x; birth = put_birth (words_after L before) p side (to new) x i })
+
 -- ---- the node that a turn cuts
+
+-- each node of a cut has the birth that it had right before
+pub cut_births : (m : Memory) (t : Turn) → CutsItsNodes m t → (ns : List NodeId) → t.outcome ≡ Ok (Cut ns)
+    → ns ≡ map (named m) (slots_of ns)
+cut_births m t c ns is = elim (c.splices ns is) [
+  | inl splice ↦ splice.births
+  | inr swap ↦ swap.nodes ∙ sym (ap (λ (ms : List NodeId). map (named m) (slots_of ms)) swap.nodes)
+]
 
 none_there : (n : NodeId) → Contains [] n → ⊥
 none_there n c = let below = c.1 in omega (arith, below)
@@ -97,7 +115,8 @@ pub cut_has_birth : (m : Memory) (t : Turn) → CutsItsNodes m t → (n : NodeId
 cut_has_birth m t cuts n c = by (cut_outcome t.outcome n c)
   where
     by : (ns : List NodeId) × (t.outcome ≡ Ok (Cut ns)) × Contains ns n → n ≡ named m n.slot
-    by (ns, o, among) = in_named m (slots_of ns) n (subst (λ (ks : List NodeId). Contains ks n) (cuts.splices ns o).births among)
+    by (ns, o, among) = in_named m (slots_of ns) n
+        (subst (λ (ks : List NodeId). Contains ks n) (cut_births m t cuts ns o) among)
 
 pub cut_is_named : (m : Memory) (t : Turn) → CutsItsNodes m t → (x : ℕ) → Contains (slots_of (nodes_cut_of t.outcome)) x → Contains (nodes_cut_of t.outcome) (named m x)
 cut_is_named m t cuts x c = subst (λ (n : NodeId). Contains (nodes_cut_of t.outcome) n) (cut_has_birth m t cuts there.0 there.1 ∙ ap (named m) there.2) there.1

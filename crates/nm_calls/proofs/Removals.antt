@@ -67,6 +67,7 @@ cleans_then o p q same a b = record {
   private = b.private ∙ a.private;
   call = b.call ∙ a.call;
   linked = b.linked ∙ a.linked;
+  swapped = b.swapped ∙ a.swapped;
   flagged = b.flagged ∙ a.flagged;
   ledgers = ledgers_then o p q same a.ledgers b.ledgers;
 }
@@ -79,6 +80,7 @@ injects_then o p q same a b = record {
   private = b.private ∙ a.private;
   call = b.call ∙ a.call;
   linked = b.linked ∙ a.linked;
+  swapped = b.swapped ∙ a.swapped;
   ledgers = ledgers_then o p q same a.ledgers b.ledgers;
 }
 

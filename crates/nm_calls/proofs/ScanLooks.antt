@@ -513,7 +513,16 @@ goes_here b p pinned = record {
 }
 
 pub only_here : (p : PassView) → OnlyLooks p p
-only_here p = record { epochs = refl; private = refl; ledgers = refl; call = refl; linked = refl; flagged = refl; cut = refl }
+only_here p = record {
+  epochs = refl;
+  private = refl;
+  ledgers = refl;
+  call = refl;
+  linked = refl;
+  swapped = refl;
+  flagged = refl;
+  cut = refl;
+}
 
 -- a stretch that has ended, from the bound up to which the scan has come
 pub shown_so : (side : Side) (end n : ℕ) (p : PassView) (d : Stretch) → IsStretch side end n p d → d.next.slot ≡ 0 → (start at next : ℕ) (old new : List ℕ) → at ≡ entry_of side d → next ≡ exit_of side d → Lies side start at → new ≡ old ++ found_in d → IsRangeBy side (HasEndedSo p) start at old → IsRangeBy side (HasEndedSo p) start next new

@@ -6,21 +6,18 @@ use Rattle.std.proofs.lemmas.Option.{none-some, same_Some, slice_get-get_or}
 use Rattle.nm_edge.specs.Layouts.{Layout}
 use Rattle.nm_edge.specs.declared.edge.Side.{Side}
 use Rattle.nm_edge.specs.declared.node.NodeId.{NodeId}
-use Rattle.nm_model.specs.declared.event.Event.TheVariants.{Link}
-use Rattle.nm_model.specs.declared.reply.Reply.TheVariants.{Linked}
 use Rattle.nm_model.specs.declared.trace.Turn.{Turn}
 use Rattle.nm_model.specs.Headline.{AreFreedInTurn, Headline, OnePlace, cuts_of, freed_by, is_among, waits_of, words_after}
 use Rattle.nm_model.specs.Headline.Place.{OnPath as ByPath, Waits as WaitsThere}
 use Rattle.nm_model.specs.Memory.{named}
 use Rattle.nm_model.specs.Paths.{Reached, at}
-use Rattle.nm_steps.specs.Rules.{answered_turn}
 use Rattle.nm_calls.specs.Maps.{WasInHands}
-use Rattle.nm_calls.specs.OnceBack.{HasLinked}
+use Rattle.nm_calls.specs.OnceBack.{HasPutIn}
 use Rattle.nm_calls.specs.StoredLeaves.{IsAtOnePlace, LeafIsAt, LeafPlace, StoredValuesAreAtOnePlace}
 use Rattle.nm_calls.specs.StoredLeaves.LeafPlace.{IsFreed, OnPath, Waits}
 use Rattle.nm_calls.proofs.ComingBack.{IsTwice, not_freed_twice}
 use Rattle.nm_calls.proofs.HandedBack.{in_among}
-use Rattle.nm_calls.proofs.LeavesInHands.{in_hands_then, leaf_high, leaf_low, leaf_named, leaf_reached}
+use Rattle.nm_calls.proofs.LeavesInHands.{from_filter, in_hands_then, leaf_high, leaf_low, leaf_named, leaf_reached}
 use Rattle.nm_calls.proofs.ReachedNodes.{NodeFate, node_fate}
 use Rattle.nm_calls.proofs.ReachedNodes.NodeFate.{StaysIn, WasCutOff}
 use Rattle.nm_calls.proofs.Unheld.{among_in, in_filter}
@@ -35,19 +32,6 @@ there_at (m ∷ ms) (suc i) n is = let r = there_at ms i n is in let below = r.1
 
 index_of : (ns : List NodeId) (n : NodeId) → (c : Contains ns n) → slice_get ns c.0 ≡ Some n
 index_of ns n c = slice_get-get_or ns c.0 n c.1 ∙ ap (λ (m : NodeId). Some m) c.2
-
-from_filter : (p : NodeId → Bool) (ns : List NodeId) (i : ℕ) (n : NodeId) → slice_get (filter p ns) i ≡ Some n → Contains ns n × (p n ≡ true)
-from_filter p [] zero n is = absurd (none-some n is)
-from_filter p [] (suc i) n is = absurd (none-some n is)
-from_filter p (m ∷ ms) i n is = by (p m) refl i is (λ j. from_filter p ms j n)
-  where
-    more : Contains ms n × (p n ≡ true) → Contains (m ∷ ms) n × (p n ≡ true)
-    more r = let below = r.0.1 in ((suc r.0.0, omega (arith, below), r.0.2), r.1)
-
-    by : (b : Bool) → p m ≡ b → (j : ℕ) → slice_get (cond b (m ∷ filter p ms) (filter p ms)) j ≡ Some n → ((k : ℕ) → slice_get (filter p ms) k ≡ Some n → Contains ms n × (p n ≡ true)) → Contains (m ∷ ms) n × (p n ≡ true)
-    by true passes zero at rest = ((0, omega arith, same_Some m n at), ap p (sym (same_Some m n at)) ∙ passes)
-    by true passes (suc j) at rest = more (rest j at)
-    by false other j at rest = more (rest j at)
 
 split_at' : (ns : List NodeId) (j : ℕ) (n : NodeId) → slice_get ns j ≡ Some n → (first : List NodeId) × (last : List NodeId) × (ns ≡ first ++ n ∷ last)
 split_at' [] zero n is = absurd (none-some n is)
@@ -155,14 +139,12 @@ reached_node_is_placed L turns h so_far rest are x low most reached = placed L t
 pub stored_values_are_at_one_place : StoredValuesAreAtOnePlace
 stored_values_are_at_one_place L turns h was stores s x there leaf is =
     subst (IsAtOnePlace L turns) (leaf_named L turns x leaf is)
-    (reached_node_is_placed L turns h (link.before ++ its ∷ []) link.since (link.are ∙ sym (append_assoc link.before (its ∷ []) link.since)) leaf.slot
+    (reached_node_is_placed L turns h (put_in.before ++ put_in.put ∷ []) put_in.since
+    (put_in.are ∙ sym (append_assoc put_in.before (put_in.put ∷ []) put_in.since)) leaf.slot
     (leaf_low L turns h x leaf is hands) (leaf_high L turns h x leaf is hands) (leaf_reached L turns h x leaf is hands))
   where
-    link : HasLinked L turns x.worker leaf
-    link = is.link
-
-    its : Turn
-    its = answered_turn x.worker (Link link.parent link.side link.old link.new) (Linked link.node)
+    put_in : HasPutIn L turns x.worker leaf
+    put_in = is.put_in
 
     hands : WasInHands L turns x
     hands = in_hands_then L was turns stores s x there

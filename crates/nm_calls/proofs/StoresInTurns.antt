@@ -3,6 +3,8 @@ use Rattle.std.proofs.Common.{◌≡◌, ℕ, zero, suc, List, [], ◌∷◌, �
 use Rattle.std.specs.Prelude.{All}
 use Rattle.nm_edge.specs.Layouts.{Layout, IsLayout}
 use Rattle.nm_model.specs.declared.event.Event.{Event}
+use Rattle.nm_model.specs.declared.event.Event.TheVariants.{Link, Swap}
+use Rattle.nm_model.specs.declared.reply.Reply.TheVariants.{Cut}
 use Rattle.nm_model.specs.declared.trace.Turn.{Turn}
 use Rattle.nm_model.specs.Headline.{has_after, words_after}
 use Rattle.nm_model.specs.Memory.{child, opening}
@@ -17,8 +19,9 @@ use Rattle.nm_steps.specs.declared.view.View.{View}
 use Rattle.nm_steps.specs.Rules.{Extends, IsStored, LinksHaveValues, WasHeld, WereHeld}
 use Rattle.nm_steps.specs.Values.{HasSeenStores}
 use Rattle.nm_steps.proofs.Growing.{goes_on_itself}
-use Rattle.nm_calls.specs.Maps.{HoldsStores, LinkedLeavesHaveValues, WasInHands}
+use Rattle.nm_calls.specs.Maps.{HoldsStores, LinkedLeavesHaveValues, SwappedLeavesHaveValues, WasInHands}
 use Rattle.nm_calls.proofs.LinkedLeaves.{LinkAt, far_is, link_at}
+use Rattle.nm_calls.proofs.StandingFlags.{TurnAt, turn_at}
 use Rattle.nm_calls.proofs.WonLinks.{link}
 
 module _ (L : Layout) (fits : IsLayout L) (events : List (ℕ × Event)) where
@@ -65,10 +68,21 @@ module _ (L : Layout) (fits : IsLayout L) (events : List (ℕ × Event)) where
   linked_leaves keys stores linked before since w p side s old new n is fresh =
       subst (λ (m : ℕ). IsStored stores w m (child (words_after L before) new s)) (sym (ap (λ (ts : List Turn). length (part_of w ts)) x.first_is))
       (subst (IsStored stores w (length (part_of w (trace_in (ordered L) x.early)))) ((link L fits x.early x.keyed w p side old new n x.won).drafts.is_far ∙ sym (far_is L fits events before w p side s old new n x fresh))
-      (linked x.early x.others w p side old new x.whole))
+      (linked x.early x.others w (Link p side old new) x.whole))
     where
       x : LinkAt L events before w p side old new n
       x = link_at L events keys before since w p side old new n is
+
+-- ---- swaps
+
+-- each leaf that was swapped in has its store
+pub swapped_leaves : (L : Layout) (events : List (ℕ × Event)) → All (λ t. HasKey t.1) events → (stores : List Stored)
+    → LinksHaveValues L events stores → SwappedLeavesHaveValues (trace_in (ordered L) events) stores
+swapped_leaves L events keys stores linked before since w p side old new ns is =
+    let x : TurnAt L events before w (Swap p side old new) (Cut ns)
+    = turn_at L events keys before since w (Swap p side old new) (Cut ns) is in
+    subst (λ (ts : List Turn). IsStored stores w (length (part_of w ts)) new) (sym x.first_is)
+    (linked x.early x.others w (Swap p side old new) x.whole)
 
 -- the stores that a view has seen, from any moment of its past on
 pub stores_in_turns : (v : View) → IsLayout v.layout → HasSeenStores v → (was : List Turn) → Extends v.past was → HoldsStores v.layout was v.past v.stores
@@ -78,5 +92,7 @@ stores_in_turns v fits s was from = record {
   ends = goes_on_itself v.past;
   held = subst (λ (ts : List Turn). All (WasInHands v.layout ts) v.stores) (sym s.run.are) (were_in_hands v.layout fits s.run.events v.stores s.held);
   linked = subst (λ (ts : List Turn). LinkedLeavesHaveValues v.layout ts v.stores) (sym s.run.are) (linked_leaves v.layout fits s.run.events s.run.keys v.stores s.linked);
+  swapped = subst (λ (ts : List Turn). SwappedLeavesHaveValues ts v.stores) (sym s.run.are)
+      (swapped_leaves v.layout s.run.events s.run.keys v.stores s.linked);
   order = s.order;
 }

@@ -1,4 +1,4 @@
--- While no act deletes a key, no turn cuts off the leaf that has it.
+-- While no act deletes a key, and no swap takes out its leaf, no turn cuts off the leaf that has it.
 use Rattle.std.proofs.Common.{◌≡◌, inl, inr, ℕ, zero, suc, ◌+◌, ◌<◌, ◌≤◌, Bool, true, false, cond, List, [], ◌∷◌, ◌++◌, append_assoc, length, map, refl, sym, ap, subst, ◌∙◌, arith}
 use Rattle.std.specs.Prelude.{All, Contains, Result, Ok}
 use Rattle.std.proofs.lemmas.List.{length-append}
@@ -10,14 +10,15 @@ use Rattle.nm_model.specs.declared.reply.Reply.{Reply}
 use Rattle.nm_model.specs.declared.reply.Reply.TheVariants.{Cut}
 use Rattle.nm_model.specs.declared.trace.Turn.{Turn}
 use Rattle.nm_model.specs.Acts.{Act, IsAmong, leaf_keys}
-use Rattle.nm_model.specs.Headline.{nodes_cut_of, slots_of, words_after}
+use Rattle.nm_model.specs.Headline.{CutsItsNodes, IsWonSplice, IsWonSwap, nodes_cut_of, slots_of, words_after}
 use Rattle.nm_model.specs.Histories.{IsHistory}
-use Rattle.nm_model.specs.Memory.{Memory, is_leaf, node}
+use Rattle.nm_model.specs.Memory.{Memory, is_leaf, named, node}
 use Rattle.nm_model.specs.Ordered.{HasKey, ordered, trace_in}
 use Rattle.nm_theorem.specs.EachRun.{IsTrueDelete}
 use Rattle.nm_steps.specs.declared.view.Stored.{Stored}
-use Rattle.nm_calls.specs.KeptValues.{NoneCuts, StaysInMap}
+use Rattle.nm_calls.specs.KeptValues.{NoneCuts, NoneSwapsOut, StaysInMap}
 use Rattle.nm_calls.specs.Maps.{HoldsStores, IsInMap}
+use Rattle.nm_theorem.proofs.HeadlineOfRuns.{each_run_has_it}
 use Rattle.nm_calls.proofs.KeptValues.{leaves_keep_their_values}
 
 -- ---- a cut of a leaf is an act that deletes its key
@@ -26,21 +27,21 @@ cut_of : (o : Result Reply Refused) (s : ℕ) → Contains (slots_of (nodes_cut_
 cut_of (Ok (Cut ns)) s c = (ns, refl, c)
 cut_of _ s c = absurd (let below = c.1 in omega (arith, below))
 
-among_left : (xs ys : List Act) (a : Act) → IsAmong xs a → IsAmong (xs ++ ys) a
+pub among_left : (xs ys : List Act) (a : Act) → IsAmong xs a → IsAmong (xs ++ ys) a
 among_left [] ys a at = absurd at
 among_left (x ∷ xs) ys a (inl is) = inl is
 among_left (x ∷ xs) ys a (inr at) = inr (among_left xs ys a at)
 
-among_right : (xs ys : List Act) (a : Act) → IsAmong ys a → IsAmong (xs ++ ys) a
+pub among_right : (xs ys : List Act) (a : Act) → IsAmong ys a → IsAmong (xs ++ ys) a
 among_right [] ys a at = at
 among_right (x ∷ xs) ys a at = inr (among_right xs ys a at)
 
-act_of : (row : List Act) (k : ℕ) → Contains (map (λ (a : Act). a.key) row) k → (a : Act) × IsAmong row a × (a.key ≡ k)
+pub act_of : (row : List Act) (k : ℕ) → Contains (map (λ (a : Act). a.key) row) k → (a : Act) × IsAmong row a × (a.key ≡ k)
 act_of [] k c = absurd (let below = c.1 in omega (arith, below))
 act_of (a ∷ row) k (zero, below, at) = (a, inl refl, at)
 act_of (a ∷ row) k (suc i, below, at) = let r = act_of row k (i, omega (arith, below), at) in (r.0, inr r.1, r.2)
 
-key_among : (m : Memory) (xs : List ℕ) (s : ℕ) → Contains xs s → is_leaf (node m s) ≡ true → Contains (leaf_keys m xs) (node m s).key
+pub key_among : (m : Memory) (xs : List ℕ) (s : ℕ) → Contains xs s → is_leaf (node m s) ≡ true → Contains (leaf_keys m xs) (node m s).key
 key_among m [] s c leaf = absurd (let below = c.1 in omega (arith, below))
 key_among m (x ∷ xs) s (zero, below, at) leaf =
     subst (λ (b : Bool). Contains (cond b ((node m x).key ∷ leaf_keys m xs) (leaf_keys m xs)) (node m s).key) (sym (ap (λ (y : ℕ). is_leaf (node m y)) at ∙ leaf))
@@ -50,6 +51,18 @@ key_among m (x ∷ xs) s (suc i, below, at) leaf = by (is_leaf (node m x)) (key_
     by : (b : Bool) → Contains (leaf_keys m xs) (node m s).key → Contains (cond b ((node m x).key ∷ leaf_keys m xs) (leaf_keys m xs)) (node m s).key
     by true c = let less = c.1 in (suc c.0, omega (arith, less), c.2)
     by false c = c
+
+-- a cut that is by no swap of this slot is by a splice
+by_splice : (m : Memory) (t : Turn) (ns : List NodeId) (s : ℕ) → CutsItsNodes m t → t.outcome ≡ Ok (Cut ns)
+    → Contains (slots_of ns) s → ((out : IsWonSwap m t.event ns) → s ≡ out.old → ⊥) → IsWonSplice m t.event ns
+by_splice m t ns s c is among plain = elim (c.splices ns is) [
+  | inl splice ↦ splice
+  | inr swap ↦ absurd (plain swap (alone swap.old (subst (λ (ms : List NodeId). Contains (slots_of ms) s) swap.nodes among)))
+]
+  where
+    alone : (x : ℕ) → Contains (slots_of (named m x ∷ [])) s → s ≡ x
+    alone x (zero, below, at) = sym at
+    alone x (suc i, below, at) = absurd (omega (arith, below))
 
 -- ---- so no turn cuts off the leaf
 
@@ -65,7 +78,9 @@ abbrev pub NoneDeletes : List Act → ℕ → ℕ → ℕ → Type 0
 NoneDeletes acts k start end = (a : Act) → IsAmong acts a → IsTrueDelete k a → IsWithin start end a.moment → ⊥
 
 module _ (L : Layout) (fits : IsLayout L) (events : List (ℕ × Event)) (keys : All (λ t. HasKey t.1) events) (stores : List Stored) (from : List Turn) (held : HoldsStores L from (trace_in (ordered L) events) stores) (start end k : ℕ)
-    (acts : List Act) (h : IsHistory L (trace_in (ordered L) events) acts) (none' : NoneDeletes acts k start end) (s : ℕ) where
+    (acts : List Act) (h : IsHistory L (trace_in (ordered L) events) acts) (none' : NoneDeletes acts k start end)
+    (plain : (so_far rest : List Turn) (t : Turn) → trace_in (ordered L) events ≡ so_far ++ t ∷ rest
+    → start ≤ length so_far → length so_far < end → NoneSwapsOut L so_far t k) (s : ℕ) where
   -- a leaf with the key in that slot
   abbrev pub IsThere : List Turn → Type 0
   IsThere so_far = (v : ℕ) × (i : IsInMap L so_far stores k v) × (i.slot ≡ s)
@@ -77,7 +92,10 @@ module _ (L : Layout) (fits : IsLayout L) (events : List (ℕ × Event)) (keys :
       let i = there.1 in
       let leaf : is_leaf (node m s) ≡ true = subst (λ (x : ℕ). is_leaf (node m x) ≡ true) there.2 i.leaf in
       let has_key : (node m s).key ≡ k = subst (λ (x : ℕ). (node m x).key ≡ k) there.2 i.has_key in
-      let row = h.cuts so_far rest t o.0 are o.1 in
+      let by_swap = plain so_far rest t are late soon in
+      let w = by_splice m t o.0 s ((each_run_has_it L fits true events keys).cuts so_far rest t are) o.1 o.2
+      (λ out at. by_swap o.0 out o.1 (ap (λ (x : ℕ). (node m x).key) (sym at) ∙ has_key)) in
+      let row = h.cuts so_far rest t o.0 are o.1 w.ancestor w.side w.successor w.parent w.keep w.is_splice in
       let a = act_of row.row k (subst (λ (l : List ℕ). Contains l k) (sym row.are_keys) (subst (Contains (leaf_keys m (slots_of o.0))) has_key (key_among m (slots_of o.0) s o.2 leaf))) in
       let among : IsAmong acts a.0 = subst (λ (l : List Act). IsAmong l a.0) (sym row.are) (among_right row.front (row.row ++ row.back) a.0 (among_left row.row row.back a.0 a.1)) in
       let is = row.each a.0 a.1 in

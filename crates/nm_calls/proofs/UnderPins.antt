@@ -105,10 +105,12 @@ guarded_values_stay_out L turns h so_far rest are guard pinned stays stores k v 
     guarded_leaves_are_not_freed L turns h so_far rest are guard pinned stays stores k v is (freed_if_back L turns x (leaf_of is) stored back)
 
 pub got_leaves_are_not_freed : GotLeavesAreNotFreed
-got_leaves_are_not_freed L turns h stores w k v got = guarded_leaves_are_not_freed L turns h got.so_far got.rest got.are w got.pinned got.stays stores k v got.gives
+got_leaves_are_not_freed L turns h was stores w k v got =
+    guarded_leaves_are_not_freed L turns h got.so_far got.rest got.are w got.pinned got.stays stores k v got.gives
 
 pub got_values_stay_out : GotValuesStayOut
-got_values_stay_out L turns h stores w k v got x stored back = got_leaves_are_not_freed L turns h stores w k v got (freed_if_back L turns x (got_leaf got) stored back)
+got_values_stay_out L turns h was stores w k v got x stored back =
+    got_leaves_are_not_freed L turns h was stores w k v got (freed_if_back L turns x (got_leaf got) stored back)
 
 -- ---- a pin that lasts while more is seen
 
@@ -148,11 +150,14 @@ stays_longer w now more rest same stays left = by (or_cases (list_any (leaves w)
     by (inr late) = quiet_stays w more (let sum = part_append w now more in omega (arith, sum, same)) late
 
 -- what a worker got under its pin, in more turns, by which its log has not grown
-pub got_longer : (L : Layout) (now more : List Turn) (stores : List Stored) (w k v : ℕ) → length (part_of w (now ++ more)) ≡ length (part_of w now) → WasMappedUnderPin L now stores w k (Some v) → WasMappedUnderPin L (now ++ more) stores w k (Some v)
-got_longer L now more stores w k v same got = record {
+pub got_longer : (L : Layout) (was now more : List Turn) (stores : List Stored) (w k v : ℕ)
+    → length (part_of w (now ++ more)) ≡ length (part_of w now) → WasMappedUnderPin L was now stores w k (Some v)
+    → WasMappedUnderPin L was (now ++ more) stores w k (Some v)
+got_longer L was now more stores w k v same got = record {
   so_far = got.so_far;
   rest = got.rest ++ more;
   are = ap (λ (ts : List Turn). ts ++ more) got.are ∙ append_assoc got.so_far got.rest more;
+  later = got.later;
   pinned = got.pinned;
   stays = stays_longer w now more got.rest same got.stays;
   gives = got.gives;

@@ -18,8 +18,8 @@ NodesAreFreedOnce = (L : Layout) (turns : List Turn) → Headline L turns
 -- if one turn cuts off the leaf that had the value, and a later one frees it, the worker has
 -- unpinned between that moment and the free
 abbrev pub PinnedValuesStayOut : Type 0
-PinnedValuesStayOut = (L : Layout) (turns : List Turn) → Headline L turns → (now : List Turn)
-    → (stores : List Stored) (w k v : ℕ) (got : WasMappedUnderPin L now stores w k (Some v))
+PinnedValuesStayOut = (L : Layout) (turns : List Turn) → Headline L turns → (was now : List Turn)
+    → (stores : List Stored) (w k v : ℕ) (got : WasMappedUnderPin L was now stores w k (Some v))
     → (mid between rest : List Turn) (cut free : Turn) (n : NodeId) → n.slot ≡ got.gives.slot
     → turns ≡ got.so_far ++ (mid ++ cut ∷ (between ++ free ∷ rest))
     → Contains (nodes_cut_of cut.outcome) n → Contains (nodes_freed_of free.outcome) n

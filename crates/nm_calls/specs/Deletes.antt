@@ -153,6 +153,7 @@ pub record OnlyInjects (p q : PassView) : Type 0 where
   pub private : (knowledge q.view).drafts ≡ (knowledge p.view).drafts
   pub call : (search q).call ≡ (search p).call
   pub linked : (search q).linked ≡ (search p).linked
+  pub swapped : (search q).swapped ≡ (search p).swapped
   pub ledgers : KeepsLedgers p q
 
 -- what the log shows after a try to flag; if it has flagged, also what a cleanup with that seek

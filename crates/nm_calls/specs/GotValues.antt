@@ -10,21 +10,22 @@ use Rattle.nm_calls.specs.Maps.{IsInMap, WasMappedUnderPin}
 use Rattle.nm_calls.specs.OnceBack.{ComesBack, IsStoreOf}
 
 -- the leaf that had the value which the worker got, with the birth that it had then
-abbrev pub got_leaf : {L : Layout} {turns : List Turn} {stores : List Stored} {w k v : ℕ}
-    → WasMappedUnderPin L turns stores w k (Some v) → NodeId
+abbrev pub got_leaf : {L : Layout} {was turns : List Turn} {stores : List Stored} {w k v : ℕ}
+    → WasMappedUnderPin L was turns stores w k (Some v) → NodeId
 got_leaf {L} got = named (words_after L got.so_far) got.gives.slot
 
 -- in all turns with the headline at whose end a worker is pinned since it got a value, no worker has
 -- freed the leaf that had the value
 abbrev pub GotLeavesAreNotFreed : Type 0
-GotLeavesAreNotFreed = (L : Layout) (turns : List Turn) → Headline L turns → (stores : List Stored)
-    → (w k v : ℕ) (got : WasMappedUnderPin L turns stores w k (Some v))
+GotLeavesAreNotFreed = (L : Layout) (turns : List Turn) → Headline L turns → (was : List Turn)
+    → (stores : List Stored) (w k v : ℕ) (got : WasMappedUnderPin L was turns stores w k (Some v))
     → Contains (freed_by turns) (got_leaf got) → ⊥
 
 -- so the value that was stored for this leaf has not come back to any worker
 abbrev pub GotValuesStayOut : Type 0
-GotValuesStayOut = (L : Layout) (turns : List Turn) → Headline L turns → (stores : List Stored)
-    → (w k v : ℕ) (got : WasMappedUnderPin L turns stores w k (Some v)) (x : Stored)
+GotValuesStayOut = (L : Layout) (turns : List Turn) → Headline L turns → (was : List Turn)
+    → (stores : List Stored) (w k v : ℕ) (got : WasMappedUnderPin L was turns stores w k (Some v))
+    → (x : Stored)
     → IsStoreOf L turns x (got_leaf got) → ComesBack L turns x → ⊥
 
 -- ---- under the pin of any worker

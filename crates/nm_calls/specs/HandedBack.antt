@@ -1,5 +1,5 @@
 -- Values that come back once the leaf that had them is freed.
-use Rattle.std.specs.Prelude.{◌≡◌, ◌≤◌, ℕ, true, List, ◌∷◌, ◌++◌, length, Contains}
+use Rattle.std.specs.Prelude.{◌≡◌, ◌≤◌, ℕ, true, false, List, ◌∷◌, ◌++◌, length, Contains}
 use Rattle.nm_edge.specs.Layouts.{Layout}
 use Rattle.nm_edge.specs.declared.node.NodeId.{NodeId}
 use Rattle.nm_model.specs.declared.trace.Turn.{Turn}
@@ -27,3 +27,15 @@ pub record WasCutWith (L : Layout) (turns : List Turn) (stores : List Stored) (n
   pub extends : ExtendsStores stores first
   pub stored : HoldsStores L before turns first
   pub has_value : value_at (length before) first n.slot ≡ v
+
+-- a turn cut the node off, which is none of the fixed ones. Right before it a path from the root
+-- reached the node, which was no leaf
+pub record WasCutInner (L : Layout) (turns : List Turn) (n : NodeId) : Type 0 where
+  pub before : List Turn
+  pub cut : Turn
+  pub since : List Turn
+  pub are : turns ≡ before ++ cut ∷ since
+  pub cuts : Contains (nodes_cut_of cut.outcome) n
+  pub high : 6 ≤ n.slot
+  pub reached : Reached (words_after L before) n.slot
+  pub inner : is_leaf (node (words_after L before) n.slot) ≡ false

@@ -15,19 +15,30 @@ use Rattle.nm_calls.specs.declared.scan_plan.What.TheVariants.{Keys, Entries}
 use Rattle.nm_walks.specs.Bounds.{reach}
 use Rattle.nm_walks.specs.Telling.{Tells}
 pub use Rattle.nm_walks.specs.AddedLooks.{AddsLooks}
-pub use Rattle.nm_calls.specs.PlainWalks.{LooksUnderPin, PlainMissed, HasPassed, HasEndedAt, HasEndedSo, WasSo, most_looks}
+pub use Rattle.nm_calls.specs.PlainWalks.{
+  LooksUnderPin,
+  PlainMissed,
+  HasPassed,
+  HasEndedAt,
+  HasEndedSo,
+  WasSo,
+  after_entries,
+  most_looks,
+}
 use Rattle.nm_walks.specs.WonCounts.{won_splices}
 use Rattle.nm_calls.specs.Won.{HasWon}
 
 -- after at least n nodes the walk of the query has reached a known node, which it reads next; or it
 -- has no node to read, and has ended with its answer. If values are looked up, the query has the leaf
--- with the key (Natarajan and Mittal, section 3.2)
-pub record IsUnderWay (what : What) (n : ℕ) (p : PassView) (q : Query) : Type 0 where
+-- with the key. All of its looks came after the first `from` entries of the log (Natarajan and
+-- Mittal, section 3.2)
+pub record IsUnderWay (what : What) (from n : ℕ) (p : PassView) (q : Query) : Type 0 where
   pub is_key : IsKey q.key
-  pub comes : q.node ≢ 0 → HasPassed n p.view.log q.key q.node
+  pub comes : q.node ≢ 0 → HasPassed n (after_entries from p).view.log q.key q.node
   pub known : q.node ≢ 0 → Tells p (KnowsSlot q.node)
-  pub ends : q.node ≡ 0 → HasEndedSo p q.key q.found
-  pub leaf : what ≡ Entries → q.node ≡ 0 → q.found ≡ true → HasEndedAt p q.key q.value
+  pub ends : q.node ≡ 0 → HasEndedSo (after_entries from p) q.key q.found
+  pub leaf : what ≡ Entries → q.node ≡ 0 → q.found ≡ true
+      → HasEndedAt (after_entries from p) q.key q.value
 
 -- the query is at the beginning of its walk, which reads this node first (Natarajan and Mittal,
 -- section 3.2)

@@ -82,13 +82,14 @@ IsTry fit L k f g old new attempt.Lost = ((c : List ChainEdge) × Stops L k old 
     ⊎ ((made : NewNodes) × (r : WalkEnd) × (c : List ChainEdge) × (e : Edge) × (mid : List Entry)
     × TriesLink fit L k f made r c (Lost e) old mid × (g ≡ Some made) × Helps r c e mid new)
 
--- unchanged are the pin, the call with what it flagged, and the ledgers except for the nodes that
--- were cut off
+-- unchanged are the pin, the call with what it swapped and flagged, and the ledgers except for the
+-- nodes that were cut off
 pub record OnlyTries (p q : PassView) : Type 0 where
   pub announcement : (epochs q).announcement ≡ (epochs p).announcement
   pub pin : (epochs q).pin ≡ (epochs p).pin
   pub labelled : (epochs p).unlabelled ≡ false → (epochs q).unlabelled ≡ false
   pub call : (search q).call ≡ (search p).call
+  pub swapped : (search q).swapped ≡ (search p).swapped
   pub flagged : (search q).flagged ≡ (search p).flagged
   pub ledgers : KeepsLedgers p q
 

@@ -1,10 +1,13 @@
 -- A leaf keeps its value until a turn cuts it off.
-use Rattle.std.specs.Prelude.{◌≡◌, ◌<◌, ℕ, List, [], ◌∷◌, ◌++◌, All, Contains}
+use Rattle.std.specs.Prelude.{◌≡◌, ◌<◌, ℕ, List, [], ◌∷◌, ◌++◌, All, Contains, Ok}
 use Rattle.nm_edge.specs.Keys.{IsKey}
 use Rattle.nm_edge.specs.Layouts.{Layout, IsLayout}
 use Rattle.nm_model.specs.declared.event.Event.{Event}
+use Rattle.nm_edge.specs.declared.node.NodeId.{NodeId}
+use Rattle.nm_model.specs.declared.reply.Reply.TheVariants.{Cut}
 use Rattle.nm_model.specs.declared.trace.Turn.{Turn}
-use Rattle.nm_model.specs.Headline.{nodes_cut_of, slots_of}
+use Rattle.nm_model.specs.Headline.{IsWonSwap, nodes_cut_of, slots_of, words_after}
+use Rattle.nm_model.specs.Memory.{named, node}
 use Rattle.nm_model.specs.Ordered.{HasKey, ordered, trace_in}
 use Rattle.nm_steps.specs.declared.view.Stored.{Stored}
 use Rattle.nm_steps.specs.Rules.{Extends, ExtendsStores}
@@ -14,6 +17,11 @@ use Rattle.nm_calls.specs.Maps.{HoldsStores, IsInMap, WasPut, WasTaken}
 abbrev pub NoneCuts : List Turn → ℕ → Type 0
 NoneCuts turns s = (before since : List Turn) (t : Turn) → turns ≡ before ++ t ∷ since
     → Contains (slots_of (nodes_cut_of t.outcome)) s → ⊥
+
+-- the turn after these is no won swap that takes out a leaf with the key
+abbrev pub NoneSwapsOut : Layout → List Turn → Turn → ℕ → Type 0
+NoneSwapsOut L so_far t k = (ns : List NodeId) (s : IsWonSwap (words_after L so_far) t.event ns)
+    → t.outcome ≡ Ok (Cut ns) → (node (words_after L so_far) s.old).key ≡ k → ⊥
 
 -- the map still has the key with the value after these turns, in the same leaf
 pub record StaysInMap (L : Layout) (so_far mid : List Turn) (stores : List Stored) (k v : ℕ)
@@ -42,17 +50,15 @@ PutValuesStay = (L : Layout) → IsLayout L → (events : List (ℕ × Event))
     → NoneCuts mid put.is.slot → (found : ℕ)
     → IsInMap L ((put.so_far ++ put.link ∷ []) ++ mid) stores k found → found ≡ v
 
--- in each run, the value that a delete has taken is the one that the map has under the key right
--- before a turn cuts off the leaf which the delete has flagged
+-- in each run, if a delete has taken a value, the map has the key with this value right before the turn
+-- that cuts off the leaf which the delete has flagged
 abbrev pub TakenValuesAreCut : Type 0
 TakenValuesAreCut = (L : Layout) → IsLayout L → (events : List (ℕ × Event))
     → All (λ t. HasKey t.1) events → (was now : List Turn) (stores : List Stored) (w k v : ℕ)
     → (took : WasTaken L was now stores w k v) → Extends (trace_in (ordered L) events) now
-    → (mid rest : List Turn) (cut : Turn)
-    → trace_in (ordered L) events ≡ took.so_far ++ (mid ++ cut ∷ rest)
-    → NoneCuts mid took.leaf.slot
-    → Contains (slots_of (nodes_cut_of cut.outcome)) took.leaf.slot
-    → IsInMap L (took.so_far ++ mid) took.first k v
+    → (before since : List Turn) (cut : Turn) → trace_in (ordered L) events ≡ before ++ cut ∷ since
+    → Contains (nodes_cut_of cut.outcome) (named (words_after L took.so_far) took.is.slot)
+    → IsInMap L before took.first k v
 
 -- in each run, what the map has at a moment by stores that hold from then on, it has by all later
 -- stores. So what several workers have seen is of one map

@@ -11,10 +11,11 @@ use Rattle.nm_steps.specs.Steps.{PassView}
 use Rattle.nm_epoch.specs.Resting.{epochs, search}
 use Rattle.nm_walks.specs.Telling.{Tells}
 
--- under the pin the worker has linked nothing and flagged nothing, and no cut waits for its label
+-- under the pin the worker has linked, swapped and flagged nothing, and no cut waits for its label
 pub record HasChangedNothing (p : PassView) : Type 0 where
   pub labelled : (epochs p).unlabelled ≡ false
   pub unlinked : (search p).linked ≡ false
+  pub unswapped : (search p).swapped ≡ false
   pub unflagged : (search p).flagged ≡ None
 
 -- a walk of the call for k ended at a leaf with key v

@@ -4,13 +4,13 @@ use Rattle.nm_edge.specs.Keys.{IsKey}
 use Rattle.nm_edge.specs.Layouts.{Layout}
 use Rattle.nm_edge.specs.declared.edge.Side.{Side}
 use Rattle.nm_edge.specs.declared.node.NodeId.{NodeId}
-use Rattle.nm_model.specs.declared.event.Event.TheVariants.{LeaveWith, Link}
-use Rattle.nm_model.specs.declared.event.Op.TheVariants.{Insert}
-use Rattle.nm_model.specs.declared.reply.Reply.TheVariants.{Departed, Linked}
+use Rattle.nm_model.specs.declared.event.Event.TheVariants.{Flag, LeaveWith, Link, Swap}
+use Rattle.nm_model.specs.declared.event.Op.TheVariants.{Delete, Insert}
+use Rattle.nm_model.specs.declared.reply.Reply.TheVariants.{Cut, Departed, Flagged, Linked}
 use Rattle.nm_model.specs.declared.trace.Turn.{Turn}
 use Rattle.nm_model.specs.Headline.{HasLeft, IsPinned, has_after, words_after}
-use Rattle.nm_model.specs.Histories.{HasFlaggedOneOf, call_begun}
-use Rattle.nm_model.specs.Memory.{child, infinity_0, is_leaf, node, opening}
+use Rattle.nm_model.specs.Histories.{call_begun}
+use Rattle.nm_model.specs.Memory.{child, infinity_0, is_leaf, named, node, opening}
 use Rattle.nm_model.specs.Paths.{Reached}
 use Rattle.nm_model.specs.Walks.{Entry, WalkEnds, since_pin}
 use Rattle.nm_steps.specs.declared.view.Stored.{Stored}
@@ -18,7 +18,7 @@ use Rattle.nm_order.specs.Logs.{part_of}
 use Rattle.nm_steps.specs.Rules.{ComesBefore, Extends, ExtendsStores, IsStored, answered_turn, value_of}
 use Rattle.nm_steps.specs.Steps.{Continues, HasSeenAllOf, IsSamePass, PassView, TakesStep}
 use Rattle.nm_steps.specs.Values.{HasSeenStores}
-use Rattle.nm_epoch.specs.Resting.{IsResting, KeepsHands}
+use Rattle.nm_epoch.specs.Resting.{IsResting, KeepsHands, search}
 use Rattle.nm_walks.specs.AddedLooks.{AddsLooks}
 use Rattle.nm_walks.specs.Bounds.{reach}
 use Rattle.nm_walks.specs.Making.{fills}
@@ -28,7 +28,7 @@ use Rattle.nm_calls.specs.declared.fault.CallFault.{CallFault}
 use Rattle.nm_calls.specs.declared.fault.CallFault.TheVariants as fault
 use Rattle.nm_calls.specs.declared.values.Leaf.{Leaf}
 use Rattle.nm_calls.specs.InTurns.{GiveUp}
-use Rattle.nm_calls.specs.PlainWalks.{HasEndedSo, LooksUnderPin, PlainMissed, most_looks}
+use Rattle.nm_calls.specs.PlainWalks.{HasEndedSo, LooksUnderPin, PlainMissed, after_entries, most_looks}
 use Rattle.nm_calls.specs.Won.{HasWon}
 
 -- ---- what a map has
@@ -69,15 +69,23 @@ LinkedLeavesHaveValues L turns stores =
     → child (words_after L before) new s ≢ old
     → IsStored stores w (length (part_of w before)) (child (words_after L before) new s)
 
+-- each worker that won a swap had stored a value for the new leaf after its last step before the swap
+abbrev pub SwappedLeavesHaveValues : List Turn → List Stored → Type 0
+SwappedLeavesHaveValues turns stores =
+    (before since : List Turn) (w p : ℕ) (side : Side) (old new : ℕ) (ns : List NodeId)
+    → turns ≡ before ++ answered_turn w (Swap p side old new) (Cut ns) ∷ since
+    → IsStored stores w (length (part_of w before)) new
+
 -- the stores were made up to a moment (`until`) between the turns `was` and the turns `now`. They
 -- are in their order, and each was made in a slot that was in its worker's hands. They have the
--- store of each leaf that was linked up to that moment
+-- store of each leaf that was linked or swapped in up to that moment
 pub record HoldsStores (L : Layout) (was now : List Turn) (stores : List Stored) : Type 0 where
   pub until : List Turn
   pub from : Extends until was
   pub ends : Extends now until
   pub held : All (WasInHands L until) stores
   pub linked : LinkedLeavesHaveValues L until stores
+  pub swapped : SwappedLeavesHaveValues until stores
   pub order : AllPairs ComesBefore stores
 
 -- at a moment after the turns `was`, at which the worker was pinned, a plain map of the reached
@@ -94,11 +102,12 @@ pub record WasMapped (L : Layout) (was now : List Turn) (stores : List Stored) (
   pub stored : IfSome answer (λ v. HoldsStores L so_far now stores)
 
 -- the same at a moment since which the worker is pinned without a break
-pub record WasMappedUnderPin (L : Layout) (now : List Turn) (stores : List Stored) (w k : ℕ)
+pub record WasMappedUnderPin (L : Layout) (was now : List Turn) (stores : List Stored) (w k : ℕ)
     (answer : Option ℕ) : Type 0 where
   pub so_far : List Turn
   pub rest : List Turn
   pub are : now ≡ so_far ++ rest
+  pub later : length was < length so_far
   pub pinned : IsPinned w so_far
   pub stays : HasLeft w rest → ⊥
   pub gives : MapGives (IsInMap L so_far stores k) answer
@@ -133,20 +142,28 @@ abbrev pub HasPut : PassView → PassView → ℕ → ℕ → Type 0
 HasPut p q k v =
     WasPut q.view.layout p.view.past q.view.past q.view.stores q.view.number k v
 
--- the worker has flagged a leaf, to remove it. In the slot of this leaf, at a moment after the
--- turns `was`, the map had the key with the value. It had it by the first of these stores
+-- the turn is the flag of this leaf, which the worker won
+pub record IsWonFlagOf (w : ℕ) (leaf : NodeId) (flag : Turn) : Type 0 where
+  pub parent : ℕ
+  pub side : Side
+  pub is : flag ≡ answered_turn w (Flag parent side leaf.slot) (Flagged leaf)
+
+-- the worker took the key with this value: its call to delete the key, which began after the turns
+-- `was`, won the flag of a leaf. Right before the flag the map had the key with the value in this
+-- leaf, which is its slot with its birth. It had it by the first of these stores
 pub record WasTaken (L : Layout) (was now : List Turn) (stores : List Stored) (w k v : ℕ) : Type 0 where
   pub so_far : List Turn
+  pub flag : Turn
   pub rest : List Turn
-  pub are : now ≡ so_far ++ rest
-  pub later : length was < length so_far
+  pub are : now ≡ so_far ++ flag ∷ rest
+  pub pin : ℕ
+  pub later : length was ≤ pin
+  pub call : call_begun w so_far ≡ Some (record { pin = pin; op = Delete; key = k })
   pub first : List Stored
   pub extends : ExtendsStores stores first
   pub is : IsInMap L so_far first k v
   pub stored : HoldsStores L so_far now first
-  pub leaf : NodeId
-  pub slot : is.slot ≡ leaf.slot
-  pub flagged : HasFlaggedOneOf now w (leaf ∷ [])
+  pub won : IsWonFlagOf w (named (words_after L so_far) is.slot) flag
 
 -- from what p had seen to what q has seen, the worker has so taken the key with this value
 abbrev pub HasTaken : PassView → PassView → ℕ → ℕ → Type 0
@@ -158,10 +175,10 @@ abbrev pub MapGave : PassView → PassView → ℕ → Option ℕ → Type 0
 MapGave p q k answer =
     WasMapped q.view.layout p.view.past q.view.past q.view.stores q.view.number k answer
 
--- by what q has seen, the map gave this answer at a moment of the pin that q has
-abbrev pub MapGivesUnderPin : PassView → ℕ → Option ℕ → Type 0
-MapGivesUnderPin q k answer =
-    WasMappedUnderPin q.view.layout q.view.past q.view.stores q.view.number k answer
+-- between p and q the map gave this answer to a look-up of the key, under the pin that q has
+abbrev pub MapGaveUnderPin : PassView → PassView → ℕ → Option ℕ → Type 0
+MapGaveUnderPin p q k answer =
+    WasMappedUnderPin q.view.layout p.view.past q.view.past q.view.stores q.view.number k answer
 
 -- the step by which a call leaves with an answer
 abbrev pub answered : Bool → List Entry
@@ -192,12 +209,13 @@ pub record HasInserted (rest : List Entry) (q : PassView) (k v : ℕ) : Type 0 w
 
 -- ---- what a look-up leaves
 
--- a walk for the key has ended at this leaf in the log from the pin on. If its key is below the
--- sentinels, its slot is above 5 (Natarajan and Mittal, section 3.2)
-pub record IsLeafAt (p : PassView) (k : ℕ) (leaf : Leaf) : Type 0 where
+-- a walk for the key has ended at this leaf in the log from the pin on, and its looks came after the
+-- first n entries of the log. If its key is below the sentinels, its slot is above 5 (Natarajan and
+-- Mittal, section 3.2)
+pub record IsLeafAt (n : ℕ) (p : PassView) (k : ℕ) (leaf : Leaf) : Type 0 where
   pub parent : ℕ
   pub side : Side
-  pub walk : WalkEnds k (since_pin [] p.view.log) leaf.slot parent side leaf.key
+  pub walk : WalkEnds k (since_pin [] (after_entries n p).view.log) leaf.slot parent side leaf.key
   pub high : leaf.key < infinity_0 → 6 ≤ leaf.slot
   pub within : leaf.slot ≤ p.view.layout.nodes
 
@@ -212,16 +230,24 @@ pub record HasReadValue (p : PassView) (k v : ℕ) : Type 0 where
   pub seen : HasSeenStores p.view
   pub value : v ≡ value_of p.view.stores slot
 
--- between p and q the worker has flagged a leaf with the key, and has read its value
+-- and the looks of the walk came after the first n entries of the log
+pub record HasReadLater (n : ℕ) (p : PassView) (k v : ℕ) : Type 0 where
+  pub read : HasReadValue p k v
+  pub walk : WalkEnds k (since_pin [] (after_entries n p).view.log) read.slot read.parent read.side k
+
+-- after p the worker has read the value of the leaf that its call to delete the key had flagged
 pub record HasReadFlagged (p q : PassView) (k v : ℕ) : Type 0 where
   pub at : PassView
   pub since : Continues p at
   pub until : Continues at q
   pub is_key : IsKey k
-  pub read : HasReadValue at k v
   pub leaf : NodeId
-  pub slot : read.slot ≡ leaf.slot
-  pub flagged : HasFlaggedOneOf at.view.past at.view.number (leaf ∷ [])
+  pub call : (search at).call ≡ Some (record { op = Delete; key = k })
+  pub flagged : (search at).flagged ≡ Some leaf
+  pub high : 6 ≤ leaf.slot
+  pub within : leaf.slot ≤ at.view.layout.nodes
+  pub seen : HasSeenStores at.view
+  pub value : v ≡ value_of at.view.stores leaf.slot
 
 -- after p a walk of an insert has ended at a leaf with the key, and its value was read under the
 -- same pin. The next step was the leave with the answer that the key was there
@@ -232,10 +258,10 @@ pub record HasReadFound (p q : PassView) (k v : ℕ) : Type 0 where
   pub read : HasReadValue at k v
   pub leaves : TakesStep at q (LeaveWith false) Departed
 
--- a walk has ended with this answer
-abbrev pub HasLookedUp : PassView → ℕ → Option ℕ → Type 0
-HasLookedUp p k None = HasEndedSo p k false
-HasLookedUp p k (Some v) = HasReadValue p k v
+-- a walk has ended with this answer, and its looks came after the first n entries of the log
+abbrev pub HasLookedUp : ℕ → PassView → ℕ → Option ℕ → Type 0
+HasLookedUp n p k None = HasEndedSo (after_entries n p) k false
+HasLookedUp n p k (Some v) = HasReadLater n p k v
 
 -- what a look-up of a value leaves of its pass, by its answer. It is the same pass, which has seen
 -- all turns and stores that it had seen. An answer was right at a moment (linearization point) of
@@ -257,11 +283,11 @@ pub record AfterGet (L : Layout) (tries k : ℕ) (p q : PassView) (r : Result (O
   pub hands : KeepsHands p q
 
 -- what a look-up of a value by a pinned worker leaves of its pass, by its answer: looks alone. An
--- answer was right at a moment of the pin
+-- answer was right at a moment (linearization point) of the call
 pub record AfterPinnedGet (L : Layout) (k : ℕ) (p q : PassView) (r : Result (Option ℕ) CallFault) : Type 0 where
   pub on : GoesOn p q
   pub only : OnlyLooks p q
   pub looks : AddsLooks (most_looks (reach L) 1) p.view.log q.view.log
-  pub moment : IfOk r (MapGivesUnderPin q k)
+  pub moment : IfOk r (MapGaveUnderPin p q k)
   pub busy : IfErr r (λ e. e ≡ fault.Busy)
   pub missed : IfErr r (λ e. GiveUp L (k ∷ []) p.view.log q.view.log)

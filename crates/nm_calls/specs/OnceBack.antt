@@ -1,14 +1,14 @@
 -- A stored value comes back once: by the free of the leaf for which it was stored.
-use Rattle.std.specs.Prelude.{◌≡◌, ◌≢◌, ℕ, List, ◌∷◌, ◌++◌, length, All, Contains}
+use Rattle.std.specs.Prelude.{◌≡◌, ◌≢◌, ◌⊎◌, ℕ, List, ◌∷◌, ◌++◌, length, All, Contains}
 use Rattle.nm_edge.specs.Layouts.{Layout, IsLayout}
 use Rattle.nm_edge.specs.declared.edge.Side.{Side}
 use Rattle.nm_edge.specs.declared.node.NodeId.{NodeId}
 use Rattle.nm_model.specs.declared.event.Event.{Event}
-use Rattle.nm_model.specs.declared.event.Event.TheVariants.{Link}
-use Rattle.nm_model.specs.declared.reply.Reply.TheVariants.{Linked}
+use Rattle.nm_model.specs.declared.event.Event.TheVariants.{Link, Swap}
+use Rattle.nm_model.specs.declared.reply.Reply.TheVariants.{Cut, Linked}
 use Rattle.nm_model.specs.declared.trace.Turn.{Turn}
 use Rattle.nm_model.specs.Headline.{Headline, nodes_freed_of, words_after}
-use Rattle.nm_model.specs.Memory.{child, named}
+use Rattle.nm_model.specs.Memory.{Memory, child, named}
 use Rattle.nm_model.specs.Ordered.{HasKey, ordered, trace_in}
 use Rattle.nm_order.specs.Logs.{part_of}
 use Rattle.nm_steps.specs.declared.view.Stored.{Stored}
@@ -16,26 +16,41 @@ use Rattle.nm_steps.specs.Rules.{answered_turn}
 use Rattle.nm_calls.specs.HandedBack.{WasCutWith}
 use Rattle.nm_calls.specs.Maps.{HoldsStores}
 
--- the worker has won a link of this leaf: the child of the new internal node beside the node that was
--- there, with the birth in its word
-pub record HasLinked (L : Layout) (turns : List Turn) (w : ℕ) (leaf : NodeId) : Type 0 where
-  pub before : List Turn
-  pub since : List Turn
+-- the turn is a link of this leaf that the worker won: the leaf is the child of the new internal node
+-- beside the node that was there, with the birth in its word
+pub record LinksIn (m : Memory) (w : ℕ) (put : Turn) (leaf : NodeId) : Type 0 where
   pub parent : ℕ
   pub side : Side
   pub old : ℕ
   pub new : ℕ
   pub node : NodeId
-  pub are : turns ≡ before ++ answered_turn w (Link parent side old new) (Linked node) ∷ since
+  pub is_link : put ≡ answered_turn w (Link parent side old new) (Linked node)
   pub on : Side
-  pub beside : child (words_after L before) new on ≢ old
-  pub is : leaf ≡ named (words_after L before) (child (words_after L before) new on)
+  pub beside : child m new on ≢ old
+  pub is : leaf ≡ named m (child m new on)
 
--- the value was stored for this leaf: its worker linked the leaf, and stored the value for the leaf's
--- slot after its last step before the link
+-- the turn is a swap that the worker won, by which this leaf took the place of another one
+pub record SwapsIn (m : Memory) (w : ℕ) (put : Turn) (leaf : NodeId) : Type 0 where
+  pub parent : ℕ
+  pub side : Side
+  pub old : ℕ
+  pub nodes : List NodeId
+  pub is_swap : put ≡ answered_turn w (Swap parent side old leaf.slot) (Cut nodes)
+  pub is : leaf ≡ named m leaf.slot
+
+-- the worker has put this leaf into the tree, by a link or by a swap
+pub record HasPutIn (L : Layout) (turns : List Turn) (w : ℕ) (leaf : NodeId) : Type 0 where
+  pub before : List Turn
+  pub put : Turn
+  pub since : List Turn
+  pub are : turns ≡ before ++ put ∷ since
+  pub way : LinksIn (words_after L before) w put leaf ⊎ SwapsIn (words_after L before) w put leaf
+
+-- the value was stored for this leaf: its worker put the leaf in, and stored the value for the leaf's
+-- slot after its last step before that
 pub record IsStoreOf (L : Layout) (turns : List Turn) (x : Stored) (leaf : NodeId) : Type 0 where
-  pub link : HasLinked L turns x.worker leaf
-  pub own : x.own ≡ length (part_of x.worker link.before)
+  pub put_in : HasPutIn L turns x.worker leaf
+  pub own : x.own ≡ length (part_of x.worker put_in.before)
   pub slot : x.slot ≡ leaf.slot
 
 -- the stored value comes back: a turn frees the leaf for which it was stored

@@ -1,5 +1,5 @@
 -- Walks under a pin that is for no operation: what they add to a log, and what they show of keys.
-use Rattle.std.specs.Prelude.{◌≡◌, ◌⊎◌, ◌≤◌, ◌==◌, ◌+◌, ◌*◌, ℕ, zero, suc, Bool, List, [], ◌∷◌, ◌++◌, length, map}
+use Rattle.std.specs.Prelude.{◌≡◌, ◌⊎◌, ◌≤◌, ◌==◌, ◌+◌, ◌*◌, ℕ, zero, suc, Bool, List, [], ◌∷◌, ◌++◌, drop, length, map}
 use Rattle.nm_edge.specs.declared.edge.Side.{Side}
 use Rattle.nm_model.specs.declared.event.Event.{Event}
 use Rattle.nm_model.specs.declared.event.Event.TheVariants.{Sight, Leave}
@@ -41,6 +41,11 @@ abbrev pub most_looks : ℕ → ℕ → ℕ
 most_looks nodes n = 1 + nodes * (3 * n)
 
 -- ---- what a walk shows
+
+-- the pass with the entries of its log after the first n alone. A walk in its log looked at nothing
+-- before
+abbrev pub after_entries : ℕ → PassView → PassView
+after_entries n p = record p { view = record p.view { log = drop n p.view.log } }
 
 -- in the log from the pin on, a walk for k has reached the slot, after at least n nodes below slot
 -- 2 (Natarajan and Mittal, section 3.2)

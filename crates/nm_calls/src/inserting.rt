@@ -107,6 +107,7 @@ fn try_insert(
     requires pinned { IsPinnedIn shared.now pass.old }
     requires call { IsPinnedForCall Insert key pass.old }
     requires unlinked { (search pass.old).linked ≡ false }
+    requires unswapped { (search pass.old).swapped ≡ false }
     requires room { cut_bound ≤ held.old.queue.spare }
     requires kept { HoldsCuts pass.old held.old }
     requires new_nodes { (o : PassView) × HasNewNodes o pass.old new_nodes.old }

@@ -2,7 +2,7 @@
 ghost use Rattle.nm_calls.specs.ComingBack.{NodesAreFreedOnce, PinnedValuesStayOut};
 ghost use Rattle.nm_calls.specs.GotValues.{GotLeavesAreNotFreed, GotValuesStayOut, GuardedLeavesAreNotFreed, GuardedValuesStayOut};
 ghost use Rattle.nm_calls.specs.KeptValues.{LeavesKeepTheirValues, PutValuesStay, TakenValuesAreCut, ValuesAreByAllStores};
-ghost use Rattle.nm_calls.specs.MapHistories.{GetsAreOfTheMap, HistoriesAreOfMaps, ValuesWerePut};
+ghost use Rattle.nm_calls.specs.MapHistories.{GetsAreOfTheMap, HistoriesAreOfMaps, TakenValuesAreOfTheirActs, ValuesWerePut};
 ghost use Rattle.nm_calls.specs.OnceBack.{CutValuesWereStored, ValuesComeBackOnce, ValuesComeBackAsStored};
 ghost use Rattle.nm_calls.specs.StoredLeaves.{LeavesHaveOneStore, StoredValuesAreAtOnePlace};
 
@@ -19,8 +19,8 @@ pub fn put_values_stay()
     ensures { PutValuesStay }
 {}
 
-/// Law: in every ordered run, the value that a delete has taken is the one that the map has under
-/// the key right before a turn cuts off the leaf which the delete has flagged.
+/// Law: in every ordered run, if a delete has taken a value, the map has the key with this value right
+/// before the turn that cuts off the leaf which the delete has flagged.
 pub fn taken_values_are_cut()
     ensures { TakenValuesAreCut }
 {}
@@ -34,9 +34,18 @@ pub fn values_are_by_all_stores()
 
 /// Law: in every ordered run, each history of the turns up to which the stores are given is one of
 /// a plain map too. Its calls have values with which one map, empty at first, gives each call its
-/// answer. At each moment this map has just the keys of the reached leaves, with their values.
+/// answer. Each won swap is a put. It finds the value of the old leaf, and leaves the value that its
+/// worker stored for the new one. At each moment this map has just the keys of the reached leaves, with
+/// their values.
 pub fn histories_are_of_maps()
     ensures { HistoriesAreOfMaps }
+{}
+
+/// Law: in every ordered run, in each history of a map, the act of a true delete has the value that its
+/// call has taken. So the map is linearizable with the values that its deletes return: each gets the
+/// value that the plain map has right before the delete. The worker has won one flag during the call.
+pub fn taken_values_are_of_their_acts()
+    ensures { TakenValuesAreOfTheirActs }
 {}
 
 /// Law: a look-up of a value has the answer that the plain map of a history has at the moment of
@@ -104,8 +113,8 @@ pub fn guarded_values_stay_out()
     ensures values { GuardedValuesStayOut }
 {}
 
-/// Law: what the plain map of a history has under a key at a moment was put by an insert of the
-/// key, which returned true and took effect by that moment.
+/// Law: what the plain map of a history has under a key at a moment was put there by an insert of the
+/// key that returned true, or by a put. It took effect by that moment.
 pub fn values_were_put()
     ensures { ValuesWerePut }
 {}

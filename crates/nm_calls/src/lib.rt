@@ -27,7 +27,8 @@ pub use laws::{
     cut_values_were_stored, gets_are_of_the_map, got_values_stay_out, guarded_values_stay_out,
     histories_are_of_maps, leaves_have_one_store, leaves_keep_their_values, nodes_are_freed_once,
     pinned_values_stay_out, put_values_stay, stored_values_are_at_one_place, taken_values_are_cut,
-    values_are_by_all_stores, values_come_back_as_stored, values_come_back_once, values_were_put,
+    taken_values_are_of_their_acts, values_are_by_all_stores, values_come_back_as_stored,
+    values_come_back_once, values_were_put,
 };
 pub use leaving::leave;
 pub use lookup::has;

@@ -1,5 +1,5 @@
 //! Look-ups of several keys under one pin, whose walks take turns.
-ghost use Rattle.std.specs.Prelude.{◌≡◌, ◌≢◌, ◌<◌, ◌+◌, ◌*◌, ℕ, length, map, true, false, All};
+ghost use Rattle.std.specs.Prelude.{◌≡◌, ◌≢◌, ◌<◌, ◌≤◌, ◌+◌, ◌*◌, ℕ, length, map, true, false, All};
 ghost use Rattle.std.specs.List.{HoldsAt};
 ghost use Rattle.nm_edge.specs.Keys.{IsKey};
 ghost use Rattle.nm_order.specs.Facts.Fact.{KnowsSlot};
@@ -91,7 +91,7 @@ pub(crate) fn walk_all(shared: &Shared, pass: &mut Pass, what: What, queries: &m
     requires known { Tells pass.old (KnowsSlot 2) }
     ensures looks { AddsLooks (most_looks (reach shared.now.layout) (length queries.old))
         pass.old.view.log pass.new.view.log }
-    ensures under_way { All (IsUnderWay what 0 pass.new) queries.new }
+    ensures under_way { All (IsUnderWay what (length pass.old.view.log) 0 pass.new) queries.new }
     ensures ended { result ≡ true → All (λ q. q.node ≡ 0) queries.new }
     ensures given_up { result ≡ false → GiveUp shared.now.layout (map key_of queries.old)
         pass.old.view.log pass.new.view.log }
@@ -128,10 +128,11 @@ fn begin_each(queries: &mut [Query], first: u32)
 fn take_turns(shared: &Shared, layout: Layout, pass: &mut Pass, what: What, queries: &mut [Query])
     requires layout { layout ≡ shared.now.layout }
     requires pinned { IsPinnedIn shared.now pass.old }
-    requires under_way { All (IsUnderWay what 0 pass.old) queries.old }
+    requires under_way { All (IsUnderWay what 0 0 pass.old) queries.old }
     ensures looks { AddsLooks (3 * length queries.old) pass.old.view.log pass.new.view.log }
-    ensures under_way { (n : ℕ) → All (IsUnderWay what n pass.old) queries.old
-        → All (IsUnderWay what (n + 1) pass.new) queries.new }
+    ensures under_way { (from n : ℕ) → from ≤ length pass.old.view.log
+        → All (IsUnderWay what from n pass.old) queries.old
+        → All (IsUnderWay what from (n + 1) pass.new) queries.new }
     ensures keys { map key_of queries.new ≡ map key_of queries.old }
     ensures on { GoesOn pass.old pass.new }
     ensures only { OnlyLooks pass.old pass.new }
@@ -146,10 +147,11 @@ fn take_turns(shared: &Shared, layout: Layout, pass: &mut Pass, what: What, quer
 fn take_turn(shared: &Shared, layout: Layout, pass: &mut Pass, what: What, query: &mut Query)
     requires layout { layout ≡ shared.now.layout }
     requires pinned { IsPinnedIn shared.now pass.old }
-    requires under_way { IsUnderWay what 0 pass.old query.old }
+    requires under_way { IsUnderWay what 0 0 pass.old query.old }
     ensures looks { AddsLooks 3 pass.old.view.log pass.new.view.log }
-    ensures under_way { (n : ℕ) → IsUnderWay what n pass.old query.old
-        → IsUnderWay what (n + 1) pass.new query.new }
+    ensures under_way { (from n : ℕ) → from ≤ length pass.old.view.log
+        → IsUnderWay what from n pass.old query.old
+        → IsUnderWay what from (n + 1) pass.new query.new }
     ensures key { query.new.key ≡ query.old.key }
     ensures on { GoesOn pass.old pass.new }
     ensures only { OnlyLooks pass.old pass.new }

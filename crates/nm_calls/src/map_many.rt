@@ -5,7 +5,7 @@ ghost use Rattle.nm_order.specs.Facts.Fact.{KnowsSlot};
 ghost use Rattle.nm_steps.specs.Values.{HasValues};
 ghost use Rattle.nm_walks.specs.Telling.{Tells, GoesOn, OnlyLooks, IsPinnedIn};
 ghost use Rattle.nm_calls.specs.InTurns.{key_of};
-ghost use Rattle.nm_calls.specs.Maps.{HasReadValue};
+ghost use Rattle.nm_calls.specs.Maps.{HasReadLater};
 ghost use Rattle.nm_calls.specs.ValuesInTurns.{AfterPinnedGetMany, HasAnswer, HasWalked};
 
 use crate::fault::CallFault;
@@ -15,8 +15,8 @@ use nm_steps::{Pass, Shared};
 
 /// Looks up the value of each of these keys like `get_pinned`, and writes the answers into their
 /// `found` and `value`. The walks take turns like those of `has_many`. Each answer was right at a
-/// moment of the worker's pin. Two answers may have different moments. The keys are unchanged. No step
-/// is made but looks.
+/// moment (linearization point) of this call. Two answers may have different moments. The keys are
+/// unchanged. No step is made but looks.
 ///
 /// Errors: no answer means anything then. `Busy`: one of the walks had looked at as many nodes as
 /// there are, and had not ended. In a radix tree this never happens.
@@ -34,6 +34,7 @@ pub fn get_many_pinned(
     requires known { Tells pass.old (KnowsSlot 2) }
     ensures { AfterPinnedGetMany shared.now.layout queries.old queries.new pass.old pass.new result }
 {
+    pass.know_run();
     if !walk_all(shared, pass, What::Entries, queries) {
         return Err(CallFault::Busy);
     }
@@ -46,8 +47,9 @@ pub fn get_many_pinned(
 fn read_values(shared: &Shared, pass: &mut Pass, queries: &mut [Query])
     requires pinned { IsPinnedIn shared.now pass.old }
     requires values { HasValues shared.now }
-    requires walked { All (HasWalked pass.old) queries.old }
-    ensures answers { All (HasAnswer pass.new) queries.new }
+    requires walked { All (HasWalked 0 pass.old) queries.old }
+    ensures answers { (n : ℕ) → All (HasWalked n pass.old) queries.old
+        → All (HasAnswer n pass.new) queries.new }
     ensures keys { map key_of queries.new ≡ map key_of queries.old }
     ensures log { pass.new.view.log ≡ pass.old.view.log }
     ensures on { GoesOn pass.old pass.new }
@@ -64,9 +66,10 @@ fn read_values(shared: &Shared, pass: &mut Pass, queries: &mut [Query])
 fn read_value(shared: &Shared, pass: &mut Pass, query: &mut Query)
     requires pinned { IsPinnedIn shared.now pass.old }
     requires values { HasValues shared.now }
-    requires walked { HasWalked pass.old query.old }
-    ensures answer { HasAnswer pass.new query.new }
-    ensures stays { (k v : ℕ) → IsKey k → HasReadValue pass.old k v → HasReadValue pass.new k v }
+    requires walked { HasWalked 0 pass.old query.old }
+    ensures answer { (n : ℕ) → HasWalked n pass.old query.old → HasAnswer n pass.new query.new }
+    ensures stays { (n k v : ℕ) → IsKey k → HasReadLater n pass.old k v
+        → HasReadLater n pass.new k v }
     ensures key { query.new.key ≡ query.old.key }
     ensures log { pass.new.view.log ≡ pass.old.view.log }
     ensures on { GoesOn pass.old pass.new }

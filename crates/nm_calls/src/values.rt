@@ -1,5 +1,5 @@
 //! The value that a map has under a key. Its table has a value for each slot.
-ghost use Rattle.std.specs.Prelude.{◌≡◌, [], ◌∷◌, None, IfOk, IfErr, IfNone, IfSome};
+ghost use Rattle.std.specs.Prelude.{◌≡◌, [], ◌∷◌, length, None, IfOk, IfErr, IfNone, IfSome};
 ghost use Rattle.nm_edge.specs.Keys.{IsKey};
 ghost use Rattle.nm_order.specs.Facts.Fact.{KnowsSlot};
 ghost use Rattle.nm_edge.specs.Words.{IsSlot};
@@ -59,7 +59,8 @@ pub fn get(shared: &Shared, pass: &mut Pass, key: Key, tries: u32) -> Result<Opt
 }
 
 /// Returns the value that the map has under `key`, or `None` if the map does not have the key, to a
-/// worker that is pinned for no call: it was so at a moment of its pin. No step is made but looks.
+/// worker that is pinned for no call: it was so at a moment (linearization point) of this call. No
+/// step is made but looks.
 ///
 /// Errors: `Busy`: the walk had looked at as many nodes as there are, and had not ended. In a radix
 /// tree this never happens.
@@ -72,6 +73,7 @@ pub fn get_pinned(shared: &Shared, pass: &mut Pass, key: Key) -> Result<Option<u
     requires known { Tells pass.old (KnowsSlot 2) }
     ensures { AfterPinnedGet shared.now.layout key pass.old pass.new result }
 {
+    pass.know_run();
     let answer = look_up(shared, pass, key.get());
     pass.know_run();
     answer
@@ -132,7 +134,7 @@ fn look_up(shared: &Shared, pass: &mut Pass, key: u64) -> Result<Option<u64>, Ca
     requires key { IsKey key }
     ensures looks { AddsLooks (most_looks (reach shared.now.layout) 1) pass.old.view.log
         pass.new.view.log }
-    ensures found { IfOk result (HasLookedUp pass.new key) }
+    ensures found { IfOk result (HasLookedUp (length pass.old.view.log) pass.new key) }
     ensures busy { IfErr result (λ e. e ≡ CallFault.Busy) }
     ensures missed { IfErr result (λ e. GiveUp shared.now.layout (key ∷ []) pass.old.view.log
         pass.new.view.log) }
@@ -158,7 +160,7 @@ fn find_leaf(shared: &Shared, pass: &mut Pass, key: u64) -> Option<Leaf>
     requires key { IsKey key }
     ensures looks { AddsLooks (most_looks (reach shared.now.layout) 1) pass.old.view.log
         pass.new.view.log }
-    ensures ended { IfSome result (IsLeafAt pass.new key) }
+    ensures ended { IfSome result (IsLeafAt (length pass.old.view.log) pass.new key) }
     ensures gave { IfNone result (GiveUp shared.now.layout (key ∷ []) pass.old.view.log
         pass.new.view.log) }
     ensures on { GoesOn pass.old pass.new }

@@ -2,7 +2,7 @@
 ghost use Rattle.std.specs.Prelude.{◌≡◌, ◌⊎◌, true, None, [], OnOk, OnErr, IfOk};
 ghost use Rattle.std.specs.Option.{option_map};
 ghost use Rattle.nm_edge.specs.Edges.{other};
-ghost use Rattle.nm_model.specs.Maps.{get, put, has};
+ghost use Rattle.nm_model.specs.Maps.{get, put, without, has};
 ghost use Rattle.nm_model.specs.Knowledge.{read_on, slot_read};
 ghost use Rattle.nm_model.specs.Learning.{rooted};
 ghost use Rattle.nm_core.specs.Chains.{Remembers, goes_by, next_slot_of, next_slot_in, leads_to};
@@ -89,6 +89,14 @@ impl Known {
     {
         keep(&mut self.found, &self.seen, slot, &seen);
         self.seen.replace(slot, seen);
+    }
+
+    /// Forgets a node.
+    pub fn remove(&mut self, slot: u32)
+        ensures { self.new ≡ without self.old slot }
+    {
+        self.found.clear();
+        self.seen.remove(slot);
     }
 
     /// Forgets all nodes.

@@ -177,6 +177,7 @@ impl Machine {
             Event::Splice(ancestor, side, successor, parent, keep) => {
                 self.may_splice(number, ancestor, side, successor, parent, keep)
             }
+            Event::Swap(parent, side, leaf, new) => self.may_swap(number, parent, side, leaf, new),
             Event::Join(leaver) => self.may_join(worker, leaver),
         }
     }
@@ -207,6 +208,7 @@ impl Machine {
             Event::Splice(ancestor, side, successor, parent, keep) => {
                 self.splice(number, ancestor, side, successor, parent, keep)
             }
+            Event::Swap(parent, side, leaf, new) => self.swap(number, parent, side, leaf, new),
             Event::Join(leaver) => self.join(worker, leaver),
         }
     }

@@ -132,7 +132,7 @@ impl Core {
         self.machine.epoch()
     }
 
-    /// Returns what a worker's splices cut off, whichever worker holds its queue; `None` exactly if
+    /// Returns what a worker cut off, whichever worker holds its queue; `None` exactly if
     /// there is no such worker.
     pub fn ledger(&self, worker: u32) -> Option<&Ledger>
         ensures ledger { option_copied result ≡ ledger_of self.now.state worker }

@@ -6,9 +6,9 @@ ghost use Rattle.std.specs.Prelude.{◌≡◌, ◌||◌, is_some, false, [], Non
 ghost use Rattle.std.specs.List.{list_any};
 ghost use Rattle.nm_model.specs.declared.event.Field.TheVariants as field;
 ghost use Rattle.nm_model.specs.declared.reply.Reply.TheVariants as reply;
-ghost use Rattle.nm_model.specs.Searches.{is_node, idle, begun, left, look_for, linked, flagged, spliced, is_flagged_in, searched};
+ghost use Rattle.nm_model.specs.Searches.{is_node, idle, begun, left, look_for, linked, swapped, flagged, spliced, is_flagged_in, searched};
 ghost use Rattle.nm_model.specs.Rooms.{HasRoom, HasRoomFor};
-ghost use Rattle.nm_model.specs.Ordered.{has_removed, shows_call, shows_place, links_in_order, flags_in_order, disorder};
+ghost use Rattle.nm_model.specs.Ordered.{has_removed, has_put_in, shows_call, shows_place, links_in_order, swaps_in_order, flags_in_order, disorder};
 ghost use Rattle.nm_core.specs.Admission.{Admits};
 
 use crate::worker::WorkerState;
@@ -24,6 +24,7 @@ use std::marker::Model;
 pub struct Search {
     call: Option<Call>,
     linked: bool,
+    swapped: bool,
     flagged: Option<NodeId>,
     cut: bool,
     walks: Vec<Arrival>,
@@ -40,6 +41,7 @@ impl Model for Search {
       tells = record {
         call = s.call;
         linked = s.linked;
+        swapped = s.swapped;
         flagged = s.flagged;
         cut = s.cut;
         walks = s.walks.items;
@@ -65,6 +67,7 @@ impl Search {
         Search {
             call: None,
             linked: false,
+            swapped: false,
             flagged: None,
             cut: false,
             walks: Vec::new(alloc),
@@ -91,6 +94,7 @@ impl Search {
             ≡ record {
               call = call;
               linked = false;
+              swapped = false;
               flagged = None;
               cut = false;
               walks = [];
@@ -99,6 +103,7 @@ impl Search {
     {
         self.call = call;
         self.linked = false;
+        self.swapped = false;
         self.flagged = None;
         self.cut = false;
         self.walks.clear();
@@ -184,6 +189,15 @@ impl Search {
         }
     }
 
+    // Records a swap with its reply.
+    fn swap(&mut self, reply: &Reply)
+        ensures { self.new.tells ≡ swapped self.old.tells reply.now }
+    {
+        if let Reply::Cut(_) = reply {
+            self.swapped = true;
+        }
+    }
+
     // Records a splice with its reply.
     fn splice(&mut self, reply: &Reply)
         ensures { self.new.tells ≡ spliced self.old.tells reply.now }
@@ -216,6 +230,7 @@ impl Search {
             Event::Link(..) => self.link(reply),
             Event::Flag(..) => self.flag(reply),
             Event::Splice(..) => self.splice(reply),
+            Event::Swap(..) => self.swap(reply),
             Event::Announce
             | Event::Scan(_)
             | Event::Advance
@@ -259,11 +274,18 @@ impl Search {
         }
     }
 
-    // Returns whether the operation has linked or flagged, so that it owes an answer.
-    fn owes_answer(&self) -> bool
-        ensures { result ≡ (self.now.tells.linked || is_some self.now.tells.flagged) }
+    // Returns whether the operation is an insert that has put its leaf in, by a link or by a swap.
+    fn has_put_in(&self) -> bool
+        ensures { result ≡ has_put_in self.now.tells }
     {
-        self.linked || self.flagged.is_some()
+        self.linked || self.swapped
+    }
+
+    // Returns whether the operation has put a leaf in or flagged one, so that it owes an answer.
+    fn owes_answer(&self) -> bool
+        ensures { result ≡ (has_put_in self.now.tells || is_some self.now.tells.flagged) }
+    {
+        self.has_put_in() || self.flagged.is_some()
     }
 
     // Returns whether a walk for the key came to the place at which the new nodes put it beside a
@@ -292,8 +314,8 @@ impl Search {
         }
     }
 
-    // Returns whether the operation is an insert that may link here: it has not linked yet, the new
-    // leaf has its key, and a walk of it came here.
+    // Returns whether the operation is an insert that may link here: it has put no leaf in
+    // yet, the new leaf has its key, and a walk of it came here.
     fn may_link(
         &self,
         layout: Layout,
@@ -315,9 +337,29 @@ impl Search {
         else {
             return false;
         };
-        !self.linked
+        !self.has_put_in()
             && worker.has_new_leaf(new, slot, key)
             && self.shows_place(layout, worker, key, parent, side, slot, new)
+    }
+
+    // Returns whether the operation is an insert that may swap here: it has put no leaf in
+    // yet, the new leaf has its key, and a walk of it ended here.
+    fn may_swap(&self, worker: &WorkerState, parent: u32, side: Side, leaf: u32, new: u32) -> bool
+        ensures { result ≡ swaps_in_order worker.now self.now.tells self.now.tells.call
+            parent side leaf new }
+    {
+        let Some(
+            Call {
+                op: Op::Insert,
+                key,
+            },
+        ) = self.call
+        else {
+            return false;
+        };
+        !self.has_put_in()
+            && worker.draft(new).has_key(key)
+            && arrivals::may_flag(&self.walks, key, parent, side, leaf)
     }
 
     // Returns whether the operation is a delete that may flag here: it has flagged no leaf yet, and
@@ -337,8 +379,8 @@ impl Search {
         self.flagged.is_none() && arrivals::may_flag(&self.walks, key, parent, side, leaf)
     }
 
-    /// Checks whether an event that a plain core allows is in order. A link or a flag must be at a
-    /// place to which a walk of the worker's own operation came. A leave must owe no answer, or
+    /// Checks whether an event that a plain core allows is in order. A link, a swap or a flag
+    /// must be at a place to which a walk of the worker's own operation came. A leave must owe no answer, or
     /// give one that the log shows.
     pub fn admit(&self, layout: Layout, worker: &WorkerState, event: &Event) -> Result<(), Refused>
         ensures { Admits (disorder layout worker.now self.now.tells event.now) result }
@@ -348,6 +390,8 @@ impl Search {
                 if !self.may_link(layout, worker, parent, side, slot, new) => {
                 Err(Refused::NotOrdered)
             }
+            Event::Swap(parent, side, leaf, new)
+                if !self.may_swap(worker, parent, side, leaf, new) => Err(Refused::NotOrdered),
             Event::Flag(parent, side, leaf) if !self.may_flag(parent, side, leaf) => {
                 Err(Refused::NotOrdered)
             }

@@ -245,4 +245,57 @@ impl Machine {
         self.put_edge(ancestor, side, kept);
         Ok(Reply::Cut(Nodes::from_vec(cut)))
     }
+
+    /// Checks whether the swap may be tried.
+    pub(crate) fn may_swap(
+        &self,
+        worker: usize,
+        parent: u32,
+        side: Side,
+        leaf: u32,
+        new: u32,
+    ) -> Result<(), Refused>
+        requires { worker < length self.now.workers }
+        ensures { Admits (refusal_of self.now worker (event.Swap parent side leaf new)) result }
+    {
+        if self.is_outside(1, parent) || self.is_outside(6, leaf) || self.is_outside(6, new) {
+            return Err(Refused::NoSlot);
+        }
+        let knowledge = &self.workers[worker];
+        if knowledge.brief().pin.is_none() {
+            return Err(Refused::NotPinned);
+        }
+        if !knowledge.holds_leaf(parent, leaf) {
+            return Err(Refused::NotHeld);
+        }
+        if !knowledge.is_private(new) {
+            return Err(Refused::NotPrivate);
+        }
+        if !knowledge.is_leaf_draft(new) {
+            return Err(Refused::NotReady);
+        }
+        Ok(())
+    }
+
+    pub(crate) fn swap(
+        &mut self,
+        worker: usize,
+        parent: u32,
+        side: Side,
+        leaf: u32,
+        new: u32,
+    ) -> Result<Reply, AllocError>
+        requires { IsAdmitted self.old worker (event.Swap parent side leaf new) }
+        ensures { AppliesOrKeeps self.old self.new worker (event.Swap parent side leaf new) result }
+    {
+        let edge = self.edge(parent, side);
+        if !edge.is_to(leaf) {
+            self.workers[worker].read_edge(parent, side, edge)?;
+            return Ok(Reply::Lost(edge));
+        }
+        let cut = self.names(&[leaf])?;
+        self.workers[worker].swap(worker, new, &cut)?;
+        self.put_edge(parent, side, Edge::to(new));
+        Ok(Reply::Cut(Nodes::from_vec(cut)))
+    }
 }

@@ -6,7 +6,7 @@ ghost use Rattle.nm_model.specs.declared.reply.Reply.TheVariants.{BirthIs};
 ghost use Rattle.nm_model.specs.Maps.{put, without, is_number};
 ghost use Rattle.nm_model.specs.Ledgers.{held, front_of, free};
 ghost use Rattle.nm_model.specs.Knowledge.{newcomer, unfilled, knows, is_private, seen_of, draft_of, beside, read, is_null, is_flagged, is_tagged, knows_leaf, way};
-ghost use Rattle.nm_model.specs.Learning.{saw, labelling, pinned, rooted, moved, learn_sight, learn_scan, looked, met, filled_in, read_edge, linked_in, cutting, inheriting, resigned};
+ghost use Rattle.nm_model.specs.Learning.{saw, labelling, pinned, rooted, moved, learn_sight, learn_scan, looked, met, filled_in, read_edge, linked_in, swapped_in, cutting, inheriting, resigned};
 ghost use Rattle.nm_model.specs.Reports.{in_queues};
 ghost use Rattle.nm_model.specs.Ordered.{new_leaf};
 ghost use Rattle.nm_model.specs.Step.{is_edge, reply_sight, reply_scan, reply_look, others_scanned, node_of, node_linked, is_leaf_draft, is_linkable, may_be_over, first, free_checks};
@@ -429,8 +429,8 @@ impl WorkerState {
         self.read(slot, side).is_some_and(Edge::tag)
     }
 
-    // Returns whether a private slot is filled as a leaf.
-    fn is_leaf_draft(&self, slot: u32) -> bool
+    /// Returns whether a private slot is filled as a leaf.
+    pub fn is_leaf_draft(&self, slot: u32) -> bool
         ensures { result ≡ is_leaf_draft self.now slot }
     {
         let draft = self.draft(slot);
@@ -483,6 +483,28 @@ impl WorkerState {
     {
         self.ledgers.retire(number, nodes)?;
         self.brief.unlabelled = true;
+        Ok(())
+    }
+
+    /// Records that this worker, of this number, swapped a private leaf in. It cut these nodes by it,
+    /// which wait for their label.
+    ///
+    /// Errors: out of memory; the knowledge is unchanged.
+    pub fn swap(&mut self, number: usize, new: u32, nodes: &[NodeId]) -> Result<(), AllocError>
+        requires is_there { number < length self.old.ledgers }
+        requires is_slot { 0 < new }
+        ensures ok { OnOk result (self.new ≡ cutting number (swapped_in self.old new) nodes.now) }
+        ensures err { OnErr result (self.new ≡ self.old) }
+    {
+        let is_met = self.known.contains(new);
+        self.meet(new)?;
+        if let Err(refused) = self.retire(number, nodes) {
+            if !is_met {
+                self.known.remove(new);
+            }
+            return Err(refused);
+        }
+        self.drafts.remove(new);
         Ok(())
     }
 

@@ -13,21 +13,21 @@ pub record Layout : Type 0 where
   pub radix : Bool
 
 -- the sizes that are allowed: 7 to 268,435,456 nodes, the five fixed ones counted, 1 to 64 workers,
--- and 0 or 511 unused words after each announcement
+-- and 0 or 15 unused words after each announcement
 pub record IsLayout (L : Layout) : Type 0 where
   pub least : 7 ≤ L.nodes
   pub most : L.nodes ≤ 268435456
   pub some : 1 ≤ L.workers
   pub few : L.workers ≤ 64
-  pub gaps : (L.gap ≡ 0) ⊎ (L.gap ≡ 511)
+  pub gaps : (L.gap ≡ 0) ⊎ (L.gap ≡ 15)
 
 -- words side by side, and the shape of Natarajan and Mittal
 abbrev pub dense : ℕ → ℕ → Layout
 dense nodes workers = record { nodes = nodes; workers = workers; gap = 0; radix = false }
 
--- each announcement in a page of its own
+-- each announcement apart from all other words, in 128 bytes of its own
 abbrev pub spaced : ℕ → ℕ → Layout
-spaced nodes workers = record { nodes = nodes; workers = workers; gap = 511; radix = false }
+spaced nodes workers = record { nodes = nodes; workers = workers; gap = 15; radix = false }
 
 -- the same sizes, and the shape of a radix tree
 abbrev pub in_radix : Layout → Layout

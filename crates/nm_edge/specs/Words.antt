@@ -33,9 +33,9 @@ IsField L (at_birth s) = IsSlot L s
 IsField L (at_row r) = r < rows L
 
 -- the first word after the epoch's and the announcements of this number of workers. With no gap the
--- words are side by side. With a gap of 511, announcements are 512 words apart, which is a page.
--- Two words of the epoch's page are assumed before its own word, so that each announcement begins a
--- page, and so does the first node
+-- words are side by side. With a gap of 15, announcements are 16 words apart, which are two cache
+-- lines. Two words are assumed before the epoch's own, so that each announcement begins at a
+-- multiple of 128 bytes, and so does the first node
 abbrev pub behind_announcements : Layout → ℕ → ℕ
 behind_announcements L w = 1 + (L.gap - 2) + (1 + L.gap) * w
 

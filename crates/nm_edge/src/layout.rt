@@ -13,7 +13,7 @@ pub const LEAST_NODES: u32 = 7;
 /// The greatest number of nodes of a layout whose words are side by side.
 pub const MOST_NODES: u32 = 1_048_576;
 
-/// The greatest number of nodes of a layout whose announcements have pages of their own.
+/// The greatest number of nodes of a layout whose announcements are apart.
 pub const MOST_SPACED_NODES: u32 = 268_435_456;
 
 /// The greatest number of workers.
@@ -23,17 +23,16 @@ pub const MOST_WORKERS: u32 = 64;
 /// give them back.
 pub const FIRST_SLOT: u32 = 6;
 
-/// The number of unused words after an announcement that has a page of its own: the rest of its
-/// 4,096 bytes. A cache line of its own would not be enough: processors fetch lines of a page
-/// ahead, so walks that read such lines would fetch announcements too.
-const PAGE_GAP: u32 = 511;
+/// The number of unused words after an announcement that is apart: the rest of its 128 bytes. A
+/// cache line of its own would not be enough, because processors fetch lines in pairs.
+const APART: u32 = 15;
 
-/// The number of words of the epoch's page before the epoch's own word. An allocator keeps its data
-/// about a large block in them.
+/// The number of words before the epoch's own, in its 128 bytes. An allocator keeps its data about a
+/// large block in them.
 const BEFORE_EPOCH: u32 = 2;
 
 /// The sizes and the shape of a tree. The sizes are the number of nodes (the five fixed ones
-/// counted), the number of workers, and whether their announcements have pages of their own. The
+/// counted), the number of workers, and whether their announcements are apart. The
 /// shape is that of a radix tree, or that of Natarajan and Mittal.
 #[derive(Clone, Copy, Debug, PartialEq, Eq)]
 pub struct Layout {
@@ -119,8 +118,8 @@ impl Layout {
     }
 
     /// Returns the layout of `nodes` nodes, 7 to 268,435,456, and 1 to 64 workers, in which each
-    /// announcement has a page of its own. No node is in two cache lines, if the words begin 16
-    /// bytes after the beginning of a page, like large blocks of glibc's `malloc`.
+    /// announcement has 128 bytes of its own. No node is in two cache lines, if the words begin 16
+    /// bytes after a multiple of 64, like large blocks of glibc's `malloc`.
     ///
     /// Errors: `Nodes`, `Workers`: there are too few or too many.
     pub fn spaced(nodes: u32, workers: u32) -> Result<Layout, LayoutError>
@@ -131,13 +130,13 @@ impl Layout {
             ↔ IsLayoutFault MOST_SPACED_NODES nodes workers LayoutError.Workers }
         ensures fits { IfOk result IsLayout }
     {
-        Layout::within(MOST_SPACED_NODES, nodes, workers, PAGE_GAP)
+        Layout::within(MOST_SPACED_NODES, nodes, workers, APART)
     }
 
     /// Returns the layout of `nodes` nodes, 7 to `most`, and 1 to 64 workers, with that gap.
     fn within(most: u32, nodes: u32, workers: u32, gap: u32) -> Result<Layout, LayoutError>
         requires most { most ≤ MOST_SPACED_NODES }
-        requires gap { (gap ≡ 0) ⊎ (gap ≡ PAGE_GAP) }
+        requires gap { (gap ≡ 0) ⊎ (gap ≡ APART) }
         ensures layout { IfOk result
             (λ layout. layout
             ≡ record { nodes = nodes; workers = workers; gap = gap; radix = false }) }
@@ -200,8 +199,8 @@ impl Layout {
     }
 
     /// Returns the number of words. They are, in this order: one for the epoch, one for each
-    /// worker, four for each node, and one for each 64 slots of the pool. If announcements have
-    /// pages of their own, 511 unused words follow each of them, and 509 follow the epoch's word.
+    /// worker, four for each node, and one for each 64 slots of the pool. If announcements
+    /// are apart, 15 unused words follow each of them, and 13 follow the epoch's word.
     pub fn words(self) -> u32
         ensures { result ≡ words self }
     {
@@ -284,9 +283,9 @@ pub fn place_in_row(slot: u32) -> u32
 /// Returns the number of the first word after the epoch's word and the announcements of `workers`
 /// workers, with that gap after each.
 fn announcements_end(gap: u32, workers: u32) -> u32
-    requires { (workers ≤ MOST_WORKERS) × ((gap ≡ 0) ⊎ (gap ≡ PAGE_GAP)) }
+    requires { (workers ≤ MOST_WORKERS) × ((gap ≡ 0) ⊎ (gap ≡ APART)) }
     ensures word { result ≡ 1 + (gap - 2) + (1 + gap) * workers }
-    ensures few { result ≤ 33278 }
+    ensures few { result ≤ 1038 }
 {
     1 + gap.saturating_sub(BEFORE_EPOCH) + (1 + gap) * workers
 }

@@ -9,6 +9,7 @@ use Rattle.nm_model.specs.declared.event.Op.{Op}
 use Rattle.nm_model.specs.declared.event.Event.TheVariants.{Announce, Advance, Leave, LeaveWith, Scan, SightFor}
 use Rattle.nm_model.specs.declared.reply.Refused.{Refused}
 use Rattle.nm_model.specs.Searches.{idle}
+use Rattle.nm_model.specs.Ordered.{has_put_in}
 use Rattle.nm_model.specs.Memory.{opening}
 use Rattle.nm_model.specs.Step.{refusal, is_held_back, last_number, others_scanned}
 use Rattle.nm_laws.proofs.Steps.{passed}
@@ -50,12 +51,14 @@ may_sight_for p op key announcement pin is = record {
   key = is;
 }
 
-pub may_leave : (p : PassView) → (epochs p).unlabelled ≡ false → (search p).linked ≡ false → (search p).flagged ≡ None → MayStep p Leave
+pub may_leave : (p : PassView) → (epochs p).unlabelled ≡ false → (search p).linked ≡ false → (search p).swapped ≡ false
+    → (search p).flagged ≡ None → MayStep p Leave
 unfolding refusal
-may_leave p labelled linked flagged = record {
+may_leave p labelled linked swapped flagged = record {
   looked = tt;
   allowed = λ m h. passes _ _ labelled;
-  ordered = passes _ _ (neither (search p).linked (is_some (search p).flagged) linked (ap is_some flagged));
+  ordered = passes _ _ (neither (has_put_in (search p)) (is_some (search p).flagged)
+      (neither (search p).linked (search p).swapped linked swapped) (ap is_some flagged));
   births = tt;
   key = tt;
 }

@@ -13,7 +13,7 @@ use Rattle.nm_steps.proofs.Seeing.{continues_then}
 use Rattle.nm_epoch.specs.declared.collecting.Entry.{Entry}
 use Rattle.nm_epoch.specs.declared.collecting.HeldQueue.{HeldQueue}
 use Rattle.nm_epoch.specs.Collecting.{AreHeld, NoneHas, freeing, ripe_of, ripe_part}
-use Rattle.nm_epoch.specs.Handing.{HandsFront, HandsFronts, HasHandedOut, HaveHandedOut, leaves_of}
+use Rattle.nm_epoch.specs.Handing.{HandsFront, HandsFronts, HasHandedOut, HaveHandedOut}
 use Rattle.nm_epoch.specs.Scans.{IsSightOf}
 use Rattle.nm_model.proofs.Lists.{longer_by}
 use Rattle.nm_epoch.proofs.FewFreed.{few_ripe}
@@ -25,10 +25,22 @@ use Rattle.nm_epoch.proofs.ReadValues.{continues_itself, read_on, read_from}
 -- ---- more of what the pass has seen, before and after
 
 handed_later : (epoch : ℕ) (p q r : PassView) (h g : HeldQueue) (es : List Entry) (vs : List ℕ) → Continues q r → HasHandedOut epoch p q h g es vs → HasHandedOut epoch p r h g es vs
-handed_later epoch p q r h g es vs after d = record { parts = d.parts; ripe = d.ripe; read = read_on h.origin p q r (leaves_of (length g.queue.items) es) vs after d.read; origin = d.origin; counts = d.counts }
+handed_later epoch p q r h g es vs after d = record {
+  parts = d.parts;
+  ripe = d.ripe;
+  read = read_on h.origin p q r es vs after d.read;
+  origin = d.origin;
+  counts = d.counts;
+}
 
 handed_earlier : (epoch : ℕ) (o p q : PassView) (h g : HeldQueue) (es : List Entry) (vs : List ℕ) → Continues o p → HasHandedOut epoch p q h g es vs → HasHandedOut epoch o q h g es vs
-handed_earlier epoch o p q h g es vs before d = record { parts = d.parts; ripe = d.ripe; read = read_from h.origin o p q (leaves_of (length g.queue.items) es) vs before d.read; origin = d.origin; counts = d.counts }
+handed_earlier epoch o p q h g es vs before d = record {
+  parts = d.parts;
+  ripe = d.ripe;
+  read = read_from h.origin o p q es vs before d.read;
+  origin = d.origin;
+  counts = d.counts;
+}
 
 pub all_earlier : (epoch : ℕ) (o p q : PassView) (hs gs : List HeldQueue) (es : List Entry) (vs : List ℕ) → Continues o p → HaveHandedOut epoch p q hs gs es vs → HaveHandedOut epoch o q hs gs es vs
 all_earlier epoch o p q [] [] es vs before d = d

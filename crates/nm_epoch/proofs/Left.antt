@@ -58,4 +58,6 @@ rests_still p q r s =
 -- and one that is pinned for a call that has only begun may still leave
 pub pinned_may_still_leave : (p q : PassView) (e : ℕ) (call : Option Call) → IsPinnedAt e call p → Settles p q → MayStep q Leave
 pinned_may_still_leave p q e call at s =
-    let t = s.stays (inl (ap is_some at.pin)) in may_leave q s.labelled (ap (λ (x : Search). x.linked) (t.search ∙ at.begun)) (ap (λ (x : Search). x.flagged) (t.search ∙ at.begun))
+    let t = s.stays (inl (ap is_some at.pin)) in
+    may_leave q s.labelled (ap (λ (x : Search). x.linked) (t.search ∙ at.begun))
+    (ap (λ (x : Search). x.swapped) (t.search ∙ at.begun)) (ap (λ (x : Search). x.flagged) (t.search ∙ at.begun))

@@ -1,7 +1,7 @@
 -- How a collection that hands out values goes on, node by node.
-use Rattle.std.proofs.Common.{◌≡◌, ◌⊎◌, inl, inr, ℕ, suc, ◌+◌, Bool, true, false, cond, List, [], ◌∷◌, ◌++◌, map, length, refl, sym, ap, subst, ◌∙◌, arith}
+use Rattle.std.proofs.Common.{◌≡◌, ◌⊎◌, inl, inr, ℕ, ◌+◌, Bool, true, false, cond, List, [], ◌∷◌, ◌++◌, map, length, refl, sym, ap, subst, ◌∙◌, arith}
 use Rattle.std.specs.Prelude.{Some, None, drop, nat_lt, ◌-◌, ◌≤◌}
-use Rattle.std.proofs.lemmas.Bool.{cond-true, cond-false, ltb-true}
+use Rattle.std.proofs.lemmas.Bool.{ltb-true}
 use Rattle.std.proofs.lemmas.Option.{none-some}
 use Rattle.std.proofs.lemmas.List.{append_assoc, append-nil, length-append, map-append}
 use Rattle.nm_edge.specs.Layouts.{IsLayout}
@@ -10,61 +10,121 @@ use Rattle.nm_model.specs.declared.event.Event.TheVariants.{Give}
 use Rattle.nm_model.specs.Walks.{Entry as LogEntry}
 use Rattle.nm_steps.specs.Rules.{knowledge, value_of}
 use Rattle.nm_steps.specs.Steps.{Continues, IsInRun, PassView, TakesStep, give_reply}
-use Rattle.nm_steps.specs.Values.{OnlySees}
+use Rattle.nm_steps.specs.Values.{OnlySees, is_bare}
 use Rattle.nm_steps.proofs.Seeing.{continues_by, continues_then, seen_itself, stores_same}
 use Rattle.nm_steps.proofs.ValueStays.{continues_by_value}
 use Rattle.nm_epoch.specs.declared.collecting.Entry.{Entry}
 use Rattle.nm_epoch.specs.declared.collecting.HeldQueue.{HeldQueue}
 use Rattle.nm_epoch.specs.Collecting.{IsQueueOf, IsTrimmed, freed_more, freeing, is_ripe, ripe_front, ripe_part}
-use Rattle.nm_epoch.specs.Handing.{HandsFront, WasRead, WereRead, is_odd, leaves_of}
+use Rattle.nm_epoch.specs.Handing.{HandsFront, HandsOut, WasFound, WasRead, WereRead}
 use Rattle.nm_epoch.proofs.OneQueue.{IsCollecting, collecting_on, freed_log, ripe_more, ripe_node}
 
--- ---- lists
+-- ---- what was read
 
--- one more entry was freed
-leaves_push : (n : ℕ) (fs : List Entry) (x : Entry) → leaves_of n (fs ++ x ∷ []) ≡ leaves_of (suc n) fs ++ cond (is_odd (suc n)) (x ∷ []) []
-leaves_push n [] x = ap (λ (m : ℕ). cond (is_odd (suc m)) (x ∷ []) []) (let zero' : length {A = Entry} [] + n ≡ n = omega arith in zero')
-leaves_push n (f ∷ fs) x = by (leaves_push n fs x) (is_odd (suc (length fs + suc n))) refl
-  where
-    sum : length (fs ++ x ∷ []) + n ≡ length fs + suc n
-    sum = let l = length-append fs (x ∷ []) in omega (arith, l)
+found_on : (origin : ℕ) (start p q : PassView) (e : Entry) (b : Bool) → Continues p q → WasFound origin start p e b
+    → WasFound origin start q e b
+found_on origin start p q e b on r = record {
+  at = r.at;
+  after = r.after;
+  until = continues_then r.at p q r.until on;
+  later = r.later;
+  waits = r.waits;
+  seen = r.seen;
+  is = r.is;
+}
 
-    same : is_odd (suc (length (fs ++ x ∷ []) + n)) ≡ is_odd (suc (length fs + suc n))
-    same = ap (λ (m : ℕ). is_odd (suc m)) sum
+found_from : (origin : ℕ) (o p q : PassView) (e : Entry) (b : Bool) → Continues o p → WasFound origin p q e b
+    → WasFound origin o q e b
+found_from origin o p q e b before r = record {
+  at = r.at;
+  after = continues_then o p r.at before r.after;
+  until = r.until;
+  later = r.later;
+  waits = r.waits;
+  seen = r.seen;
+  is = r.is;
+}
 
-    by : leaves_of n (fs ++ x ∷ []) ≡ leaves_of (suc n) fs ++ cond (is_odd (suc n)) (x ∷ []) [] → (b : Bool) → is_odd (suc (length fs + suc n)) ≡ b
-        → leaves_of n ((f ∷ fs) ++ x ∷ []) ≡ leaves_of (suc n) (f ∷ fs) ++ cond (is_odd (suc n)) (x ∷ []) []
-    by rest true is =
-        cond-true (is_odd (suc (length (fs ++ x ∷ []) + n))) (f ∷ leaves_of n (fs ++ x ∷ [])) (leaves_of n (fs ++ x ∷ [])) (same ∙ is)
-        ∙ (ap (λ (es : List Entry). f ∷ es) rest ∙ sym (ap (λ (es : List Entry). es ++ cond (is_odd (suc n)) (x ∷ []) []) (cond-true (is_odd (suc (length fs + suc n))) (f ∷ leaves_of (suc n) fs) (leaves_of (suc n) fs) is)))
-    by rest false is =
-        cond-false (is_odd (suc (length (fs ++ x ∷ []) + n))) (f ∷ leaves_of n (fs ++ x ∷ [])) (leaves_of n (fs ++ x ∷ [])) (same ∙ is)
-        ∙ (rest ∙ sym (ap (λ (es : List Entry). es ++ cond (is_odd (suc n)) (x ∷ []) []) (cond-false (is_odd (suc (length fs + suc n))) (f ∷ leaves_of (suc n) fs) (leaves_of (suc n) fs) is)))
+value_on : (origin : ℕ) (start p q : PassView) (e : Entry) (v : ℕ) → Continues p q → WasRead origin start p e v
+    → WasRead origin start q e v
+value_on origin start p q e v on r = record {
+  found = record {
+    at = r.found.at;
+    after = r.found.after;
+    until = continues_then r.found.at p q r.found.until on;
+    later = r.found.later;
+    waits = r.found.waits;
+    seen = r.found.seen;
+    is = r.found.is;
+  };
+  at = r.at;
+  after = r.after;
+  until = continues_then r.at p q r.until on;
+  later = r.later;
+  waits = r.waits;
+  seen = r.seen;
+  value = r.value;
+}
+
+value_from : (origin : ℕ) (o p q : PassView) (e : Entry) (v : ℕ) → Continues o p → WasRead origin p q e v
+    → WasRead origin o q e v
+value_from origin o p q e v before r = record {
+  found = record {
+    at = r.found.at;
+    after = continues_then o p r.found.at before r.found.after;
+    until = r.found.until;
+    later = r.found.later;
+    waits = r.found.waits;
+    seen = r.found.seen;
+    is = r.found.is;
+  };
+  at = r.at;
+  after = r.after;
+  until = r.until;
+  later = r.later;
+  waits = r.waits;
+  seen = r.seen;
+  value = r.value;
+}
 
 -- what was read stays so
 pub read_on : (origin : ℕ) (start p q : PassView) (es : List Entry) (vs : List ℕ) → Continues p q → WereRead origin start p es vs → WereRead origin start q es vs
-read_on origin start p q [] [] on r = tt
-read_on origin start p q [] (v ∷ vs) on r = absurd r
-read_on origin start p q (e ∷ es) [] on r = absurd r
-read_on origin start p q (e ∷ es) (v ∷ vs) on r = (
-  record { at = r.0.at; after = r.0.after; until = continues_then r.0.at p q r.0.until on; later = r.0.later; waits = r.0.waits; is_leaf = r.0.is_leaf; seen = r.0.seen; value = r.0.value },
-  read_on origin start p q es vs on r.1,
-)
+read_on origin start p q [] vs on r = r
+read_on origin start p q (e ∷ es) vs on (inl (other, rest)) = inl
+    (found_on origin start p q e false on other, read_on origin start p q es vs on rest)
+read_on origin start p q (e ∷ es) vs on (inr (v, later, are, one, rest)) = inr
+    (v, later, are, value_on origin start p q e v on one, read_on origin start p q es later on rest)
 
 pub read_from : (origin : ℕ) (o p q : PassView) (es : List Entry) (vs : List ℕ) → Continues o p → WereRead origin p q es vs → WereRead origin o q es vs
-read_from origin o p q [] [] before r = tt
-read_from origin o p q [] (v ∷ vs) before r = absurd r
-read_from origin o p q (e ∷ es) [] before r = absurd r
-read_from origin o p q (e ∷ es) (v ∷ vs) before r = (
-  record { at = r.0.at; after = continues_then o p r.0.at before r.0.after; until = r.0.until; later = r.0.later; waits = r.0.waits; is_leaf = r.0.is_leaf; seen = r.0.seen; value = r.0.value },
-  read_from origin o p q es vs before r.1,
-)
+read_from origin o p q [] vs before r = r
+read_from origin o p q (e ∷ es) vs before (inl (other, rest)) = inl
+    (found_from origin o p q e false before other, read_from origin o p q es vs before rest)
+read_from origin o p q (e ∷ es) vs before (inr (v, later, are, one, rest)) = inr
+    (v, later, are, value_from origin o p q e v before one, read_from origin o p q es later before rest)
 
-read_push : (origin : ℕ) (start p : PassView) (es : List Entry) (vs : List ℕ) (e : Entry) (v : ℕ) → WereRead origin start p es vs → WasRead origin start p e v → WereRead origin start p (es ++ e ∷ []) (vs ++ v ∷ [])
-read_push origin start p [] [] e v all one = (one, tt)
-read_push origin start p [] (w ∷ vs) e v all one = absurd all
-read_push origin start p (f ∷ es) [] e v all one = absurd all
-read_push origin start p (f ∷ es) (w ∷ vs) e v all one = (all.0, read_push origin start p es vs e v all.1 one)
+-- the value of the node at the front was read if it is a leaf, and these are all values then
+abbrev pub MayHaveRead : ℕ → PassView → PassView → Entry → List ℕ → List ℕ → Type 0
+MayHaveRead origin start p x vs ws = (WasFound origin start p x false × (ws ≡ vs))
+    ⊎ ((v : ℕ) × WasRead origin start p x v × (ws ≡ vs ++ v ∷ []))
+
+read_push : (origin : ℕ) (start p : PassView) (es : List Entry) (vs ws : List ℕ) (x : Entry)
+    → WereRead origin start p es vs → MayHaveRead origin start p x vs ws → WereRead origin start p (es ++ x ∷ []) ws
+read_push origin start p [] vs ws x none' (inl (other, same)) = inl (other, same ∙ none')
+read_push origin start p [] vs ws x none' (inr (v, one, is)) = inr
+    (v, [], is ∙ ap (λ (l : List ℕ). l ++ v ∷ []) none', one, refl)
+read_push origin start p (e ∷ es) vs ws x (inl (other, rest)) more = inl
+    (other, read_push origin start p es vs ws x rest more)
+read_push origin start p (e ∷ es) vs ws x (inr (v, later, are, one, rest)) (inl (other, same)) =
+    inr (v, later, same ∙ are, one, read_push origin start p es later later x rest (inl (other, refl)))
+read_push origin start p (e ∷ es) vs ws x (inr (v, later, are, one, rest)) (inr (u, two, is)) =
+    inr (
+      v,
+      later ++ u ∷ [],
+      is ∙ ap (λ (l : List ℕ). l ++ u ∷ []) are,
+      one,
+      read_push origin start p es later
+          (later ++ u ∷ []) x rest (inr (u, two, refl)),
+    )
 
 -- ---- one node
 
@@ -75,10 +135,18 @@ pub record IsHanding (epoch origin : ℕ) (start : PassView) (all : List Entry) 
   pub parts : all ≡ freed ++ now
   pub log : p.view.log ≡ start.view.log ++ map freeing freed
   pub ripe : ripe_part epoch all ≡ freed ++ ripe_part epoch now
-  pub read : WereRead origin start p (leaves_of (length now) freed) values
+  pub read : WereRead origin start p freed values
 
 pub handing_begins : (epoch origin : ℕ) (start : PassView) (all : List Entry) → IsCollecting epoch origin start all start all → IsHanding epoch origin start all start all []
-handing_begins epoch origin start all c = record { collecting = c; freed = []; parts = refl; log = sym (append-nil start.view.log); ripe = refl; read = tt }
+handing_begins epoch origin start all c = record {
+  collecting = c;
+  freed = [];
+  parts = refl;
+  log = sym
+      (append-nil start.view.log);
+  ripe = refl;
+  read = refl;
+}
 
 -- a look at a value changes nothing of this
 pub collecting_sees : (epoch origin : ℕ) (start p q : PassView) (all now : List Entry) → OnlySees p q → IsCollecting epoch origin start all p now → IsCollecting epoch origin start all q now
@@ -112,12 +180,9 @@ pub log_if : (p r : PassView) (b : Bool) → (b ≡ true → OnlySees p r) → (
 log_if p r true looks none' = ap (λ (z : PassView). z.view.log) (looks refl).same
 log_if p r false looks none' = ap (λ (z : PassView). z.view.log) (none' refl)
 
--- the value of the node at the front was read if it is a leaf, and these are all values then
-abbrev pub MayHaveRead : ℕ → PassView → PassView → Entry → Bool → List ℕ → List ℕ → Type 0
-MayHaveRead origin start p x is_leaf vs ws = ((is_leaf ≡ true) × (v : ℕ) × WasRead origin start p x v × (ws ≡ vs ++ v ∷ [])) ⊎ ((is_leaf ≡ false) × (ws ≡ vs))
-
 pub handing_more : (epoch origin : ℕ) (start p q : PassView) (all es : List Entry) (x : Entry) (vs ws : List ℕ) → IsHanding epoch origin start all p (x ∷ es) vs → ripe_part epoch (x ∷ es) ≡ x ∷ ripe_part epoch es → Continues p q
-    → q.view.log ≡ p.view.log ++ freeing x ∷ [] → IsCollecting epoch origin start all q es → MayHaveRead origin start q x (is_odd (suc (length es))) vs ws → IsHanding epoch origin start all q es ws
+    → q.view.log ≡ p.view.log ++ freeing x ∷ [] → IsCollecting epoch origin start all q es
+    → MayHaveRead origin start q x vs ws → IsHanding epoch origin start all q es ws
 handing_more epoch origin start p q all es x vs ws h more on log c new = record {
   collecting = c;
   freed = h.freed ++ x ∷ [];
@@ -126,33 +191,51 @@ handing_more epoch origin start p q all es x vs ws h more on log c new = record 
       ∙ (ap (λ (l : List LogEntry). l ++ freeing x ∷ []) h.log
       ∙ (append_assoc start.view.log (map freeing h.freed) (freeing x ∷ []) ∙ ap (λ (l : List LogEntry). start.view.log ++ l) (sym (map-append freeing h.freed (x ∷ [])))));
   ripe = h.ripe ∙ (ap (λ (l : List Entry). h.freed ++ l) more ∙ sym (append_assoc h.freed (x ∷ []) (ripe_part epoch es)));
-  read = subst (λ (l : List Entry). WereRead origin start q l ws) (sym (leaves_push (length es) h.freed x)) (by new);
+  read = read_push origin start q h.freed vs ws x (read_on origin start p q h.freed vs on h.read) new;
 }
-  where
-    before : WereRead origin start q (leaves_of (suc (length es)) h.freed) vs
-    before = read_on origin start p q (leaves_of (suc (length es)) h.freed) vs on h.read
 
-    by : MayHaveRead origin start q x (is_odd (suc (length es))) vs ws → WereRead origin start q (leaves_of (suc (length es)) h.freed ++ cond (is_odd (suc (length es))) (x ∷ []) []) ws
-    by (inl (odd, v, one, is)) = rw odd (rw is (read_push origin start q (leaves_of (suc (length es)) h.freed) vs x v before one))
-    by (inr (even, is)) = rw even (rw is (rw (append-nil (leaves_of (suc (length es)) h.freed)) before))
+-- the looks before a free go on, and change nothing of this
+module _ (p r : PassView) (slot count result : ℕ) (old new : List ℕ) (h : HandsOut p r slot count result old new) where
+  pub handed_mid : IsInRun p → Continues p h.mid
+  handed_mid run = continues_by_look p h.mid run h.looks.sees
 
--- what was read of the node at the front
-pub front_read : (origin : ℕ) (start r q : PassView) (x : Entry) (es : List Entry) (epoch : ℕ) (all : List Entry) (p : PassView) → Continues start r → Continues r q → OnlySees p r → IsCollecting epoch origin start all r (x ∷ es)
-    → is_odd (suc (length es)) ≡ true → WasRead origin start q x (value_of r.view.stores x.node.slot)
-front_read origin start r q x es epoch all p after until sees c odd = record { at = r; after = after; until = until; later = es; waits = c.queue; is_leaf = odd; seen = sees.seen; value = refl }
+  pub handed_rest : IsInRun p → Continues h.mid r
+  handed_rest run = continues_if h.mid r h.bare (handed_mid run).run (λ e. (h.leaf e).0) (λ e. (h.other e).0)
+
+  pub handed_continues : IsInRun p → Continues p r
+  handed_continues run = continues_then p h.mid r (handed_mid run) (handed_rest run)
+
+  pub mid_collecting : (epoch origin : ℕ) (start : PassView) (all now : List Entry)
+      → IsCollecting epoch origin start all p now → IsCollecting epoch origin start all h.mid now
+  mid_collecting epoch origin start all now c = collecting_sees epoch origin start p h.mid all now h.looks.sees c
+
+  pub handed_collecting : (epoch origin : ℕ) (start : PassView) (all now : List Entry)
+      → IsCollecting epoch origin start all p now → IsCollecting epoch origin start all r now
+  handed_collecting epoch origin start all now c = collecting_if epoch origin start h.mid r all now h.bare
+      (λ e. (h.leaf e).0) (λ e. (h.other e).0) (mid_collecting epoch origin start all now c)
+
+  pub handed_log : r.view.log ≡ p.view.log
+  handed_log = log_if h.mid r h.bare (λ e. (h.leaf e).0) (λ e. (h.other e).0)
+      ∙ ap (λ (z : PassView). z.view.log) h.looks.sees.same
 
 -- the node at the front was freed, after a look at its value if it is a leaf
-pub handing_on : (epoch origin : ℕ) (start p r q : PassView) (all now later : List Entry) (vs ws : List ℕ) (n : NodeId) (b : Bool) → Continues start p → IsHanding epoch origin start all p now vs → ripe_front epoch now ≡ Some n → b ≡ is_odd (length now)
-    → (b ≡ true → OnlySees p r × (ws ≡ vs ++ value_of r.view.stores n.slot ∷ [])) → (b ≡ false → (r ≡ p) × (ws ≡ vs)) → TakesStep r q (Give n.slot) (give_reply r.view n.slot) → (y : Entry) → now ≡ y ∷ later → IsHanding epoch origin start all q later ws
-handing_on epoch origin start p r q all [] later vs ws n b on h ripe leaf looks none' step y is = absurd (none-some n ripe)
-handing_on epoch origin start p r q all (x ∷ es) later vs ws n b on h ripe leaf looks none' step y is =
+pub handing_on : (epoch origin : ℕ) (start p r q : PassView) (all now later : List Entry) (vs ws : List ℕ)
+    (n : NodeId) (count result : ℕ) (old new : List ℕ) → Continues start p → IsHanding epoch origin start all p now vs
+    → ripe_front epoch now ≡ Some n
+    → (h : HandsOut p r n.slot count result old new) → (h.bare ≡ true → ws ≡ vs ++ value_of r.view.stores n.slot ∷ [])
+    → (h.bare ≡ false → ws ≡ vs)
+    → TakesStep r q (Give n.slot) (give_reply r.view n.slot) → (y : Entry) → now ≡ y ∷ later
+    → IsHanding epoch origin start all q later ws
+handing_on epoch origin start p r q all [] later vs ws n count result old new on d ripe h values same step y
+    is = absurd (none-some n ripe)
+handing_on epoch origin start p r q all (x ∷ es) later vs ws n count result old new on d ripe h values same step y is =
     subst (λ (l : List Entry). IsHanding epoch origin start all q l ws) (ap (λ (l : List Entry). drop 1 l) is) here
   where
     at_r : Continues p r
-    at_r = continues_if p r b on.run (λ e. (looks e).0) (λ e. (none' e).0)
+    at_r = handed_continues p r n.slot count result old new h on.run
 
     c_r : IsCollecting epoch origin start all r (x ∷ es)
-    c_r = collecting_if epoch origin start p r all (x ∷ es) b (λ e. (looks e).0) (λ e. (none' e).0) h.collecting
+    c_r = handed_collecting p r n.slot count result old new h epoch origin start all (x ∷ es) d.collecting
 
     to_q : Continues r q
     to_q = continues_by r q (Give n.slot) (give_reply r.view n.slot) step
@@ -166,15 +249,42 @@ handing_on epoch origin start p r q all (x ∷ es) later vs ws n b on h ripe lea
     log_q : q.view.log ≡ r.view.log ++ freeing x ∷ []
     log_q = freed_log epoch origin start r q all es x n at_r.run c_r ripe step.step
 
-    read : MayHaveRead origin start q x (is_odd (suc (length es))) vs ws
-    read = by b refl
+    found : (b : Bool) → h.bare ≡ b → WasFound origin start q x b
+    found b e = record {
+      at = h.mid;
+      after = continues_then start p h.mid on (handed_mid p r n.slot count result old new h on.run);
+      until = continues_then h.mid r q (handed_rest p r n.slot count result old new h on.run) to_q;
+      later = es;
+      waits = (mid_collecting p r n.slot count result old new h epoch origin start all (x ∷ es) d.collecting).queue;
+      seen = h.looks.sees.seen;
+      is = sym e ∙ (h.looks.is ∙ ap (λ (m : NodeId). is_bare h.mid.view h.looks.sees.seen m.slot) (sym node.1));
+    }
+
+    read : MayHaveRead origin start q x vs ws
+    read = by h.bare refl
       where
-        by : (d : Bool) → b ≡ d → MayHaveRead origin start q x (is_odd (suc (length es))) vs ws
-        by true e = inl (sym leaf ∙ e, value_of r.view.stores x.node.slot, front_read origin start r q x es epoch all p (continues_then start p r on at_r) to_q (looks e).0 c_r (sym leaf ∙ e), (looks e).1 ∙ ap (λ (m : NodeId). vs ++ value_of r.view.stores m.slot ∷ []) (sym node.1))
-        by false e = inr (sym leaf ∙ e, (none' e).1)
+        by : (b : Bool) → h.bare ≡ b → MayHaveRead origin start q x vs ws
+        by true e = inr (
+          value_of r.view.stores x.node.slot,
+          record {
+            found = found true e;
+            at = r;
+            after = handed_rest p r n.slot count result old new h on.run;
+            until = to_q;
+            later = es;
+            waits = c_r.queue;
+            seen = (h.leaf e).0.seen;
+            value = refl;
+          },
+          values e ∙ ap (λ (m : NodeId). vs ++ value_of r.view.stores m.slot ∷ []) (sym node.1),
+        )
+        by false e = inl (found false e, same e)
 
     here : IsHanding epoch origin start all q es ws
-    here = handing_more epoch origin start p q all es x vs ws h (ripe_more epoch x es node.0) (continues_then p r q at_r to_q) (log_q ∙ ap (λ (l : List LogEntry). l ++ freeing x ∷ []) (log_if p r b (λ e. (looks e).0) (λ e. (none' e).0))) c_q read
+    here = handing_more epoch origin start p q all es x vs ws d (ripe_more epoch x es node.0)
+        (continues_then p r q at_r to_q)
+        (log_q ∙ ap (λ (l : List LogEntry). l ++ freeing x ∷ []) (handed_log p r n.slot count result old new h)) c_q
+        read
 
 -- the values that were written, and their number
 pub taken_on : (b : Bool) (vs base was now : List ℕ) (v : ℕ) → was ≡ base ++ vs → (b ≡ true → now ≡ was ++ v ∷ []) → (b ≡ false → now ≡ was) → now ≡ base ++ cond b (vs ++ v ∷ []) vs
@@ -201,7 +311,7 @@ handed_front epoch room p q h g now vs d on all items origin counts trimmed =
       handed = record {
         parts = d.parts ∙ ap (λ (l : List Entry). d.freed ++ l) (sym items);
         ripe = d.ripe ∙ ap (λ (l : List Entry). d.freed ++ ripe_part epoch l) (sym items);
-        read = subst (λ (l : List Entry). WereRead h.origin p q (leaves_of (length l) d.freed) vs) (sym items) d.read;
+        read = d.read;
         origin = origin;
         counts = counts ∙ ap (λ (n : ℕ). freed_more n h.counts) (omega (arith, sum, long));
       };

@@ -1,11 +1,11 @@
 -- Collections that hand out the value of each leaf that they free, in a table with values.
-use Rattle.std.specs.Prelude.{◌≡◌, ◌≢◌, ◌≤◌, ℕ, suc, ◌+◌, ◌==◌, ◌%◌, Bool, true, List, [], ◌∷◌, ◌++◌, map, length, Some, None, if◌then◌else◌}
+use Rattle.std.specs.Prelude.{◌≡◌, ◌≢◌, ◌⊎◌, ◌≤◌, ◌+◌, ℕ, Bool, true, false, List, [], ◌∷◌, ◌++◌, map, length, take, Some, None}
 use Rattle.nm_model.specs.Ledgers.{held}
 use Rattle.nm_model.specs.Walks.{Entry as LogEntry}
 use Rattle.nm_order.specs.Reads.{HasRead}
 use Rattle.nm_steps.specs.Rules.{knowledge, value_of}
 use Rattle.nm_steps.specs.Steps.{PassView, Continues}
-use Rattle.nm_steps.specs.Values.{HasSeenStores}
+use Rattle.nm_steps.specs.Values.{HasSeenStores, OnlySees, SeesLeft, is_bare}
 use Rattle.nm_epoch.specs.declared.collecting.Entry.{Entry}
 use Rattle.nm_epoch.specs.declared.collecting.HeldQueue.{HeldQueue}
 use Rattle.nm_epoch.specs.declared.handing.HandedOut.{HandedOut}
@@ -13,33 +13,46 @@ use Rattle.nm_epoch.specs.Collecting.{AreHeld, AreTrimmed, IsQueueOf, IsTrimmed,
 use Rattle.nm_epoch.specs.Resting.{Settles, epochs}
 use Rattle.nm_epoch.specs.Scans.{IsSightOf}
 
--- a splice appends internal nodes to a queue, each followed by its leaf. So the node at the front of
--- a queue is a leaf if an odd number of nodes wait
-abbrev pub is_odd : ℕ → Bool
-is_odd n = (n % 2) == 1
-
--- the leaves among these entries, which are the front of a queue in which so many more wait
-abbrev pub leaves_of : ℕ → List Entry → List Entry
-leaves_of more [] = []
-leaves_of more (e ∷ es) = if is_odd (suc (length es + more)) then e ∷ leaves_of more es else leaves_of more es
-
--- at a moment between p and q, when this entry was at the front of its queue, and an odd number of
--- entries waited there, the pass read this value of the entry's slot
-pub record WasRead (origin : ℕ) (p q : PassView) (e : Entry) (v : ℕ) : Type 0 where
+-- at a moment between p and q, when this entry was at the front of its queue, the pass saw whether the
+-- left edge of the entry's slot leads to a node. It leads to none if the node is a leaf (`bare`)
+pub record WasFound (origin : ℕ) (p q : PassView) (e : Entry) (bare : Bool) : Type 0 where
   pub at : PassView
   pub after : Continues p at
   pub until : Continues at q
   pub later : List Entry
   pub waits : IsQueueOf (knowledge at.view) origin (e ∷ later)
-  pub is_leaf : is_odd (suc (length later)) ≡ true
+  pub seen : HasSeenStores at.view
+  pub is : bare ≡ is_bare at.view seen e.node.slot
+
+-- the entry was found to be a leaf. After that, when it still was at the front of its queue, the pass
+-- read this value of its slot
+pub record WasRead (origin : ℕ) (p q : PassView) (e : Entry) (v : ℕ) : Type 0 where
+  pub found : WasFound origin p q e true
+  pub at : PassView
+  pub after : Continues found.at at
+  pub until : Continues at q
+  pub later : List Entry
+  pub waits : IsQueueOf (knowledge at.view) origin (e ∷ later)
   pub seen : HasSeenStores at.view
   pub value : v ≡ value_of at.view.stores e.node.slot
 
--- each of these values was read for the entry at its place
+-- these values were read for the leaves among these entries, in their order. Each other entry was found
+-- to be no leaf
 abbrev pub WereRead : ℕ → PassView → PassView → List Entry → List ℕ → Type 0
-WereRead origin p q [] [] = Unit {0}
-WereRead origin p q (e ∷ es) (v ∷ vs) = WasRead origin p q e v × WereRead origin p q es vs
-WereRead origin p q _ _ = ⊥
+WereRead origin p q [] vs = vs ≡ []
+WereRead origin p q (e ∷ es) vs = (WasFound origin p q e false × WereRead origin p q es vs)
+    ⊎ ((v : ℕ) × (later : List ℕ) × (vs ≡ v ∷ later) × WasRead origin p q e v
+    × WereRead origin p q es later)
+
+-- the pass has seen whether the left edge of a slot leads to a node. If it leads to none, the value of
+-- the slot was read and written after the others, of which there were `count`
+pub record HandsOut (p q : PassView) (slot count result : ℕ) (old new : List ℕ) : Type 0 where
+  pub mid : PassView
+  pub bare : Bool
+  pub looks : SeesLeft p mid slot bare
+  pub leaf : bare ≡ true → OnlySees mid q × (result ≡ count + 1)
+      × (take result new ≡ take count old ++ value_of q.view.stores slot ∷ [])
+  pub other : bare ≡ false → (q ≡ mid) × (result ≡ count) × (new ≡ old)
 
 -- ---- one queue
 
@@ -48,7 +61,7 @@ WereRead origin p q _ _ = ⊥
 pub record HasHandedOut (epoch : ℕ) (p q : PassView) (h g : HeldQueue) (freed : List Entry) (values : List ℕ) : Type 0 where
   pub parts : h.queue.items ≡ freed ++ g.queue.items
   pub ripe : ripe_part epoch h.queue.items ≡ freed ++ ripe_part epoch g.queue.items
-  pub read : WereRead h.origin p q (leaves_of (length g.queue.items) freed) values
+  pub read : WereRead h.origin p q freed values
   pub origin : g.origin ≡ h.origin
   pub counts : g.counts ≡ freed_more (length freed) h.counts
 

@@ -21,6 +21,7 @@ abbrev pub begun_for : Option Call → Search
 begun_for call = record {
   call = call;
   linked = false;
+  swapped = false;
   flagged = None;
   cut = false;
   walks = [];

@@ -2,12 +2,12 @@
 //! leaf among them.
 ghost use Rattle.std.specs.Prelude.{◌≡◌, ◌⊎◌, ◌+◌, ◌<◌, ◌≤◌, ℕ, List, [], ◌∷◌, ◌++◌, length, take, true, false, nat_lt, Some, None, IfSome};
 ghost use Rattle.nm_edge.specs.Words.{IsSlot};
-ghost use Rattle.nm_steps.specs.Rules.{knowledge, value_of};
+ghost use Rattle.nm_steps.specs.Rules.{knowledge};
 ghost use Rattle.nm_steps.specs.Steps.{IsOf};
-ghost use Rattle.nm_steps.specs.Values.{HasValues, OnlySees};
+ghost use Rattle.nm_steps.specs.Values.{HasValues};
 ghost use Rattle.nm_epoch.specs.Resting.{epochs};
 ghost use Rattle.nm_epoch.specs.Collecting.{AreHeld, IsQueueOf, ripe_front};
-ghost use Rattle.nm_epoch.specs.Handing.{CollectsValues, HandsFront, HandsFronts, is_odd};
+ghost use Rattle.nm_epoch.specs.Handing.{CollectsValues, HandsFront, HandsFronts, HandsOut};
 
 use crate::collecting::{Entry, HeldQueue, SPARE_KEPT, drop_front, free, next_ripe};
 use crate::looking::read;
@@ -15,55 +15,40 @@ use nm_edge::{NodeId, Placement};
 use nm_limbo::BlockQueue;
 use nm_steps::{Pass, Shared};
 
-/// The node at the front of a queue.
-#[derive(Clone, Copy, Debug, PartialEq, Eq)]
-struct Front {
-    node: NodeId,
-    is_leaf: bool,
-}
-
-/// Returns the node at the front, if it is ripe. A leaf is not returned if there is no room for its
-/// value.
-fn next_handed(queue: &BlockQueue<Entry>, epoch: u64, has_room: bool) -> Option<Front>
-    ensures node { IfSome result (λ f. ripe_front epoch queue.now.items ≡ Some f.node) }
-    ensures leaf { IfSome result (λ f. f.is_leaf ≡ is_odd (length queue.now.items)) }
-    ensures room { IfSome result (λ f. f.is_leaf ≡ true → has_room ≡ true) }
+/// Returns the node at the front, if it is ripe and there is room for its value.
+fn next_handed(queue: &BlockQueue<Entry>, epoch: u64, has_room: bool) -> Option<NodeId>
+    ensures node { IfSome result (λ n. ripe_front epoch queue.now.items ≡ Some n) }
+    ensures room { IfSome result (λ n. has_room ≡ true) }
     ensures none { result ≡ None → has_room ≡ true → ripe_front epoch queue.now.items ≡ None }
 {
-    let Some(node) = next_ripe(queue, epoch) else {
-        return None;
-    };
-    let is_leaf = queue.len() % 2 == 1;
-    if is_leaf && !has_room {
-        return None;
+    if has_room {
+        next_ripe(queue, epoch)
+    } else {
+        None
     }
-    Some(Front { node, is_leaf })
 }
 
-/// Writes the value of a leaf to `out`, after `count` other ones. Of another node it writes nothing.
-/// Returns how many values there are then.
-fn hand_out(shared: &Shared, pass: &mut Pass, front: Front, out: &mut [u64], count: usize) -> usize
+/// Writes the value of a slot to `out`, after `count` other ones, if the node there is a leaf. Of
+/// another node it writes nothing. Returns how many values there are then.
+fn hand_out(shared: &Shared, pass: &mut Pass, slot: u32, out: &mut [u64], count: usize) -> usize
     requires own { IsOf shared.now pass.old }
     requires values { HasValues shared.now }
-    requires slot { IsSlot shared.now.layout front.node.slot }
-    requires room { front.is_leaf ≡ true → count < length out.old }
-    ensures leaf { front.is_leaf ≡ true → OnlySees pass.old pass.new × (result ≡ count + 1)
-        × (take result out.new
-        ≡ take count out.old ++ value_of pass.new.view.stores front.node.slot ∷ []) }
-    ensures other { front.is_leaf ≡ false → (pass.new ≡ pass.old) × (result ≡ count)
-        × (out.new ≡ out.old) }
+    requires slot { IsSlot shared.now.layout slot }
+    requires room { count < length out.old }
+    ensures after { HandsOut pass.old pass.new slot count result out.old out.new }
     ensures long { length out.new ≡ length out.old }
 {
-    if !front.is_leaf {
+    pass.know_run();
+    if !shared.look_bare(pass, slot) {
         return count;
     }
-    out[count] = shared.look_value(pass, front.node.slot);
+    out[count] = shared.look_value(pass, slot);
     count + 1
 }
 
 /// Frees what is ripe at the front of one held queue, given the epoch that the worker read last, and
-/// writes the value of each freed leaf to `out`, after `count` other ones. It stops at a leaf if
-/// `out` is full. Returns how many values there are then.
+/// writes the value of each freed leaf to `out`, after `count` other ones. It stops if `out` is full.
+/// Returns how many values there are then.
 fn hand_out_front(
     shared: &Shared,
     pass: &mut Pass,
@@ -88,11 +73,11 @@ fn hand_out_front(
     pass.know_run();
     let waiting = held.queue.len();
     let mut written = count;
-    while let Some(front) = next_handed(&held.queue, epoch, written < out.len()) {
-        written = hand_out(shared, pass, front, out, written);
-        free(shared, pass, front.node.slot);
+    while let Some(node) = next_handed(&held.queue, epoch, written < out.len()) {
+        written = hand_out(shared, pass, node.slot, out, written);
+        free(shared, pass, node.slot);
         drop_front(&mut held.queue);
-        placement.keep(front.node.slot);
+        placement.keep(node.slot);
     }
     let _receipt = held.queue.shrink_to(SPARE_KEPT);
     let freed = waiting - held.queue.len();
@@ -141,13 +126,13 @@ pub struct HandedOut {
 
 /// Frees nodes as `collect` does, in a table with values, and writes the value of each freed leaf to
 /// `out`, in the order in which the leaves are freed. It reads the value while the leaf still waits,
-/// so no other worker has the slot. If `out` is full, it stops before the next leaf, and a later
-/// call goes on there. If it returns fewer values than `out` has room for, no ripe node is left at
+/// so no other worker has the slot. If `out` is full, it stops, and a later call goes on there. If it returns fewer values than `out` has room for, no ripe node is left at
 /// the front of a queue.
 ///
 /// Each node that waits is freed once, so its value is handed out once. Two epochs after the label
 /// no worker is pinned that could still come to the node (Fraser, Practical lock-freedom, 2004,
-/// chapter 5). Cost: one step to read the epoch, one for each freed node, and a look for each value.
+/// chapter 5). Cost: one step to read the epoch, one and a look for each freed node, and a look for
+/// each value.
 pub fn collect_values(
     shared: &Shared,
     pass: &mut Pass,

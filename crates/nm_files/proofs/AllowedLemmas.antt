@@ -12,6 +12,7 @@ use Rattle.nm_files.specs.declared.read.fault.Reason.TheVariants as reason
 use Rattle.nm_files.specs.declared.read.fault.RunFault.{RunFault}
 use Rattle.nm_files.specs.declared.read.header.Command.{Command}
 use Rattle.nm_files.specs.declared.read.header.Header.{Header}
+use Rattle.nm_files.specs.declared.read.header.Forms.{Forms}
 use Rattle.nm_files.specs.Lines.{parts, fields, is_field}
 use Rattle.nm_files.specs.Values.{Values, values_of, worker_of, no_values}
 use Rattle.nm_files.specs.Values.Argument.{Worker}
@@ -23,7 +24,7 @@ use Rattle.nm_files.proofs.ValueLemmas.{both_are, found_is, ok_is, seen_is, then
 
 -- a kind makes calls of its values that a file may have if the kind may stand
 abbrev Allows : Kind ScriptCall → Type 0
-Allows kind = (workers : ℕ) (is_extended is_bare : Bool) → kind.may_stand is_extended is_bare ≡ true → (fs : List (List ℕ)) (values : Values kind.arguments) → values_of workers kind.arguments fs ≡ Ok values → IsAllowed workers is_extended (made kind.arguments kind.maker values)
+Allows kind = (workers : ℕ) (forms : Forms) (is_bare : Bool) → kind.may_stand forms is_bare ≡ true → (fs : List (List ℕ)) (values : Values kind.arguments) → values_of workers kind.arguments fs ≡ Ok values → IsAllowed workers forms (made kind.arguments kind.maker values)
 
 heir_below : (workers : ℕ) (fs : List (List ℕ)) (values : Values (Worker ∷ [])) → values_of workers (Worker ∷ []) fs ≡ Ok values → values.0 < workers
 heir_below workers [] values e = absurd cc
@@ -43,13 +44,13 @@ entry_allowed header (a ∷ []) e is = absurd cc
 entry_allowed header (a ∷ b ∷ fs) e is =
     let workers = header.layout.workers in
     let bare = length fs == 0 in
-    let both = both_are (worker_of workers a) (made_by calls workers header.is_extended b fs) e is in
-    let k = then_is (kind_of calls header.is_extended b bare) _ e.1 both.1 in
-    let found = found_is Allows (is_named header.is_extended b bare) calls k.0 (some_is _ k.0 k.1) calls_allow in
+    let both = both_are (worker_of workers a) (made_by calls workers header.forms b fs) e is in
+    let k = then_is (kind_of calls header.forms b bare) _ e.1 both.1 in
+    let found = found_is Allows (is_named header.forms b bare) calls k.0 (some_is _ k.0 k.1) calls_allow in
     let values = seen_is (made k.0.arguments k.0.maker) (values_of workers k.0.arguments fs) e.1 k.2 in
-    let stands = and_parts (bytes_eq b k.0.word) (k.0.may_stand header.is_extended bare) found.1 in
-    let allowed = found.0 workers header.is_extended bare stands.1 fs values.0 values.1 in
-    (worker_below workers a e.0 both.0, subst (IsAllowed workers header.is_extended) (sym values.2) allowed)
+    let stands = and_parts (bytes_eq b k.0.word) (k.0.may_stand header.forms bare) found.1 in
+    let allowed = found.0 workers header.forms bare stands.1 fs values.0 values.1 in
+    (worker_below workers a e.0 both.0, subst (IsAllowed workers header.forms) (sym values.2) allowed)
 
 pub line_allowed : (header : Header) (line : List ℕ) (e : ℕ × ScriptCall) → line_of calls header line ≡ Ok e → IsEntryOf header e
 line_allowed header line e is =

@@ -66,7 +66,7 @@ unfolding entry_of made_by
 entry_take kinds few header [] = refl
 entry_take kinds few header (a ∷ []) = refl
 entry_take kinds few header (a ∷ b ∷ more) =
-    rw (is_bare_take more) (ap (both (worker_of header.layout.workers a)) (after_kind kinds few header.layout.workers (is_named header.is_extended b (length more == 0)) more _ refl))
+    rw (is_bare_take more) (ap (both (worker_of header.layout.workers a)) (after_kind kinds few header.layout.workers (is_named header.forms b (length more == 0)) more _ refl))
 
 -- ---- what a function of the program gives
 

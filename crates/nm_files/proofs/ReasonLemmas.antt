@@ -101,7 +101,7 @@ kind_first : {A : Type 0} (B : Type 0) (r : Result A Reason) (p : Reason → Boo
 kind_first B r p by_p = both_lesser {B = B} r (Err reason.Kind) ∙ rw (by_p, first_found p) (grind arith)
 
 kind_least : {X : Type 0} (kinds : List (KindOf X)) (header : Header) (w k : List ℕ) (fs : List (List ℕ)) → list_all is_field (w ∷ k ∷ fs) ≡ true
-    → (o : Option (KindOf X)) → find (is_named header.is_extended k (length fs == 0)) kinds ≡ o
+    → (o : Option (KindOf X)) → find (is_named header.forms k (length fs == 0)) kinds ≡ o
     → reason_in (entry_of kinds header (w ∷ k ∷ fs)) ≡ find (holds_of kinds header false (w ∷ k ∷ fs)) line_reasons
 unfolding entry_of made_by
 kind_least {X} kinds header w k fs formed None is =
@@ -161,7 +161,7 @@ or_else given version limits others gives =
     ]
 
 later_give : (command : Command) (version : List ℕ) → Gives reason.Header (later_limits command version)
-later_give Replay version = or_else version (codes "2") _ _ (or_else version (codes "3") _ _ (or_else version (codes "4") _ _ (inl refl)))
+later_give Replay version = or_else version (codes "2") _ _ (or_else version (codes "3") _ _ (or_else version (codes "4") _ _ (or_else version (codes "5") _ _ (inl refl))))
 later_give Serial version = or_else version (codes "2") _ _ (or_else version (codes "3") _ _ (inl refl))
 later_give Stress version = or_else version (codes "2") _ _ (or_else version (codes "3") _ _ (inl refl))
 

@@ -19,7 +19,7 @@ use Rattle.nm_files.specs.Files.{Fault, File, file_from}
 unfoldable pub entry_of : {X : Type 0} → List (Kind X) → Header → List (List ℕ) → Result (ℕ × X) Reason
 entry_of kinds header (worker ∷ word ∷ arguments) =
     both (worker_of header.layout.workers worker)
-    (made_by kinds header.layout.workers header.is_extended word arguments)
+    (made_by kinds header.layout.workers header.forms word arguments)
 entry_of kinds header _ = Err reason.Form
 
 -- the worker and the entry of a line, in a file with that header
@@ -52,7 +52,7 @@ script_of command bytes = file_of calls command bytes
 -- the worker is one of the header's, and its call one that the file may have
 abbrev pub IsEntryOf : Header → ℕ × ScriptCall → Type 0
 IsEntryOf header e = (e.0 < header.layout.workers)
-    × IsAllowed header.layout.workers header.is_extended e.1
+    × IsAllowed header.layout.workers header.forms e.1
 
 abbrev pub ResignsInSerial : Command → Header → Type 0
-ResignsInSerial command header = SerialAlone command header.is_extended
+ResignsInSerial command header = SerialAlone command header.forms.is_extended

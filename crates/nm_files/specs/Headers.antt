@@ -9,6 +9,7 @@ use Rattle.nm_files.specs.declared.read.fault.Reason.TheVariants as reason
 use Rattle.nm_files.specs.declared.read.header.Command.{Command}
 use Rattle.nm_files.specs.declared.read.header.Command.TheVariants.{Replay, Serial, Stress}
 use Rattle.nm_files.specs.declared.read.header.Limits.{Limits}
+use Rattle.nm_files.specs.declared.read.header.Forms.{Forms}
 use Rattle.nm_files.specs.declared.read.header.Header.{Header}
 use Rattle.nm_files.specs.Lines.{number}
 use Rattle.nm_model.specs.Step.{outside}
@@ -19,37 +20,44 @@ command_word Replay = codes "schedule"
 command_word Serial = codes "serial"
 command_word Stress = codes "stress"
 
+-- `without_swaps`, `with_swaps`: the forms of lines of a version without swaps, and of one with them
+abbrev pub without_swaps : Bool → Forms
+without_swaps is_extended = record { is_extended = is_extended; has_swaps = false }
+
+abbrev pub with_swaps : Forms
+with_swaps = record { is_extended = true; has_swaps = true }
+
 -- the limits with as many nodes and workers as a layout can have
-abbrev pub greatest : Bool → Bool → Limits
-greatest is_extended is_radix = record {
+abbrev pub greatest : Forms → Bool → Limits
+greatest forms is_radix = record {
   nodes = 1048576;
   workers = 64;
-  is_extended = is_extended;
+  forms = forms;
   is_radix = is_radix;
 }
 
--- `later_limits`, `limits_by`: the greatest sizes that a version of the format allows, whether it
--- has the lines of later versions, and whether its tree is a radix tree; for versions 2 and later,
--- and for all versions
+-- `later_limits`, `limits_by`: the greatest sizes that a version of the format allows, the forms of
+-- its lines, and whether its tree is a radix tree; for versions 2 and later, and for all versions
 abbrev pub later_limits : Command → List ℕ → Result Limits Reason
 later_limits Replay version =
-    if bytes_eq version (codes "2") then Ok (greatest false false)
-    else if bytes_eq version (codes "3") then Ok (greatest true false)
-    else if bytes_eq version (codes "4") then Ok (greatest true true)
+    if bytes_eq version (codes "2") then Ok (greatest (without_swaps false) false)
+    else if bytes_eq version (codes "3") then Ok (greatest (without_swaps true) false)
+    else if bytes_eq version (codes "4") then Ok (greatest (without_swaps true) true)
+    else if bytes_eq version (codes "5") then Ok (greatest with_swaps true)
     else Err reason.Header
 later_limits Serial version =
-    if bytes_eq version (codes "2") then Ok (greatest true false)
-    else if bytes_eq version (codes "3") then Ok (greatest true true)
+    if bytes_eq version (codes "2") then Ok (greatest (without_swaps true) false)
+    else if bytes_eq version (codes "3") then Ok (greatest (without_swaps true) true)
     else Err reason.Header
 later_limits Stress version =
-    if bytes_eq version (codes "2") then Ok (greatest false false)
-    else if bytes_eq version (codes "3") then Ok (greatest false true)
+    if bytes_eq version (codes "2") then Ok (greatest (without_swaps false) false)
+    else if bytes_eq version (codes "3") then Ok (greatest (without_swaps false) true)
     else Err reason.Header
 
 abbrev pub limits_by : Command → List ℕ → Result Limits Reason
 limits_by command version =
     if bytes_eq version (codes "1")
-    then Ok (record { nodes = 65536; workers = 32; is_extended = false; is_radix = false })
+    then Ok (record { nodes = 65536; workers = 32; forms = without_swaps false; is_radix = false })
     else later_limits command version
 
 -- what a version of the command's format allows
@@ -88,7 +96,7 @@ header_within limits nodes workers tries =
     else Ok (record {
       layout = shaped limits.is_radix (dense nodes workers);
       tries = tries;
-      is_extended = limits.is_extended;
+      forms = limits.forms;
     })
 
 -- the header from its fields, in a file for that command

@@ -11,6 +11,7 @@ use Rattle.nm_files.specs.declared.read.entry.ScriptCall.{ScriptCall}
 use Rattle.nm_files.specs.declared.read.entry.ScriptCall.TheVariants as call
 use Rattle.nm_files.specs.declared.read.fault.Reason.{Reason}
 use Rattle.nm_files.specs.declared.read.fault.Reason.TheVariants as reason
+use Rattle.nm_files.specs.declared.read.header.Forms.{Forms}
 use Rattle.nm_files.specs.Values.{Argument, ValueOf, Values, values_of}
 use Rattle.nm_files.specs.Values.Argument.{Place, Number, Key, Worker, Field, Side, Op, Answer}
 
@@ -24,19 +25,22 @@ abbrev pub made : {X : Type 0} (row : List Argument) → Maker row X → Values 
 made [] entry values = entry
 made (argument ∷ row) maker values = made row (maker values.0) values.1
 
--- `Standing`, `always`, `later`, `later_with_fields`: whether a line may be of a kind, in a file that
--- has the lines of later versions or not, and with no field after the word or some
+-- `Standing`, `always`, `later`, `later_with_fields`, `newest`: whether a line may be of a kind,
+-- in a file with these forms of lines, and with no field after the word or some
 abbrev pub Standing : Type 0
-Standing = Bool → Bool → Bool
+Standing = Forms → Bool → Bool
 
 abbrev pub always : Standing
-always is_extended is_bare = true
+always forms is_bare = true
 
 abbrev pub later : Standing
-later is_extended is_bare = is_extended
+later forms is_bare = forms.is_extended
 
 abbrev pub later_with_fields : Standing
-later_with_fields is_extended is_bare = is_extended && not is_bare
+later_with_fields forms is_bare = forms.is_extended && not is_bare
+
+abbrev pub newest : Standing
+newest forms is_bare = forms.has_swaps
 
 -- `Kind`, `kind`: a kind of line: which lines may be of it, its word, what the fields after the word
 -- must be, and the entry that it makes of their values
@@ -72,6 +76,7 @@ events = kind later_with_fields (codes "sight") (Op ∷ Key ∷ []) event.SightF
     ∷ kind always (codes "flag") (Place ∷ Side ∷ Place ∷ []) event.Flag
     ∷ kind always (codes "tag") (Place ∷ Side ∷ []) event.Tag
     ∷ kind always (codes "splice") (Place ∷ Side ∷ Place ∷ Place ∷ Side ∷ []) event.Splice
+    ∷ kind newest (codes "swap") (Place ∷ Side ∷ Place ∷ Place ∷ []) event.Swap
     ∷ []
 
 -- the lines of a script
@@ -92,14 +97,13 @@ abbrev pub is_short : {X : Type 0} → Kind X → Bool
 is_short kind = nat_lt (length kind.arguments) 6
 
 -- the kind has this word, and is allowed
-abbrev pub is_named : {X : Type 0} → Bool → List ℕ → Bool → Kind X → Bool
-is_named is_extended given is_bare kind =
-    bytes_eq given kind.word && kind.may_stand is_extended is_bare
+abbrev pub is_named : {X : Type 0} → Forms → List ℕ → Bool → Kind X → Bool
+is_named forms given is_bare kind =
+    bytes_eq given kind.word && kind.may_stand forms is_bare
 
 -- the first such of these kinds
-abbrev pub kind_of : {X : Type 0} → List (Kind X) → Bool → List ℕ → Bool → Result (Kind X) Reason
-kind_of kinds is_extended given is_bare =
-    ok_or (find (is_named is_extended given is_bare) kinds) reason.Kind
+abbrev pub kind_of : {X : Type 0} → List (Kind X) → Forms → List ℕ → Bool → Result (Kind X) Reason
+kind_of kinds forms given is_bare = ok_or (find (is_named forms given is_bare) kinds) reason.Kind
 
 -- the result, with its value seen by view
 abbrev pub with_view : {X Y : Type 0} → (X → Y) → Result X Reason → Result Y Reason
@@ -107,14 +111,14 @@ with_view view (Ok x) = Ok (view x)
 with_view view (Err r) = Err r
 
 -- the entry of a word and the fields after it
-unfoldable pub made_by : {X : Type 0} → List (Kind X) → ℕ → Bool → List ℕ → List (List ℕ)
+unfoldable pub made_by : {X : Type 0} → List (Kind X) → ℕ → Forms → List ℕ → List (List ℕ)
     → Result X Reason
-made_by kinds workers is_extended word fields = do
-  kind ← kind_of kinds is_extended word (length fields == 0)
+made_by kinds workers forms word fields = do
+  kind ← kind_of kinds forms word (length fields == 0)
   with_view (made kind.arguments kind.maker) (values_of workers kind.arguments fields)
 
 -- a call that a file may have: its heir is one of the workers, and it resigns only in later
 -- versions
-abbrev pub IsAllowed : ℕ → Bool → ScriptCall → Type 0
-IsAllowed workers is_extended (call.Resign heir) = (is_extended ≡ true) × (heir < workers)
-IsAllowed workers is_extended c = Unit {0}
+abbrev pub IsAllowed : ℕ → Forms → ScriptCall → Type 0
+IsAllowed workers forms (call.Resign heir) = (forms.is_extended ≡ true) × (heir < workers)
+IsAllowed workers forms c = Unit {0}

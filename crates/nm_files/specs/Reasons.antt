@@ -71,7 +71,7 @@ worker_field fs = slice_index_or fs 0 []
 
 abbrev pub kind_in : {X : Type 0} → List (KindOf X) → HeaderOf → List (List ℕ) → Result (KindOf X) Reason
 kind_in kinds header fs =
-    kind_of kinds header.is_extended (slice_index_or fs 1 []) (length (drop 2 fs) == 0)
+    kind_of kinds header.forms (slice_index_or fs 1 []) (length (drop 2 fs) == 0)
 
 -- `holds_of`, `header_holds_of`: the reason holds of a line, and of the first line
 abbrev pub holds_of : {X : Type 0} → List (KindOf X) → HeaderOf → Bool → List (List ℕ) → Reason → Bool

@@ -1,5 +1,5 @@
 -- Birth words only grow, and grow before a slot is put to use again.
-use Rattle.std.proofs.Common.{◌≡◌, ℕ, ◌+◌, ◌==◌, ◌<◌, ◌≤◌, ◌⊎◌, inl, inr, eqb, Bool, true, false, cond, not, ◌||◌, ◌&&◌, List, length, get_or, refl, sym, ap, ◌∙◌, arith, true≢false, get_or-set_same, get_or-set_other, le_of_eq}
+use Rattle.std.proofs.Common.{◌≡◌, ℕ, ◌+◌, ◌==◌, ◌<◌, ◌≤◌, ◌⊎◌, inl, inr, eqb, Bool, true, false, cond, not, ◌||◌, ◌&&◌, List, [], ◌∷◌, length, get_or, refl, sym, ap, ◌∙◌, arith, true≢false, get_or-set_same, get_or-set_other, le_of_eq}
 use Rattle.std.specs.Prelude.{Option, Some, None, is_some, is_none, unwrap_or, nat_lt}
 use native.Mathlib.Decide.{ℕ_discrete}
 use Rattle.std.proofs.lemmas.Bool.{cond_both, cond-true, cond-false, eqb-true, eq-eqb, ne_eqb, and_parts, or_parts, not-false, cases_lt}
@@ -11,14 +11,14 @@ use Rattle.nm_edge.specs.declared.edge.Side.TheVariants.{Left, Right}
 use Rattle.nm_model.specs.declared.event.Field.{Field}
 use Rattle.nm_model.specs.declared.event.Field.TheVariants.{Key, Edge as EdgeOn, Birth}
 use Rattle.nm_model.specs.declared.event.Event.{Event}
-use Rattle.nm_model.specs.declared.event.Event.TheVariants.{Sight, SightFor, Announce, Leave, LeaveWith, Scan, Advance, Claim, Give, Look, Fill, Link, Flag, Tag, Splice, Join}
+use Rattle.nm_model.specs.declared.event.Event.TheVariants.{Sight, SightFor, Announce, Leave, LeaveWith, Scan, Advance, Claim, Give, Look, Fill, Link, Flag, Tag, Splice, Swap, Join}
 use Rattle.nm_model.specs.declared.reply.Reply.{Reply}
 use Rattle.nm_model.specs.declared.reply.Reply.TheVariants.{Announced, Departed, Moved, Behind, Claimed, Taken, Returned, Freed, Linked, Flagged, Was, Cut, Lost}
 use Rattle.nm_model.specs.declared.reply.Refused.TheVariants.{NoSlot, NotPrivate, NotReady}
 use Rattle.nm_model.specs.declared.memory.Node.{Node}
 use Rattle.nm_model.specs.declared.knowledge.Draft.{Draft}
 use Rattle.nm_model.specs.Maps.{get, put, without, is_number}
-use Rattle.nm_model.specs.Memory.{Memory, blank, node, edge, in_pool, with_edge, put_node, put_edge}
+use Rattle.nm_model.specs.Memory.{Memory, blank, node, edge, in_pool, named, with_edge, put_node, put_edge}
 use Rattle.nm_model.specs.Ledgers.{front_of}
 use Rattle.nm_model.specs.Knowledge.{Knowledge, unfilled, is_private, draft_of, read, beside}
 use Rattle.nm_model.specs.Learning.{learn, look_private, look_known, filled_in}
@@ -26,9 +26,9 @@ use Rattle.nm_model.specs.Step.{outside, is_edge, is_early, is_fork_over, is_lin
 use Rattle.nm_model.specs.Runs.{State, of, refusal_of, reply_of}
 use Rattle.nm_laws.proofs.Steps.{Allowed, passed, third}
 use Rattle.nm_model.proofs.Tables.{get-put, get-without, Ascends, ascends-without}
-use Rattle.nm_laws.proofs.Learned.{learn_sight_for, learn_leave_with, learn_claimed, learn_taken, learn_returned, learn_freed, learn_look, learn_filled, learn_linked, learn_link_lost, scan_teaches, sight_teaches}
+use Rattle.nm_laws.proofs.Learned.{learn_sight_for, learn_leave_with, learn_claimed, learn_taken, learn_returned, learn_freed, learn_look, learn_filled, learn_linked, learn_link_lost, learn_swapped, learn_swap_lost, scan_teaches, sight_teaches}
 use Rattle.nm_laws.proofs.TreeSlots.{put_pool}
-use Rattle.nm_laws.proofs.TreeSteps.{Lawful, high_from, slot_inside, fill_checked, link_checked}
+use Rattle.nm_laws.proofs.TreeSteps.{Lawful, high_from, slot_inside, fill_checked, link_checked, swap_checked}
 
 abbrev pub word : Memory → ℕ → ℕ
 word m x = (node m x).birth
@@ -281,6 +281,31 @@ module _ (s : State) (h : ℕ → ℕ) (law : Lawful s h) (w : ℕ) (born : Born
       let none : (draft_of (of s w) x).key ≡ None = ap (λ (z : ℕ). (draft_of (of s w) z).key) (sym e) ∙ (ap (λ o. (unwrap_or o unfilled).key) u.is ∙ born y u.draft u.is u.unborn) in
       true≢false (sym key ∙ ap is_some none)
 
+  swap_aged : (p : ℕ) (d : Side) (leaf new : ℕ) → is_leaf_draft (of s w) new ≡ true
+      → Aged s w (exchanged s.memory p d leaf (to new))
+      (learn w (of s w) (Swap p d leaf new)
+      (cond (is_to (edge s.memory p d) leaf) (Cut (named s.memory leaf ∷ [])) (Lost (edge s.memory p d))))
+  swap_aged p d leaf new ready = cond_both (is_to (edge s.memory p d) leaf) (Cut (named s.memory leaf ∷ []))
+      (Lost (edge s.memory p d))
+      (λ r. Aged s w (exchanged s.memory p d leaf (to new)) (learn w (of s w) (Swap p d leaf new) r))
+      (λ _. rw (learn_swapped w (of s w) p d leaf new (named s.memory leaf ∷ [])) (record {
+        words = λ y. le_of_eq (sym (exchange_word s.memory p d leaf (to new) y));
+        pooled = λ y i. inl (exchange_pool s.memory p d leaf (to new) y ∙ i);
+        unborn = λ y u. inl (record {
+          draft = u.draft;
+          is = without_other (of s w).drafts new y (law.drafts w)
+              (keyed new y has_key u) ∙ u.is;
+          unborn = u.unborn;
+        });
+        drafts = λ b y e i none. b y e (without_had (of s w).drafts new y e (law.drafts w) i) none;
+      }))
+      (λ _. rw (learn_swap_lost w (of s w) p d leaf new (edge s.memory p d))
+      (same_aged s w (exchanged s.memory p d leaf (to new)) _ (exchange_word s.memory p d leaf (to new))
+      (exchange_pool s.memory p d leaf (to new)) refl))
+    where
+      has_key : is_some (draft_of (of s w) new).key ≡ true
+      has_key = (and_parts (is_some (draft_of (of s w) new).key) _ (and_parts (is_private (of s w) new) _ ready).1).0
+
   link_aged : (p : ℕ) (d : Side) (leaf new : ℕ) → is_linkable (of s w) new leaf ≡ true
       → Aged s w (exchanged s.memory p d leaf (to new)) (learn w (of s w) (Link p d leaf new) (cond (is_to (edge s.memory p d) leaf) (Linked (node_linked (of s w) new)) (Lost (edge s.memory p d))))
   link_aged p d leaf new ready = cond_both (is_to (edge s.memory p d) leaf) (Linked (node_linked (of s w) new)) (Lost (edge s.memory p d)) (λ r. Aged s w (exchanged s.memory p d leaf (to new)) (learn w (of s w) (Link p d leaf new) r))
@@ -333,4 +358,5 @@ module _ (s : State) (h : ℕ → ℕ) (law : Lawful s h) (w : ℕ) (born : Born
       go (Flag p d leaf) ok alone = same_aged s w _ _ (exchange_word s.memory p d leaf _) (exchange_pool s.memory p d leaf _) (drafts_flag w (of s w) p d leaf _)
       go (Tag p d) ok alone = same_aged s w _ _ (edge_word s.memory p d (tagged (edge s.memory p d))) (λ y. refl) (drafts_tag w (of s w) p d _)
       go (Splice a d x p keep) ok alone = same_aged s w _ _ (exchange_word s.memory a d x (kept (read (of s w) p keep))) (exchange_pool s.memory a d x (kept (read (of s w) p keep))) (drafts_splice w (of s w) a d x p keep _)
+      go (Swap p d leaf new) ok alone = swap_aged p d leaf new (swap_checked s w p d leaf new ok).ready
       go (Join v) ok alone = absurd (alone v refl)

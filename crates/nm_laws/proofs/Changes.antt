@@ -1,6 +1,6 @@
 -- What each event but a join does to the ledgers, drafts and known nodes of the worker that makes
 -- it.
-use Rattle.std.proofs.Common.{◌≡◌, ℕ, ◌+◌, ◌==◌, ◌≤◌, Bool, true, false, not, ◌||◌, ◌&&◌, List, refl, sym, ap, ◌∙◌, true≢false, cond, []}
+use Rattle.std.proofs.Common.{◌≡◌, ℕ, ◌+◌, ◌==◌, ◌≤◌, Bool, true, false, not, ◌||◌, ◌&&◌, List, refl, sym, ap, ◌∙◌, true≢false, cond, [], ◌∷◌, ◌⊎◌, inl, inr}
 use Rattle.std.specs.Prelude.{Option, Some, None, is_none, unwrap_or, nat_lt}
 use Rattle.std.proofs.lemmas.Bool.{cond_both, or_parts, ltb-false}
 use Rattle.nm_edge.specs.Edges.{is_to}
@@ -9,7 +9,7 @@ use Rattle.nm_edge.specs.declared.node.NodeId.{NodeId}
 use Rattle.nm_model.specs.declared.event.Field.{Field}
 use Rattle.nm_model.specs.declared.event.Field.TheVariants.{Key, Edge as EdgeOn, Birth}
 use Rattle.nm_model.specs.declared.event.Event.{Event}
-use Rattle.nm_model.specs.declared.event.Event.TheVariants.{Sight, SightFor, Announce, Leave, LeaveWith, Scan, Advance, Claim, Give, Look, Fill, Link, Flag, Tag, Splice, Join}
+use Rattle.nm_model.specs.declared.event.Event.TheVariants.{Sight, SightFor, Announce, Leave, LeaveWith, Scan, Advance, Claim, Give, Look, Fill, Link, Flag, Tag, Splice, Swap, Join}
 use Rattle.nm_model.specs.declared.reply.Reply.{Reply}
 use Rattle.nm_model.specs.declared.reply.Reply.TheVariants.{Labelled, Pinned, Missed, Moved, Behind, Claimed, Taken, Returned, Freed, Linked, Flagged, Cut, Lost}
 use Rattle.nm_model.specs.declared.reply.Refused.TheVariants.{NoSlot, NotPinned, NotPrivate, NotReady, NotFront, TooYoung}
@@ -25,7 +25,7 @@ use Rattle.nm_model.specs.Runs.{State, of, refusal_of, reply_of}
 use Rattle.nm_laws.proofs.Steps.{Allowed, passed, second, third, fourth}
 use Rattle.nm_model.proofs.Tables.{Ascends, ascends-put, ascends-without}
 use Rattle.nm_laws.proofs.Held.{Front, front, front_slot, entry_is_front}
-use Rattle.nm_laws.proofs.Learned.{learn_sight_for, learn_leave_with, learn_saw, learn_labelled, learn_pinned, learn_missed, learn_announced, learn_departed, learn_idle, learn_in, learn_moved, learn_behind, learn_claimed, learn_taken, learn_returned, learn_freed, learn_look, learn_filled, learn_linked, learn_link_lost, learn_flagged, learn_flag_lost, learn_was, learn_cut, learn_splice_lost}
+use Rattle.nm_laws.proofs.Learned.{learn_sight_for, learn_leave_with, learn_saw, learn_labelled, learn_pinned, learn_missed, learn_announced, learn_departed, learn_idle, learn_in, learn_moved, learn_behind, learn_claimed, learn_taken, learn_returned, learn_freed, learn_look, learn_filled, learn_linked, learn_link_lost, learn_flagged, learn_flag_lost, learn_was, learn_cut, learn_splice_lost, learn_swapped, learn_swap_lost}
 
 -- an entry whose label and 2 more are no greater than the epoch that was seen
 pub record Ripe (seen : Option ℕ) (e : Queued) : Type 0 where
@@ -36,7 +36,7 @@ pub record Ripe (seen : Option ℕ) (e : Queued) : Type 0 where
   pub old : label + 2 ≤ epoch
 
 -- an event that cuts these nodes is a splice that is won
-pub record IsWon (s : State) (w : ℕ) (e : Event) (ns : List NodeId) : Type 0 where
+pub record IsSpliced (s : State) (w : ℕ) (e : Event) (ns : List NodeId) : Type 0 where
   pub ancestor : ℕ
   pub side : Side
   pub successor : ℕ
@@ -45,6 +45,19 @@ pub record IsWon (s : State) (w : ℕ) (e : Event) (ns : List NodeId) : Type 0 w
   pub is : e ≡ Splice ancestor side successor parent keep
   pub won : is_to (edge s.memory ancestor side) successor ≡ true
   pub nodes : ns ≡ cut_nodes s.layout s.memory (of s w) successor parent keep
+
+-- or a swap that is won, which cuts the leaf alone
+pub record IsSwapped (s : State) (w : ℕ) (e : Event) (ns : List NodeId) : Type 0 where
+  pub parent : ℕ
+  pub side : Side
+  pub leaf : ℕ
+  pub new : ℕ
+  pub is : e ≡ Swap parent side leaf new
+  pub won : is_to (edge s.memory parent side) leaf ≡ true
+  pub nodes : ns ≡ named s.memory leaf ∷ []
+
+abbrev pub IsWon : State → ℕ → Event → List NodeId → Type 0
+IsWon s w e ns = IsSpliced s w e ns ⊎ IsSwapped s w e ns
 
 -- what becomes of the ledgers of worker w by an event with its reply, where w knows k afterwards
 pub data Change (s : State) (w : ℕ) (e : Event) (r : Reply) (k : Knowledge) : Type 0 where
@@ -214,6 +227,38 @@ module _ (s : State) (w : ℕ) where
       go (Splice a d x p keep) ok alone =
           let pin = has_pin (of s w).brief.pin (second (outside 1 s.layout.nodes a || (outside 6 s.layout.nodes x || outside 6 s.layout.nodes p)) (is_none (of s w).brief.pin) NoSlot NotPinned _ ok) in
           cond_both (is_to (edge s.memory a d) x) (Cut (cut_nodes s.layout s.memory (of s w) x p keep)) (Lost (edge s.memory a d)) (λ r. Changed s w (Splice a d x p keep) r (learn w (of s w) (Splice a d x p keep) r))
-          (λ won. rw (learn_cut w (of s w) a d x p keep (cut_nodes s.layout s.memory (of s w) x p keep)) (record { ledgers = Cuts _ refl refl refl (record { ancestor = a; side = d; successor = x; parent = p; keep = keep; is = refl; won = won; nodes = refl }); drafts = λ d. d; known = λ _ x _. pin; gone = refl }))
+          (λ won. rw (learn_cut w (of s w) a d x p keep (cut_nodes s.layout s.memory (of s w) x p keep))
+          (record {
+            ledgers = Cuts _ refl refl refl
+                (inl (record {
+                  ancestor = a;
+                  side = d;
+                  successor = x;
+                  parent = p;
+                  keep = keep;
+                  is = refl;
+                  won = won;
+                  nodes = refl;
+                }));
+            drafts = λ d. d;
+            known = λ _ x _. pin;
+            gone = refl;
+          }))
           (λ _. rw (learn_splice_lost w (of s w) a d x p keep (edge s.memory a d)) (reads _ _ _ pin refl refl refl refl (λ ns h. cc) (λ n h. cc)))
+      go (Swap p d leaf new) ok alone =
+          let pin = has_pin (of s w).brief.pin
+          (second (outside 1 s.layout.nodes p || (outside 6 s.layout.nodes leaf || outside 6 s.layout.nodes new))
+          (is_none (of s w).brief.pin) NoSlot NotPinned _ ok) in
+          cond_both (is_to (edge s.memory p d) leaf) (Cut (named s.memory leaf ∷ [])) (Lost (edge s.memory p d))
+          (λ r. Changed s w (Swap p d leaf new) r (learn w (of s w) (Swap p d leaf new) r))
+          (λ won. rw (learn_swapped w (of s w) p d leaf new (named s.memory leaf ∷ []))
+          (record {
+            ledgers = Cuts _ refl refl refl
+                (inr (record { parent = p; side = d; leaf = leaf; new = new; is = refl; won = won; nodes = refl }));
+            drafts = λ a. ascends-without _ new a;
+            known = λ _ x _. pin;
+            gone = refl;
+          }))
+          (λ _. rw (learn_swap_lost w (of s w) p d leaf new (edge s.memory p d))
+          (reads _ _ _ pin refl refl refl refl (λ ns h. cc) (λ n h. cc)))
       go (Join v) ok alone = absurd (alone v refl)

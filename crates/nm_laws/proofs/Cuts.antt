@@ -1,12 +1,13 @@
 -- A splice that is won cuts just the nodes of its reply, and nothing else cuts anything.
-use Rattle.std.proofs.Common.{◌≡◌, ℕ, ◌<◌, Bool, true, false, cond, ◌&&◌, List, [], ◌∷◌, ◌++◌, length, map, refl, sym, ap, ◌∙◌, arith, true≢false}
+use Rattle.std.proofs.Common.{◌≡◌, ℕ, ◌<◌, eqb, Bool, true, false, cond, ◌&&◌, ◌||◌, List, [], ◌∷◌, ◌++◌, length, map, refl, sym, ap, ◌∙◌, arith, true≢false}
 use Rattle.std.specs.Prelude.{Option, Some, None, is_some, unwrap_or, Ok, Contains}
-use Rattle.std.proofs.lemmas.Bool.{cond-true, and_parts}
+use native.Mathlib.Decide.{ℕ_discrete}
+use Rattle.std.proofs.lemmas.Bool.{cond-true, and_parts, ne_eqb}
 use Rattle.std.proofs.lemmas.Option.{slice_get-get_or, slice_get_within, get_or_from_slice_get}
 use Rattle.nm_edge.specs.Edges.{Edge, to, other, is_to}
 use Rattle.nm_edge.specs.declared.edge.Side.{Side}
 use Rattle.nm_edge.specs.declared.node.NodeId.{NodeId}
-use Rattle.nm_model.specs.declared.event.Event.TheVariants.{Splice}
+use Rattle.nm_model.specs.declared.event.Event.TheVariants.{Splice, Swap}
 use Rattle.nm_model.specs.declared.reply.Reply.TheVariants.{Cut, Lost}
 use Rattle.nm_model.specs.declared.reply.Refused.{Refused}
 use Rattle.nm_model.specs.Memory.{Memory, edge, named, put_edge}
@@ -14,17 +15,19 @@ use Rattle.nm_model.specs.Knowledge.{read, is_flagged, is_tagged, way, cut_by}
 use Rattle.nm_model.specs.Paths.{follow, at, IsCut}
 use Rattle.nm_model.specs.Step.{reply, write, exchanged, kept, cut_nodes}
 use Rattle.nm_model.specs.Runs.{State, of, start, after, next, outcome, refused, answered, unless_refused, applied}
-use Rattle.nm_model.specs.Laws.{OfEachState, slots_of, CutsJust, NamesBirths, OfEachCut}
+use Rattle.nm_model.specs.Laws.{OfEachState, slots_of, CutsJust, NamesBirths, OfEachCut, OfEachSwap}
 use Rattle.nm_model.proofs.Numbers.{among}
 use Rattle.nm_laws.proofs.Steps.{Allowed, allowed}
 use Rattle.nm_laws.proofs.Trees.{same_follow}
 use Rattle.nm_laws.proofs.CutPaths.{nodes_cut}
-use Rattle.nm_laws.proofs.Pictures.{below}
+use Rattle.nm_laws.proofs.Pictures.{below, IsOnPath}
 use Rattle.nm_laws.proofs.Splices.{spliced, IsSplice, cut_law, cut_law_back, among_at, at_among}
 use Rattle.nm_laws.proofs.Views.{picture, edge_put, held_queue}
 use Rattle.nm_laws.proofs.TreeSlots.{is_to-true}
 use Rattle.nm_laws.proofs.TreeSplice.{splice_shown, cut_is, named_slots}
-use Rattle.nm_laws.proofs.TreeSteps.{Lawful, SpliceChecked, splice_checked}
+use Rattle.nm_laws.proofs.Swaps.{picture_swapped, IsSwap, swap_cuts, swap_stays}
+use Rattle.nm_laws.proofs.TreeSwap.{swap_shown}
+use Rattle.nm_laws.proofs.TreeSteps.{Lawful, SpliceChecked, splice_checked, swap_checked}
 use Rattle.nm_laws.proofs.Lawful.{lawful}
 use Rattle.nm_laws.proofs.Outcomes.{same_reply, no_reply}
 
@@ -137,3 +140,129 @@ cuts_name_births L enough turns w a d x p keep ns is =
     let s = after (start L) turns in
     let won = won_splice s w a d x p keep ns is in
     rw (← won.nodes) (named_again s.memory (cut_by (of s w) x (unwrap_or (way s.layout.nodes (of s w) x p) []) keep))
+
+-- ---- a swap that is won
+
+-- a swap whose outcome is a cut was allowed and won
+pub record WonSwap (s : State) (w p : ℕ) (d : Side) (leaf new : ℕ) (ns : List NodeId) : Type 0 where
+  pub ok : Allowed s w (Swap p d leaf new)
+  pub won : is_to (edge s.memory p d) leaf ≡ true
+  pub nodes : named s.memory leaf ∷ [] ≡ ns
+  pub next_is : next s (w, Swap p d leaf new) ≡ applied s w (Swap p d leaf new)
+
+pub won_swap : (s : State) (w p : ℕ) (d : Side) (leaf new : ℕ) (ns : List NodeId)
+    → outcome s (w, Swap p d leaf new) ≡ Ok (Cut ns) → WonSwap s w p d leaf new ns
+unfolding outcome next reply
+won_swap s w p d leaf new ns h = go (refused s w (Swap p d leaf new)) refl h
+  where
+    by : (b : Bool) → is_to (edge s.memory p d) leaf ≡ b
+        → cond b (Cut (named s.memory leaf ∷ [])) (Lost (edge s.memory p d)) ≡ Cut ns
+        → (is_to (edge s.memory p d) leaf ≡ true) × (named s.memory leaf ∷ [] ≡ ns)
+    by true i h = (i, same_cut _ _ h)
+    by false i h = cc
+
+    go : (o : Option Refused) → refused s w (Swap p d leaf new) ≡ o
+        → answered o (reply s.layout s.memory (of s w) (Swap p d leaf new)) ≡ Ok (Cut ns) → WonSwap s w p d leaf new ns
+    go None is h =
+        let k = by (is_to (edge s.memory p d) leaf) refl (same_reply _ _ h) in
+        record {
+          ok = allowed s w (Swap p d leaf new) is;
+          won = k.0;
+          nodes = k.1;
+          next_is =
+              ap (λ o. unless_refused o s (applied s w (Swap p d leaf new))) is;
+        }
+    go (Some r) is h = absurd (no_reply r (Cut ns) h)
+
+-- what the swap has shown, by the picture of the state
+pub record ShownSwap (s : State) (h : ℕ → ℕ) (w p : ℕ) (d : Side) (leaf new : ℕ) : Type 0 where
+  pub inside : p < length s.memory.nodes
+  pub swap : IsSwap s.layout.nodes (picture s h) w (length (held_queue (of s (h w)) w)) p d leaf new
+
+pub shown_swap : (s : State) (h : ℕ → ℕ) → Lawful s h → (w p : ℕ) (d : Side) (leaf new : ℕ)
+    → Allowed s w (Swap p d leaf new) → is_to (edge s.memory p d) leaf ≡ true → ShownSwap s h w p d leaf new
+shown_swap s h law w p d leaf new ok won =
+    let c = swap_checked s w p d leaf new ok.event in
+    record {
+      inside = let r = law.tree.known w p c.known in let size = law.roomy.nodes in omega arith;
+      swap = swap_shown s.layout.nodes s.memory (of s) h w p d leaf new c.high c.known c.held c.leafy c.own c.ready
+          (is_to-true (edge s.memory p d) leaf won) law.tree;
+    }
+
+pub swaps_cut_just : OfEachState (OfEachSwap (λ before leaf ns after. CutsJust before.memory ns after.memory))
+unfolding applied write
+swaps_cut_just L enough turns w p d leaf new ns is y =
+    rw (won.next_is, ← won.nodes) ((λ c. there (rw new_memory at c)), (λ c. rw new_memory (back c)))
+  where
+    s : State
+    s = after (start L) turns
+
+    won : WonSwap (after (start L) turns) w p d leaf new ns
+    won = won_swap (after (start L) turns) w p d leaf new ns is
+
+    h : ℕ → ℕ
+    h = (lawful L enough turns).holder
+
+    law : Lawful (after (start L) turns) (lawful L enough turns).holder
+    law = (lawful L enough turns).law
+
+    k : ShownSwap (after (start L) turns) (lawful L enough turns).holder w p d leaf new
+    k = shown_swap (after (start L) turns) (lawful L enough turns).holder law w p d leaf new won.ok won.won
+
+    new_memory : exchanged (after (start L) turns).memory p d leaf (to new) ≡ put_edge
+        (after (start L) turns).memory p d (to new)
+    new_memory = cond-true (is_to (edge (after (start L) turns).memory p d) leaf) _
+        (after (start L) turns).memory won.won
+
+    new_paths : (q : List Side)
+        → at (put_edge (after (start L) turns).memory p d (to new)) q ≡ follow
+        (below (picture_swapped (picture (after (start L) turns) (lawful L enough turns).holder) w
+        (length (held_queue (of (after (start L) turns) ((lawful L enough turns).holder w)) w)) p d leaf new)) 1 q
+    new_paths q = same_follow _ _
+        (λ z g. ap (λ (e : Edge). e.slot) (edge_put (after (start L) turns).memory p d (to new) k.inside z g)) 1 q
+
+    there : IsCut (after (start L) turns).memory (put_edge (after (start L) turns).memory p d (to new)) y
+        → Contains (leaf ∷ []) y
+    there c = elim (ℕ_discrete y leaf) [
+      | yes e ↦ among_contains (leaf ∷ []) y (at_among (leaf ∷ []) y 0 (ap Some (sym e)))
+      | no ne ↦
+          let on = swap_stays s.layout.nodes
+          (picture (after (start L) turns) (lawful L enough turns).holder) w _ p d leaf new law.tree k.swap y ne
+          (record { path = c.was.path; ends = c.was.ends; is_slot = c.was.is_slot }) in
+          absurd (c.gone (record { path = on.path; ends = new_paths on.path ∙ on.ends; is_slot = on.is_slot }))
+    ]
+
+    back : Contains (leaf ∷ []) y
+        → IsCut (after (start L) turns).memory (put_edge (after (start L) turns).memory p d (to new)) y
+    back c = go (contains_among (leaf ∷ []) y c)
+      where
+        two : IsOnPath (picture (after (start L) turns) (lawful L enough turns).holder) leaf
+            × (IsOnPath (picture_swapped (picture (after (start L) turns) (lawful L enough turns).holder) w
+            (length (held_queue (of (after (start L) turns) ((lawful L enough turns).holder w)) w)) p d leaf new) leaf
+            → ⊥)
+        two = swap_cuts s.layout.nodes
+            (picture (after (start L) turns) (lawful L enough turns).holder) w _ p d leaf new law.tree k.swap
+
+        or_false : (b : Bool) → b ≡ false → (b || false) ≡ false
+        or_false b h = rw h refl
+
+        here : y ≡ leaf → IsCut (after (start L) turns).memory (put_edge (after (start L) turns).memory p d (to new)) y
+        here e = rw e (record {
+          was = record { path = two.0.path; ends = two.0.ends; is_slot = two.0.is_slot };
+          gone = λ r. two.1 (record { path = r.path; ends = sym (new_paths r.path) ∙ r.ends; is_slot = r.is_slot });
+        })
+
+        go : among (leaf ∷ []) y ≡ true
+            → IsCut (after (start L) turns).memory (put_edge (after (start L) turns).memory p d (to new)) y
+        go i = elim (ℕ_discrete y leaf) [
+          | yes e ↦ here e
+          | no ne ↦ absurd (true≢false (sym i ∙ or_false (eqb y leaf) (ne_eqb y leaf ne)))
+        ]
+
+pub swaps_name_leaves : OfEachState (OfEachSwap (λ before leaf ns after. ns ≡ named before.memory leaf ∷ []))
+swaps_name_leaves L enough turns w p d leaf new ns is =
+    sym (won_swap (after (start L) turns) w p d leaf new ns is).nodes
+
+pub swaps_name_births : OfEachState (OfEachSwap (λ before leaf ns after. NamesBirths before ns))
+swaps_name_births L enough turns w p d leaf new ns is =
+    rw (← (won_swap (after (start L) turns) w p d leaf new ns is).nodes) refl

@@ -9,7 +9,7 @@ use Rattle.std.proofs.lemmas.Option.{none-some, same_Some}
 use Rattle.nm_edge.specs.Edges.{Edge, is_to}
 use Rattle.nm_edge.specs.declared.edge.Side.{Side}
 use Rattle.nm_model.specs.declared.event.Event.{Event}
-use Rattle.nm_model.specs.declared.event.Event.TheVariants.{Sight, SightFor, Announce, Leave, LeaveWith, Scan, Advance, Claim, Give, Look, Fill, Link, Flag, Tag, Splice, Join}
+use Rattle.nm_model.specs.declared.event.Event.TheVariants.{Sight, SightFor, Announce, Leave, LeaveWith, Scan, Advance, Claim, Give, Look, Fill, Link, Flag, Tag, Splice, Swap, Join}
 use Rattle.nm_model.specs.declared.event.Field.{Field}
 use Rattle.nm_model.specs.declared.reply.Reply.{Reply}
 use Rattle.nm_model.specs.declared.reply.Reply.TheVariants.{Labelled, Pinned, Missed, Moved, Behind, Claimed, Returned, Freed, Filled, Linked, Flagged, Was, Cut, Lost, Joined}
@@ -74,6 +74,12 @@ module _ (w : ℕ) (k : Knowledge) where
   alike_link p side leaf new (Linked n) = record { seen = refl; announcement = refl; pin = refl; scanned = refl }
   alike_link p side leaf new (Lost e) = record { seen = refl; announcement = refl; pin = refl; scanned = refl }
   alike_link p side leaf new _ = itself k
+
+  pub alike_swap : (p : ℕ) (side : Side) (leaf new : ℕ) (r : Reply) → Alike k (learn w k (Swap p side leaf new) r)
+  unfolding learn
+  alike_swap p side leaf new (Cut ns) = record { seen = refl; announcement = refl; pin = refl; scanned = refl }
+  alike_swap p side leaf new (Lost e) = record { seen = refl; announcement = refl; pin = refl; scanned = refl }
+  alike_swap p side leaf new _ = itself k
 
   pub alike_flag : (p : ℕ) (side : Side) (leaf : ℕ) (r : Reply) → Alike k (learn w k (Flag p side leaf) r)
   unfolding learn
@@ -361,6 +367,8 @@ epoch_step s w e staffed law ok = go e ok.event
     go (Flag p side leaf) ok = exchange_quiet s w p side leaf _ _ inside law (alike_flag w (of s w) p side leaf _)
     go (Tag p side) ok = quiet s w _ _ inside law refl (λ u. refl) (alike_tag w (of s w) p side (edge s.memory p side))
     go (Splice a side x p keep) ok = exchange_quiet s w a side x _ _ inside law (alike_splice w (of s w) a side x p keep _)
+    go (Swap p side leaf new) ok = exchange_quiet s w p side leaf _ _ inside law
+        (alike_swap w (of s w) p side leaf new _)
     go (Join v) ok =
         let there = other_worker s w v ok in
         all_quiet s (applied s w (Join v)) refl refl (λ u. refl)

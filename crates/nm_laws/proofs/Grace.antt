@@ -10,7 +10,7 @@ use Rattle.nm_edge.specs.Edges.{Edge, is_to}
 use Rattle.nm_edge.specs.declared.edge.Side.{Side}
 use Rattle.nm_edge.specs.declared.node.NodeId.{NodeId}
 use Rattle.nm_model.specs.declared.event.Event.{Event}
-use Rattle.nm_model.specs.declared.event.Event.TheVariants.{Sight, SightFor, Announce, Leave, LeaveWith, Scan, Advance, Claim, Give, Look, Fill, Link, Flag, Tag, Splice, Join}
+use Rattle.nm_model.specs.declared.event.Event.TheVariants.{Sight, SightFor, Announce, Leave, LeaveWith, Scan, Advance, Claim, Give, Look, Fill, Link, Flag, Tag, Splice, Swap, Join}
 use Rattle.nm_model.specs.declared.reply.Reply.{Reply}
 use Rattle.nm_model.specs.declared.reply.Reply.TheVariants.{Labelled, Departed, Moved, Behind, Cut, Freed, Joined}
 use Rattle.nm_model.specs.declared.reply.Refused.{Refused}
@@ -28,7 +28,7 @@ use Rattle.nm_model.specs.Laws.{OfEachState, nodes_cut_of, node_in, HasLeft, Gra
 use Rattle.nm_model.specs.Headline.{departs, leaves}
 use Rattle.nm_laws.proofs.Steps.{each, Allowed, allowed}
 use Rattle.nm_laws.proofs.Sizes.{Staffed}
-use Rattle.nm_laws.proofs.Epochs.{alike_claim, alike_give, alike_look, alike_fill, alike_link, alike_flag, alike_tag, alike_splice, other_worker}
+use Rattle.nm_laws.proofs.Epochs.{alike_claim, alike_give, alike_look, alike_fill, alike_link, alike_flag, alike_tag, alike_splice, alike_swap, other_worker}
 use Rattle.nm_laws.proofs.Learned.{learn_sight_for, learn_saw, learn_labelled, learn_announced, learn_idle, learn_in, learn_moved, learn_behind}
 use Rattle.nm_laws.proofs.Changes.{Ripe, Change, changed}
 use Rattle.nm_laws.proofs.Changes.Change.{Keeps, Labels, Cuts, Frees}
@@ -97,6 +97,7 @@ own_pin s w (Link q d leaf new) p alone pin = inr ((alike_link w (of s w) q d le
 own_pin s w (Flag q d leaf) p alone pin = inr ((alike_flag w (of s w) q d leaf _).pin ∙ pin)
 own_pin s w (Tag q d) p alone pin = inr ((alike_tag w (of s w) q d _).pin ∙ pin)
 own_pin s w (Splice a d x q keep) p alone pin = inr ((alike_splice w (of s w) a d x q keep _).pin ∙ pin)
+own_pin s w (Swap q d leaf new) p alone pin = inr ((alike_swap w (of s w) q d leaf new _).pin ∙ pin)
 own_pin s w (Join v) p alone pin = absurd (alone v refl)
 
 -- a turn as the trace tells it
@@ -170,6 +171,7 @@ written_epoch m k w Advance = cond_both (is_number k.brief.seen m.epoch) (record
 written_epoch m k w (Link p d leaf new) = exchanged_epoch m p d leaf _
 written_epoch m k w (Flag p d leaf) = exchanged_epoch m p d leaf _
 written_epoch m k w (Splice a d x p keep) = exchanged_epoch m a d x _
+written_epoch m k w (Swap p d leaf new) = exchanged_epoch m p d leaf _
 written_epoch m k w e = le_of_eq refl
 
 pub epoch_grows : (s : State) (t : ℕ × Event) → s.memory.epoch ≤ (next s t).memory.epoch

@@ -1,5 +1,5 @@
 -- Births that a worker knows, and what it stored in a private slot, stand in memory.
-use Rattle.std.proofs.Common.{◌≡◌, ℕ, ◌+◌, ◌==◌, ◌<◌, ◌≢◌, ◌⊎◌, inl, inr, eqb, Bool, true, false, cond, ◌&&◌, [], length, get_or, refl, sym, ap, ◌∙◌, arith, true≢false, get_or-set_same, get_or-set_other}
+use Rattle.std.proofs.Common.{◌≡◌, ℕ, ◌+◌, ◌==◌, ◌<◌, ◌≢◌, ◌⊎◌, inl, inr, eqb, Bool, true, false, cond, ◌&&◌, List, [], ◌∷◌, length, get_or, refl, sym, ap, ◌∙◌, arith, true≢false, get_or-set_same, get_or-set_other}
 use Rattle.std.specs.Prelude.{Option, Some, None, is_some, unwrap_or, nat_lt}
 use Rattle.std.specs.Ordering.{nat_cmp, is_eq}
 use native.Mathlib.Decide.{ℕ_discrete}
@@ -9,10 +9,11 @@ use Rattle.std.proofs.lemmas.Option.{none-some, same_Some}
 use Rattle.nm_edge.specs.Edges.{Edge, to, is_to, tagged}
 use Rattle.nm_edge.specs.declared.edge.Side.{Side}
 use Rattle.nm_edge.specs.declared.edge.Side.TheVariants.{Left, Right}
+use Rattle.nm_edge.specs.declared.node.NodeId.{NodeId}
 use Rattle.nm_model.specs.declared.event.Field.{Field}
 use Rattle.nm_model.specs.declared.event.Field.TheVariants.{Key, Edge as EdgeOn, Birth}
 use Rattle.nm_model.specs.declared.event.Event.{Event}
-use Rattle.nm_model.specs.declared.event.Event.TheVariants.{Sight, SightFor, Announce, Leave, LeaveWith, Scan, Advance, Claim, Give, Look, Fill, Link, Flag, Tag, Splice, Join}
+use Rattle.nm_model.specs.declared.event.Event.TheVariants.{Sight, SightFor, Announce, Leave, LeaveWith, Scan, Advance, Claim, Give, Look, Fill, Link, Flag, Tag, Splice, Swap, Join}
 use Rattle.nm_model.specs.declared.reply.Reply.TheVariants.{Labelled, Pinned, Missed, Moved, Behind, Claimed, Taken, Returned, Freed, Linked, Flagged, Cut, Lost}
 use Rattle.nm_edge.specs.Layouts.{Layout}
 use Rattle.nm_model.specs.declared.memory.Node.{Node}
@@ -22,7 +23,7 @@ use Rattle.nm_model.specs.Maps.{get, put, without, is_number}
 use Rattle.nm_model.specs.Memory.{Memory, blank, node, edge, in_pool, announcement, named, with_edge, put_node, put_edge}
 use Rattle.nm_model.specs.Ledgers.{front_of}
 use Rattle.nm_model.specs.Knowledge.{Knowledge, unread, unfilled, knows, is_private, seen_of, draft_of, read, beside}
-use Rattle.nm_model.specs.Learning.{learn, saw, pinned, met, with_read, read_edge, look_private, look_known, filled_in, linked_in, flag_to}
+use Rattle.nm_model.specs.Learning.{learn, saw, pinned, met, with_read, read_edge, look_private, look_known, filled_in, linked_in, swapped_in, cutting, flag_to}
 use Rattle.nm_model.specs.Step.{outside, is_edge, reply_sight, confirmed, reply_scan, reply_look, node_of, node_linked, cut_nodes, exchanged, filled, kept, refusal, reply, write}
 use Rattle.nm_model.specs.Runs.{State, of, start, next, refusal_of, reply_of, applied}
 use Rattle.nm_model.specs.Laws.{OfEachState}
@@ -31,7 +32,7 @@ use Rattle.nm_model.proofs.Tables.{get-put, get-without, ascends-without}
 use Rattle.nm_laws.proofs.Steps.{each, Allowed, passed}
 use Rattle.nm_laws.proofs.Epochs.{other_worker}
 use Rattle.nm_laws.proofs.Pins.{all_new}
-use Rattle.nm_laws.proofs.Learned.{learn_sight_for, learn_leave_with, learn_saw, learn_labelled, learn_pinned, learn_missed, learn_announced, learn_departed, learn_idle, learn_in, learn_moved, learn_behind, learn_claimed, learn_taken, learn_returned, learn_freed, learn_look, learn_filled, learn_linked, learn_link_lost, learn_flagged, learn_flag_lost, learn_was, learn_cut, learn_splice_lost}
+use Rattle.nm_laws.proofs.Learned.{learn_sight_for, learn_leave_with, learn_saw, learn_labelled, learn_pinned, learn_missed, learn_announced, learn_departed, learn_idle, learn_in, learn_moved, learn_behind, learn_claimed, learn_taken, learn_returned, learn_freed, learn_look, learn_filled, learn_linked, learn_link_lost, learn_flagged, learn_flag_lost, learn_was, learn_cut, learn_splice_lost, learn_swapped, learn_swap_lost}
 use Rattle.nm_laws.proofs.Pictures.{nowhere_else}
 use Rattle.nm_laws.proofs.Pictures.SeekRecord.{PrivateTo}
 use Rattle.nm_laws.proofs.Views.{picture, seen_met}
@@ -80,6 +81,7 @@ written_same m k w (Link p d leaf new) x apart = exchange_same m p d leaf (to ne
 written_same m k w (Flag p d leaf) x apart = exchange_same m p d leaf (flag_to leaf) x
 written_same m k w (Tag p d) x apart = edge_same m p d (tagged (edge m p d)) x
 written_same m k w (Splice a d s p keep) x apart = exchange_same m a d s (kept (read k p keep)) x
+written_same m k w (Swap p d leaf new) x apart = exchange_same m p d leaf (to new) x
 written_same m k w e x apart = record { birth = refl; key = refl }
 
 -- a link changes no key
@@ -272,6 +274,12 @@ module _ (s : State) (h : ℕ → ℕ) (law : Lawful s h) (w : ℕ) where
     ];
   }
 
+  swapped_less : (new : ℕ) (ns : List NodeId) → NoMore (of s w) (cutting w (swapped_in (of s w) new) ns)
+  swapped_less new ns = record {
+    seen = λ x b is. sym (ap (λ (n : Seen). n.birth) (seen_met (of s w).known new x)) ∙ is;
+    drafts = λ y. (given_less new).drafts y;
+  }
+
   linked_less : (leaf new : ℕ) → NoMore (of s w) (linked_in (of s w) leaf new)
   linked_less leaf new = record {
     seen = λ x b is. sym (ap (λ (n : Seen). n.birth) (seen_met (of s w).known new x)) ∙ is;
@@ -355,6 +363,15 @@ module _ (s : State) (h : ℕ → ℕ) (law : Lawful s h) (w : ℕ) where
       go (Splice a d x p keep) ok alone = cond_both (is_to (edge s.memory a d) x) (Cut (cut_nodes s.layout s.memory (of s w) x p keep)) (Lost (edge s.memory a d)) (λ r. Fits (write s.memory (of s w) w (Splice a d x p keep)) (learn w (of s w) (Splice a d x p keep) r))
           (λ _. rw (learn_cut w (of s w) a d x p keep (cut_nodes s.layout s.memory (of s w) x p keep)) (quiet_fits _ _ (exchange_same s.memory a d x (kept (read (of s w) p keep))) (less_known (of s w) _ refl refl) fits))
           (λ _. rw (learn_splice_lost w (of s w) a d x p keep (edge s.memory a d)) (quiet_fits _ _ (exchange_same s.memory a d x (kept (read (of s w) p keep))) (less_read (of s w) a d (edge s.memory a d)) fits))
+      go (Swap p d leaf new) ok alone = cond_both (is_to (edge s.memory p d) leaf) (Cut (named s.memory leaf ∷ []))
+          (Lost (edge s.memory p d))
+          (λ r. Fits (write s.memory (of s w) w (Swap p d leaf new)) (learn w (of s w) (Swap p d leaf new) r))
+          (λ _. rw (learn_swapped w (of s w) p d leaf new (named s.memory leaf ∷ []))
+          (quiet_fits _ _ (exchange_same s.memory p d leaf (to new))
+          (swapped_less new (named s.memory leaf ∷ [])) fits))
+          (λ _. rw (learn_swap_lost w (of s w) p d leaf new (edge s.memory p d))
+          (quiet_fits _ _ (exchange_same s.memory p d leaf (to new))
+          (less_read (of s w) p d (edge s.memory p d)) fits))
       go (Join v) ok alone = absurd (alone v refl)
 
 -- ---- runs

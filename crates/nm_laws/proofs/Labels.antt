@@ -25,7 +25,7 @@ use Rattle.nm_laws.proofs.Steps.{each, second}
 use Rattle.nm_laws.proofs.Epochs.{other_worker}
 use Rattle.nm_laws.proofs.Pins.{all_new}
 use Rattle.nm_laws.proofs.Held.{held-label, held-retire_same, held-retire_other, held-taken_over}
-use Rattle.nm_laws.proofs.Changes.{Change, changed}
+use Rattle.nm_laws.proofs.Changes.{Change, changed, IsWon}
 use Rattle.nm_laws.proofs.Changes.Change.{Keeps, Labels, Cuts, Frees}
 use Rattle.nm_laws.proofs.Holders.{Holders, Joins, joins, by_worker, none_held}
 use Rattle.nm_laws.proofs.Views.{held_queue}
@@ -172,9 +172,18 @@ module _ (s : State) (h : ℕ → ℕ) (law : Lawful s h) (w : ℕ) (b : Briefed
       owns = owned s h law w worker staying
 
       first : (n : NodeId) × (slice_get (map unlabelled ns) 0 ≡ Some (unlabelled n))
-      first =
-          let x = cut_some (of s w) won.successor (unwrap_or (way s.layout.nodes (of s w) won.successor won.parent) []) won.keep in
-          (named s.memory won.successor, ap (λ (xs : List NodeId). slice_get (map unlabelled xs) 0) (won.nodes ∙ ap (λ (xs : List ℕ). map (named s.memory) xs) x.1))
+      first = first_of won
+        where
+          first_of : IsWon s w e ns → (n : NodeId) × (slice_get (map unlabelled ns) 0 ≡ Some (unlabelled n))
+          first_of (inl splice) =
+              let x = cut_some (of s w) splice.successor
+              (unwrap_or (way s.layout.nodes (of s w) splice.successor splice.parent) []) splice.keep in (
+                named s.memory splice.successor,
+                ap (λ (xs : List NodeId). slice_get (map unlabelled xs) 0)
+                    (splice.nodes ∙ ap (λ (xs : List ℕ). map (named s.memory) xs) x.1),
+              )
+          first_of (inr swap) =
+              (named s.memory swap.leaf, ap (λ (xs : List NodeId). slice_get (map unlabelled xs) 0) swap.nodes)
 
       now_is : held_queue k w ≡ owns.ledger.queue ++ map unlabelled ns
       now_is = ap queue_of (ap (λ ls. held ls w) ledgers ∙ (held-retire_same (of s w).ledgers w ns owns.inside ∙ ap (option_map (with_cut ns)) owns.is_held))

@@ -1,9 +1,9 @@
 -- What one run keeps, from any state that can be reached, and its grace.
-use Rattle.std.proofs.Common.{◌≡◌, ℕ, zero, suc, ◌<◌, List, [], ◌∷◌, ◌++◌, length, take, refl, sym, ap, subst, ◌∙◌, arith}
+use Rattle.std.proofs.Common.{◌≡◌, ℕ, zero, suc, ◌<◌, List, [], ◌∷◌, ◌++◌, length, take, refl, sym, ap, subst, ◌∙◌, arith, inl, inr}
 use Rattle.std.specs.Prelude.{Some, Result, Ok, Contains}
 use Rattle.nm_edge.specs.declared.node.NodeId.{NodeId}
 use Rattle.nm_model.specs.declared.event.Event.{Event}
-use Rattle.nm_model.specs.declared.event.Event.TheVariants.{Splice}
+use Rattle.nm_model.specs.declared.event.Event.TheVariants.{Splice, Swap}
 use Rattle.nm_model.specs.declared.reply.Reply.{Reply}
 use Rattle.nm_model.specs.declared.reply.Reply.TheVariants.{Cut, Freed}
 use Rattle.nm_model.specs.declared.reply.Refused.{Refused}
@@ -12,14 +12,14 @@ use Rattle.nm_model.specs.Places.{EachSlotInOnePlace}
 use Rattle.nm_model.specs.Runs.{State, of, after, trace, next, outcome}
 use Rattle.nm_laws.proofs.Reaches.{IsReachable}
 use Rattle.nm_edge.specs.Layouts.{Layout}
-use Rattle.nm_model.specs.Laws.{OfEachState, OfEachCut, CutsJust, NothingElseCuts, OnlySplicesAnswerCuts, NoNodeTwice, GraceHolds, RetiredGrowsByTheCuts, slots_of, nodes_cut_of, HasLeft}
+use Rattle.nm_model.specs.Laws.{OfEachState, OfEachCut, OfEachSwap, CutsJust, NothingElseCuts, OnlySplicesAnswerCuts, NoNodeTwice, GraceHolds, RetiredGrowsByTheCuts, slots_of, nodes_cut_of, HasLeft}
 use Rattle.nm_model.specs.Lawful.{LabelsDoNotFall, NoLabelIsAboveTheEpoch, BriefsAreRight, QueuedNodesAreFrozen, TaggedEdgesHaveFlaggedTwins, FlaggedEdgesLeadToLeaves, OnlyThePinnedKnow, ReachIsShared, ReachIsGuarded, EpochsAgree, CountsAddUp, EachReadStands, KnownLeavesAreLeaves, EachBirthStands}
 use Rattle.nm_model.specs.Traces.{IsLawfulState, IsLawfulRun, EachHasOneHolder, LedgersAreSplit, LedgersGrowByTheCuts, LedgersFreeWhatGivesFreed}
 use Rattle.nm_laws.proofs.Reachable.{of_reachable, reachable_after, retired_grows}
 use Rattle.nm_laws.proofs.OnePlace.{each_slot_has_one_place}
 use Rattle.nm_laws.proofs.Counts.{each_state_adds_up}
-use Rattle.nm_laws.proofs.Cuts.{cuts_just}
-use Rattle.nm_laws.proofs.Stays.{nothing_else_cuts, only_splices_answer_cuts}
+use Rattle.nm_laws.proofs.Cuts.{cuts_just, swaps_cut_just}
+use Rattle.nm_laws.proofs.Stays.{SpliceOrSwap, nothing_else_cuts, only_splices_answer_cuts}
 use Rattle.nm_laws.proofs.EachState.{each_read_stands, each_known_leaf, each_queue_frozen, each_tag_twinned, each_flag_on_leaf, each_reach_shared, each_reach_guarded, each_epoch_agrees, each_knower_pinned}
 use Rattle.nm_laws.proofs.Pins.{reachable_pins_are_near}
 use Rattle.nm_laws.proofs.Labels.{labels_do_not_fall, no_label_is_above, briefs_are_right}
@@ -119,10 +119,19 @@ pub turn_cuts : (s : State) → IsReachable s → (t : ℕ × Event) → CutsIts
 turn_cuts s r t = go (told_of (outcome s t))
   where
     go : Told (outcome s t) → CutsItsNodes s t
-    go (CutNodes ns is) =
-        let by = of_reachable OnlySplicesAnswerCuts only_splices_answer_cuts s r t ns is in
-        let e = as_splice t.0 t.1 (Splice by.0 by.1 by.2 by.3 by.4) by.5 in
-        λ x. rw (is, e) (of_reachable (OfEachCut (λ before successor ns after. CutsJust before.memory ns after.memory)) cuts_just s r t.0 by.0 by.1 by.2 by.3 by.4 ns (rw (← e) is) x)
+    go (CutNodes ns is) = on (of_reachable OnlySplicesAnswerCuts only_splices_answer_cuts s r t ns is)
+      where
+        on : SpliceOrSwap t.1 → CutsItsNodes s t
+        on (inl by) =
+            let e = as_splice t.0 t.1 (Splice by.0 by.1 by.2 by.3 by.4) by.5 in
+            λ x. rw (is, e) (of_reachable
+            (OfEachCut (λ before successor ns after. CutsJust before.memory ns
+            after.memory)) cuts_just s r t.0 by.0 by.1 by.2 by.3 by.4 ns (rw (← e) is) x)
+        on (inr by) =
+            let e = as_splice t.0 t.1 (Swap by.0 by.1 by.2 by.3) by.4 in
+            λ x. rw (is, e) (of_reachable
+            (OfEachSwap (λ before leaf ns after. CutsJust before.memory ns
+            after.memory)) swaps_cut_just s r t.0 by.0 by.1 by.2 by.3 ns (rw (← e) is) x)
     go (NoCut none uncut) =
         λ x. ((λ c. absurd (c.gone (of_reachable NothingElseCuts nothing_else_cuts s r t uncut x c.was))), (λ c. absurd (nothing_in x _ (ap slots_of none) c)))
 

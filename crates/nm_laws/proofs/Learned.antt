@@ -7,7 +7,7 @@ use Rattle.nm_edge.specs.declared.edge.Side.{Side}
 use Rattle.nm_edge.specs.declared.node.NodeId.{NodeId}
 use Rattle.nm_model.specs.declared.event.Field.{Field}
 use Rattle.nm_model.specs.declared.event.Field.TheVariants.{Edge as EdgeOn, Birth}
-use Rattle.nm_model.specs.declared.event.Event.TheVariants.{Sight, SightFor, Announce, Leave, LeaveWith, Scan, Advance, Claim, Give, Look, Fill, Link, Flag, Tag, Splice, Join}
+use Rattle.nm_model.specs.declared.event.Event.TheVariants.{Sight, SightFor, Announce, Leave, LeaveWith, Scan, Advance, Claim, Give, Look, Fill, Link, Flag, Tag, Splice, Swap, Join}
 use Rattle.nm_model.specs.declared.event.Op.{Op}
 use Rattle.nm_model.specs.declared.reply.Reply.{Reply}
 use Rattle.nm_model.specs.declared.reply.Reply.TheVariants.{Saw, Labelled, Pinned, Missed, Announced, Departed, Idle, In, Moved, Behind, Claimed, Taken, Returned, Freed, Filled, Linked, Flagged, Was, Cut, Lost, Joined, BirthIs, EdgeIs}
@@ -15,7 +15,7 @@ use Rattle.nm_model.specs.declared.ledger.Ledger.{Ledger}
 use Rattle.nm_model.specs.Maps.{put, without, is_number}
 use Rattle.nm_model.specs.Ledgers.{free}
 use Rattle.nm_model.specs.Knowledge.{Knowledge, unfilled, is_private, draft_of}
-use Rattle.nm_model.specs.Learning.{learn, saw, labelling, pinned, departed, scanned, moved, read_edge, look_known, look_private, filled_in, linked_in, flag_to, cutting, inheriting, resigned, learn_sight, learn_scan, looked}
+use Rattle.nm_model.specs.Learning.{learn, saw, labelling, pinned, departed, scanned, moved, read_edge, look_known, look_private, filled_in, linked_in, swapped_in, flag_to, cutting, inheriting, resigned, learn_sight, learn_scan, looked}
 
 -- ---- what a sight, a scan and a look may change
 
@@ -148,6 +148,16 @@ module _ (w : ℕ) (k : Knowledge) where
   pub learn_splice_lost : (a : ℕ) (side : Side) (s p : ℕ) (keep : Side) (e : Edge) → learn w k (Splice a side s p keep) (Lost e) ≡ read_edge k a side e
   unfolding learn
   learn_splice_lost a side s p keep e = refl
+
+  pub learn_swapped : (p : ℕ) (side : Side) (leaf new : ℕ) (ns : List NodeId)
+      → learn w k (Swap p side leaf new) (Cut ns) ≡ cutting w (swapped_in k new) ns
+  unfolding learn
+  learn_swapped p side leaf new ns = refl
+
+  pub learn_swap_lost : (p : ℕ) (side : Side) (leaf new : ℕ) (e : Edge)
+      → learn w k (Swap p side leaf new) (Lost e) ≡ read_edge k p side e
+  unfolding learn
+  learn_swap_lost p side leaf new e = refl
 
   pub learn_joined : (v : ℕ) (ls : List (Option Ledger)) → learn w k (Join v) (Joined ls) ≡ cond (w == v) (resigned k) (inheriting k ls)
   unfolding learn

@@ -15,11 +15,13 @@ pub mod Readings
 pub mod Frees
 pub mod Splices
 pub mod Links
+pub mod Swaps
 pub mod Views
 pub mod TreeEpochs
 pub mod TreeSlots
 pub mod TreeSplice
 pub mod TreeLink
+pub mod TreeSwap
 pub mod Changes
 pub mod Holders
 pub mod TreeSteps

@@ -9,7 +9,7 @@ use Rattle.nm_edge.specs.declared.node.NodeId.{NodeId}
 use Rattle.nm_model.specs.declared.event.Field.{Field}
 use Rattle.nm_model.specs.declared.event.Field.TheVariants.{Key, Edge as EdgeOn}
 use Rattle.nm_model.specs.declared.event.Event.{Event}
-use Rattle.nm_model.specs.declared.event.Event.TheVariants.{Sight, SightFor, Leave, LeaveWith, Look, Link, Flag, Splice}
+use Rattle.nm_model.specs.declared.event.Event.TheVariants.{Sight, SightFor, Leave, LeaveWith, Look, Link, Flag, Splice, Swap}
 use Rattle.nm_model.specs.declared.reply.Reply.{Reply}
 use Rattle.nm_model.specs.declared.reply.Reply.TheVariants.{Pinned, Departed, KeyIs, EdgeIs, Linked, Flagged, Cut}
 use Rattle.nm_model.specs.declared.arrivals.Call.{Call}
@@ -79,15 +79,25 @@ found (x ∷ xs) (y ∷ bs) grown a (suc i) below at =
 
 -- ---- searches
 
-grows : (s t : Search) → t.call ≡ s.call → (s.linked ≡ true → t.linked ≡ true) → (s.cut ≡ true → t.cut ≡ true) → Grown s.walks t.walks → SearchGrows s t
-grows s t call linked cut walks = record { call = call; linked = linked; cut = cut; walks = λ a there. found s.walks t.walks walks a there.0 there.1 there.2 }
+grows : (s t : Search) → t.call ≡ s.call → (s.linked ≡ true → t.linked ≡ true) → (s.swapped ≡ true → t.swapped ≡ true)
+    → (s.cut ≡ true → t.cut ≡ true) → Grown s.walks t.walks → SearchGrows s t
+grows s t call linked swapped cut walks =
+    record {
+      call = call;
+      linked = linked;
+      swapped = swapped;
+      cut = cut;
+      walks =
+          λ a there. found s.walks t.walks walks a there.0 there.1 there.2;
+    }
 
 itself : (s : Search) → SearchGrows s s
-itself s = grows s s refl (λ is. is) (λ is. is) (unchanged s.walks)
+itself s = grows s s refl (λ is. is) (λ is. is) (λ is. is) (unchanged s.walks)
 
 look_grows : (s : Search) (slot : ℕ) (f : Field) (r : Reply) (o : Option Call) → SearchGrows s (look_for s o slot f r)
 look_grows s slot f r None = itself s
-look_grows s slot f r (Some c) = grows s (look_for s (Some c) slot f r) refl (λ is. is) (λ is. is) (walked_grows c.key s.walks slot f r)
+look_grows s slot f r (Some c) = grows s (look_for s (Some c) slot f r) refl (λ is. is) (λ is. is) (λ is. is)
+    (walked_grows c.key s.walks slot f r)
 
 -- ---- one event
 
@@ -105,27 +115,35 @@ begun_is s Leave Departed anew = refl
 begun_is s (LeaveWith answer) Departed anew = refl
 begun_is s e r anew = absurd (true≢false (sym anew))
 
--- what holds behind a look, a link, a flag and a splice, and where the search stays, holds behind
+-- what holds after a look, a link, a flag, a splice and a swap, and where the search stays, holds after
 -- each event while the pin stands
 pub search_goes : (P : Event → Reply → Search → Type 0) (s : Search) → ((slot : ℕ) (f : Field) (r : Reply) → P (Look slot f) r (look_for s s.call slot f r))
     → ((p : ℕ) (side : Side) (leaf new : ℕ) (n : NodeId) → P (Link p side leaf new) (Linked n) (record s { linked = true }))
     → ((p : ℕ) (side : Side) (leaf : ℕ) (n : NodeId) → P (Flag p side leaf) (Flagged n) (record s { flagged = Some n }))
     → ((a : ℕ) (side : Side) (x p : ℕ) (keep : Side) (ns : List NodeId) → P (Splice a side x p keep) (Cut ns) (record s { cut = s.cut || is_flagged_in s.flagged ns }))
+    → ((p : ℕ) (side : Side) (leaf new : ℕ) (ns : List NodeId)
+    → P (Swap p side leaf new) (Cut ns) (record s { swapped = true }))
     → ((e : Event) (r : Reply) → P e r s) → (e : Event) (r : Reply) → begins_anew (e, r) ≡ false → P e r (searched s e r)
 unfolding searched
-search_goes P s looks links flags splices stays Sight (Pinned n) stands = absurd (true≢false stands)
-search_goes P s looks links flags splices stays (SightFor op key) (Pinned n) stands = absurd (true≢false stands)
-search_goes P s looks links flags splices stays Leave Departed stands = absurd (true≢false stands)
-search_goes P s looks links flags splices stays (LeaveWith answer) Departed stands = absurd (true≢false stands)
-search_goes P s looks links flags splices stays (Look slot f) r stands = looks slot f r
-search_goes P s looks links flags splices stays (Link p side leaf new) (Linked n) stands = links p side leaf new n
-search_goes P s looks links flags splices stays (Flag p side leaf) (Flagged n) stands = flags p side leaf n
-search_goes P s looks links flags splices stays (Splice a side x p keep) (Cut ns) stands = splices a side x p keep ns
-search_goes P s looks links flags splices stays e r stands = stays e r
+search_goes P s looks links flags splices swaps stays Sight (Pinned n) stands = absurd (true≢false stands)
+search_goes P s looks links flags splices swaps stays (SightFor op key) (Pinned n) stands = absurd (true≢false stands)
+search_goes P s looks links flags splices swaps stays Leave Departed stands = absurd (true≢false stands)
+search_goes P s looks links flags splices swaps stays (LeaveWith answer) Departed stands = absurd (true≢false stands)
+search_goes P s looks links flags splices swaps stays (Look slot f) r stands = looks slot f r
+search_goes P s looks links flags splices swaps stays (Link p side leaf new) (Linked n) stands = links p side leaf new n
+search_goes P s looks links flags splices swaps stays (Flag p side leaf) (Flagged n) stands = flags p side leaf n
+search_goes P s looks links flags splices swaps stays (Splice a side x p keep) (Cut ns) stands =
+    splices a side x p keep ns
+search_goes P s looks links flags splices swaps stays (Swap p side leaf new) (Cut ns) stands = swaps p side leaf new ns
+search_goes P s looks links flags splices swaps stays e r stands = stays e r
 
 pub only_grow : SearchesOnlyGrow
 only_grow s = search_goes (λ e r t. SearchGrows s t) s (λ slot f r. look_grows s slot f r s.call)
-    (λ p side leaf new n. grows s (record s { linked = true }) refl (λ is. refl) (λ is. is) (unchanged s.walks))
-    (λ p side leaf n. grows s (record s { flagged = Some n }) refl (λ is. is) (λ is. is) (unchanged s.walks))
-    (λ a side x p keep ns. grows s (record s { cut = s.cut || is_flagged_in s.flagged ns }) refl (λ is. is) (λ is. or_left s.cut (is_flagged_in s.flagged ns) is) (unchanged s.walks))
+    (λ p side leaf new n. grows s (record s { linked = true }) refl (λ is. refl) (λ is. is) (λ is. is)
+    (unchanged s.walks))
+    (λ p side leaf n. grows s (record s { flagged = Some n }) refl (λ is. is) (λ is. is) (λ is. is) (unchanged s.walks))
+    (λ a side x p keep ns. grows s (record s { cut = s.cut || is_flagged_in s.flagged ns }) refl (λ is. is) (λ is. is)
+    (λ is. or_left s.cut (is_flagged_in s.flagged ns) is) (unchanged s.walks))
+    (λ p side leaf new ns. grows s (record s { swapped = true }) refl (λ is. is) (λ is. refl) (λ is. is)
+    (unchanged s.walks))
     (λ e r. itself s)

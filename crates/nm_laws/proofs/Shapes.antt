@@ -9,7 +9,7 @@ use Rattle.nm_edge.specs.Layouts.{Layout, IsLayout}
 use Rattle.nm_model.specs.declared.event.Field.TheVariants.{Edge as EdgeOn, Birth}
 use Rattle.nm_model.specs.declared.event.Field.{Field}
 use Rattle.nm_model.specs.declared.event.Event.{Event}
-use Rattle.nm_model.specs.declared.event.Event.TheVariants.{Sight, SightFor, Announce, Leave, LeaveWith, Scan, Advance, Claim, Give, Look, Fill, Link, Flag, Tag, Splice, Join}
+use Rattle.nm_model.specs.declared.event.Event.TheVariants.{Sight, SightFor, Announce, Leave, LeaveWith, Scan, Advance, Claim, Give, Look, Fill, Link, Flag, Tag, Splice, Swap, Join}
 use Rattle.nm_model.specs.declared.reply.Reply.{Reply}
 use Rattle.nm_model.specs.declared.reply.Reply.TheVariants.{Saw, Labelled, Pinned, Missed, Announced, Departed, Idle, In, Moved, Behind, Claimed, Returned, Freed, BirthIs, EdgeIs, Filled, Linked, Flagged, Was, Cut, Lost, Joined}
 use Rattle.nm_model.specs.Maps.{is_number}
@@ -72,6 +72,9 @@ row_learn n w k (Flag p side leaf) (Lost e) h = record { scanned = h.scanned; le
 row_learn n w k (Tag p side) (Was e) h = record { scanned = h.scanned; ledgers = h.ledgers }
 row_learn n w k (Splice a side s p keep) (Cut ns) h = record { scanned = h.scanned; ledgers = length-set _ _ _ ∙ h.ledgers }
 row_learn n w k (Splice a side s p keep) (Lost e) h = record { scanned = h.scanned; ledgers = h.ledgers }
+row_learn n w k (Swap p side leaf new) (Cut ns) h =
+    record { scanned = h.scanned; ledgers = length-set _ _ _ ∙ h.ledgers }
+row_learn n w k (Swap p side leaf new) (Lost e) h = record { scanned = h.scanned; ledgers = h.ledgers }
 row_learn n w k (Join v) (Joined ls) h =
     cond_both (eqb w v) (record k { ledgers = replicate (length k.ledgers) None; gone = true }) (record k { ledgers = taken_over k.ledgers ls }) (IsRow n)
     (λ _. record { scanned = h.scanned; ledgers = length-replicate _ _ ∙ h.ledgers })

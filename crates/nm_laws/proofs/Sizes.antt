@@ -7,7 +7,7 @@ use Rattle.nm_edge.specs.Layouts.{Layout}
 use Rattle.nm_edge.specs.Edges.{Edge, is_to}
 use Rattle.nm_edge.specs.declared.edge.Side.{Side}
 use Rattle.nm_model.specs.declared.event.Event.{Event}
-use Rattle.nm_model.specs.declared.event.Event.TheVariants.{Sight, SightFor, Announce, Leave, LeaveWith, Scan, Advance, Claim, Give, Look, Fill, Link, Flag, Tag, Splice, Join}
+use Rattle.nm_model.specs.declared.event.Event.TheVariants.{Sight, SightFor, Announce, Leave, LeaveWith, Scan, Advance, Claim, Give, Look, Fill, Link, Flag, Tag, Splice, Swap, Join}
 use Rattle.nm_model.specs.Maps.{is_number}
 use Rattle.nm_model.specs.Memory.{Memory, edge, put_edge, blank}
 use Rattle.nm_model.specs.Knowledge.{Knowledge, newcomer}
@@ -44,6 +44,7 @@ written_as_long m k w (Link p side leaf new) = exchange_as_long m p side leaf _
 written_as_long m k w (Flag p side leaf) = exchange_as_long m p side leaf _
 written_as_long m k w (Tag p side) = record { announcements = refl; nodes = length-set _ p _; pool = refl }
 written_as_long m k w (Splice a side x p keep) = exchange_as_long m a side x _
+written_as_long m k w (Swap p side leaf new) = exchange_as_long m p side leaf _
 written_as_long m k w (Join v) = as_itself m
 
 -- there are as many workers as the layout says, each with its announcement

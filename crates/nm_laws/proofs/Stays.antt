@@ -1,5 +1,5 @@
 -- No event but a splice that is won cuts anything.
-use Rattle.std.proofs.Common.{◌≡◌, ℕ, ◌+◌, ◌<◌, ◌≤◌, eqb, Bool, true, false, cond, ◌&&◌, List, length, refl, sym, ap, ◌∙◌, arith, true≢false}
+use Rattle.std.proofs.Common.{◌≡◌, ℕ, ◌+◌, ◌<◌, ◌≤◌, eqb, Bool, true, false, cond, ◌&&◌, List, [], ◌∷◌, ◌⊎◌, inl, inr, length, refl, sym, ap, ◌∙◌, arith, true≢false}
 use Rattle.std.specs.Prelude.{Option, Some, None, is_some, unwrap_or, nat_lt, Result, Ok}
 use Rattle.std.proofs.lemmas.Bool.{cond_both, cond-true, eqb-true, and_parts, or_parts, false_from_ne_true}
 use Rattle.nm_edge.specs.Edges.{Edge, to, is_to, tagged}
@@ -8,12 +8,12 @@ use Rattle.nm_edge.specs.declared.node.NodeId.{NodeId}
 use Rattle.nm_model.specs.declared.event.Field.{Field}
 use Rattle.nm_model.specs.declared.event.Field.TheVariants.{Key, Edge as EdgeOn, Birth}
 use Rattle.nm_model.specs.declared.event.Event.{Event}
-use Rattle.nm_model.specs.declared.event.Event.TheVariants.{Sight, SightFor, Announce, Leave, LeaveWith, Scan, Advance, Claim, Give, Look, Fill, Link, Flag, Tag, Splice, Join}
+use Rattle.nm_model.specs.declared.event.Event.TheVariants.{Sight, SightFor, Announce, Leave, LeaveWith, Scan, Advance, Claim, Give, Look, Fill, Link, Flag, Tag, Splice, Swap, Join}
 use Rattle.nm_model.specs.declared.reply.Reply.{Reply}
 use Rattle.nm_model.specs.declared.reply.Reply.TheVariants.{Cut, Freed, Joined, Labelled, Linked, Lost}
 use Rattle.nm_model.specs.declared.reply.Refused.{Refused}
 use Rattle.nm_model.specs.Maps.{get, without, is_number}
-use Rattle.nm_model.specs.Memory.{Memory, node, edge, put_node, put_edge}
+use Rattle.nm_model.specs.Memory.{Memory, node, edge, named, put_node, put_edge}
 use Rattle.nm_model.specs.Knowledge.{Knowledge, is_private, draft_of, read, beside}
 use Rattle.nm_model.specs.Learning.{learn, linked_in, flag_to}
 use Rattle.nm_model.specs.Paths.{follow, Reached}
@@ -140,6 +140,13 @@ module _ (s : State) (h : ℕ → ℕ) (law : Lawful s h) (w : ℕ) where
       by : (b : Bool) → is_to (edge s.memory a d) x ≡ b → Reached (cond b (put_edge s.memory a d (kept (read (of s w) p keep))) s.memory) y
       by true i = absurd (uncut (cut_nodes s.layout s.memory (of s w) x p keep) (cond-true (is_to (edge s.memory a d) x) (Cut (cut_nodes s.layout s.memory (of s w) x p keep)) (Lost (edge s.memory a d)) i))
       by false i = r
+  write_stays (Swap p d leaf new) ok uncut y r = by (is_to (edge s.memory p d) leaf) refl
+    where
+      by : (b : Bool) → is_to (edge s.memory p d) leaf ≡ b
+          → Reached (cond b (put_edge s.memory p d (to new)) s.memory) y
+      by true i = absurd (uncut (named s.memory leaf ∷ [])
+          (cond-true (is_to (edge s.memory p d) leaf) (Cut (named s.memory leaf ∷ [])) (Lost (edge s.memory p d)) i))
+      by false i = r
   write_stays (Join v) ok uncut y r = r
 
 pub nothing_else_cuts : OfEachState NothingElseCuts
@@ -156,17 +163,27 @@ nothing_else_cuts L enough turns t uncut y r = go (refused (after (start L) turn
 
 -- ---- no other event answers a cut
 
-cut_is_splice : (s : State) (t : ℕ × Event) (ns : List NodeId) → outcome s t ≡ Ok (Cut ns) → (a : ℕ) × (side : Side) × (successor : ℕ) × (parent : ℕ) × (keep : Side) × (t.1 ≡ Splice a side successor parent keep)
+-- an event is a splice; or a swap
+abbrev pub IsSplice : Event → Type 0
+IsSplice e = (a : ℕ) × (side : Side) × (successor : ℕ) × (parent : ℕ) × (keep : Side)
+    × (e ≡ Splice a side successor parent keep)
+
+abbrev pub SpliceOrSwap : Event → Type 0
+SpliceOrSwap e = IsSplice e
+    ⊎ ((p : ℕ) × (side : Side) × (leaf : ℕ) × (new : ℕ) × (e ≡ Swap p side leaf new))
+
+cut_is_splice : (s : State) (t : ℕ × Event) (ns : List NodeId) → outcome s t ≡ Ok (Cut ns) → SpliceOrSwap t.1
 unfolding outcome
 cut_is_splice s t ns is = go (refused s t.0 t.1) refl is
   where
-    by : (k : Knowledge) → reply_of s t.0 t.1 ≡ Cut ns → Change s t.0 t.1 (reply_of s t.0 t.1) k → (a : ℕ) × (side : Side) × (successor : ℕ) × (parent : ℕ) × (keep : Side) × (t.1 ≡ Splice a side successor parent keep)
+    by : (k : Knowledge) → reply_of s t.0 t.1 ≡ Cut ns → Change s t.0 t.1 (reply_of s t.0 t.1) k → SpliceOrSwap t.1
     by k r (Keeps _ _ un _) = absurd (un ns r)
     by k r (Labels _ _ q) = absurd (no (sym q ∙ r))
       where
         no : Labelled s.memory.epoch ≡ Cut ns → ⊥
         no e = cc
-    by k r (Cuts ms _ _ q won) = (won.ancestor, won.side, won.successor, won.parent, won.keep, won.is)
+    by k r (Cuts ms _ _ q (inl won)) = inl (won.ancestor, won.side, won.successor, won.parent, won.keep, won.is)
+    by k r (Cuts ms _ _ q (inr won)) = inr (won.parent, won.side, won.leaf, won.new, won.is)
     by k r (Frees x y f _ _ _ q _) = absurd (no (sym q ∙ r))
       where
         no : Freed y.node ≡ Cut ns → ⊥
@@ -178,11 +195,12 @@ cut_is_splice s t ns is = go (refused s t.0 t.1) refl is
         no : Joined (of s v).ledgers ≡ Cut ns → ⊥
         no e = cc
 
-    go : (o : Option Refused) → refused s t.0 t.1 ≡ o → ◌≡◌ {A = Result Reply Refused} (answered o (reply_of s t.0 t.1)) (Ok (Cut ns)) → (a : ℕ) × (side : Side) × (successor : ℕ) × (parent : ℕ) × (keep : Side) × (t.1 ≡ Splice a side successor parent keep)
+    go : (o : Option Refused) → refused s t.0 t.1 ≡ o
+        → ◌≡◌ {A = Result Reply Refused} (answered o (reply_of s t.0 t.1)) (Ok (Cut ns)) → SpliceOrSwap t.1
     go (Some r) i is = absurd (no_reply r (Cut ns) is)
     go None i is = on (join_or_not t.1)
       where
-        on : JoinOrNot t.1 → (a : ℕ) × (side : Side) × (successor : ℕ) × (parent : ℕ) × (keep : Side) × (t.1 ≡ Splice a side successor parent keep)
+        on : JoinOrNot t.1 → SpliceOrSwap t.1
         on (IsJoin v e) = absurd (no_join v e (same_reply _ _ is))
         on (IsNone alone) = by _ (same_reply _ _ is) (changed s t.0 t.1 (allowed s t.0 t.1 i) alone).ledgers
 

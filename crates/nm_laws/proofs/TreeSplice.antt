@@ -96,7 +96,9 @@ ltb_suc i n = elim (cases_Bool (ltb i n)) [
   | inr f ↦ let le = ltb-false i n f in le-ltb (suc i) (suc n) (omega arith) ∙ sym f
 ]
 
-queue_append : (q : List Queued) (ns : List NodeId) (i : ℕ) → option_map slot_of (slice_get (q ++ map unlabelled ns) i) ≡ cond (ltb i (length q)) (option_map slot_of (slice_get q i)) (slice_get (map (λ (n : NodeId). n.slot) ns) (i - length q))
+pub queue_append : (q : List Queued) (ns : List NodeId) (i : ℕ)
+    → option_map slot_of (slice_get (q ++ map unlabelled ns) i) ≡ cond (ltb i (length q))
+    (option_map slot_of (slice_get q i)) (slice_get (map (λ (n : NodeId). n.slot) ns) (i - length q))
 queue_append [] ns i =
     let none : i - 0 ≡ i = omega arith in
     let past : ltb i 0 ≡ false = le-ltb i 0 (omega arith) in
@@ -114,7 +116,8 @@ late_new (Some p) [] i = refl
 late_new (Some p) (n ∷ ns) zero = refl
 late_new (Some p) (n ∷ ns) (suc i) = late_new (Some p) ns i
 
-late_append : (o : Option ℕ) (q : List Queued) (ns : List NodeId) (i : ℕ) → is_late o (slice_get (q ++ map unlabelled ns) i) ≡ cond (ltb i (length q)) (is_late o (slice_get q i)) false
+pub late_append : (o : Option ℕ) (q : List Queued) (ns : List NodeId) (i : ℕ)
+    → is_late o (slice_get (q ++ map unlabelled ns) i) ≡ cond (ltb i (length q)) (is_late o (slice_get q i)) false
 late_append o [] ns i = late_new o ns i ∙ sym (cond-false (ltb i 0) (is_late o None) false (le-ltb i 0 (omega arith)))
 late_append o (e ∷ q) ns zero = sym (cond-true (ltb 0 (suc (length q))) (is_late o (Some e)) false (lt-ltb 0 (suc (length q)) (omega arith)))
 late_append o (e ∷ q) ns (suc i) = late_append o q ns i ∙ ap (λ (b : Bool). cond b (is_late o (slice_get q i)) false) (sym (ltb_suc i (length q)))

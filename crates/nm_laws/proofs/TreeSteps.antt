@@ -9,7 +9,7 @@ use Rattle.nm_edge.specs.declared.edge.Side.{Side}
 use Rattle.nm_model.specs.declared.event.Field.{Field}
 use Rattle.nm_model.specs.declared.event.Field.TheVariants.{Edge as EdgeOn}
 use Rattle.nm_model.specs.declared.event.Event.{Event}
-use Rattle.nm_model.specs.declared.event.Event.TheVariants.{Sight, SightFor, Announce, Leave, LeaveWith, Scan, Advance, Claim, Give, Look, Fill, Link, Flag, Tag, Splice, Join}
+use Rattle.nm_model.specs.declared.event.Event.TheVariants.{Sight, SightFor, Announce, Leave, LeaveWith, Scan, Advance, Claim, Give, Look, Fill, Link, Flag, Tag, Splice, Swap, Join}
 use Rattle.nm_model.specs.declared.reply.Reply.TheVariants.{Returned, Freed}
 use Rattle.nm_model.specs.declared.reply.Refused.TheVariants.{NoSlot, NotPinned, NotHeld, NotPrivate, NotReady, NotFrozen}
 use Rattle.nm_model.specs.declared.ledger.Queued.{Queued}
@@ -19,7 +19,7 @@ use Rattle.nm_model.specs.Memory.{announcement, child}
 use Rattle.nm_model.specs.Ledgers.{held, queue_of, front_of, taken_over}
 use Rattle.nm_model.specs.Knowledge.{Knowledge, knows, is_private, draft_of, read, is_flagged, knows_leaf}
 use Rattle.nm_model.specs.Learning.{learn}
-use Rattle.nm_model.specs.Step.{outside, is_edge, is_frozen, is_linkable, node_of, reply_sight, refusal, reply, write, may_be_over}
+use Rattle.nm_model.specs.Step.{outside, is_edge, is_frozen, is_linkable, is_leaf_draft, node_of, reply_sight, refusal, reply, write, may_be_over}
 use Rattle.nm_model.specs.Runs.{State, of, refusal_of, reply_of}
 use Rattle.nm_laws.proofs.Steps.{Allowed, passed, second, third, fourth, fifth}
 use Rattle.nm_laws.proofs.Sizes.{Staffed, Roomy}
@@ -35,6 +35,7 @@ use Rattle.nm_laws.proofs.TreeEpochs.{sight_view, announce_view, scan_view, adva
 use Rattle.nm_laws.proofs.TreeSlots.{put_pool, claim_view, return_view, free_view, look_view, fill_view, flag_view, tag_view, known_live, flag_known}
 use Rattle.nm_laws.proofs.TreeSplice.{Owns, splice_view}
 use Rattle.nm_laws.proofs.TreeLink.{link_view}
+use Rattle.nm_laws.proofs.TreeSwap.{swap_view}
 
 pub high_from : (low high s : ℕ) → outside low high s ≡ false → (low ≤ s) × (s ≤ high)
 high_from low high s h = let parts = or_parts (nat_lt s low) (nat_lt high s) h in (ltb-false s low parts.0, ltb-false high s parts.1)
@@ -80,6 +81,47 @@ link_checked s w p d leaf new ok = record {
 
     leaf_known : (knows (of s w) leaf ≡ true) × (may_be_over s.layout (of s w) leaf ≡ true)
     leaf_known = and_parts (knows (of s w) leaf) (may_be_over s.layout (of s w) leaf) three.1
+
+-- the same of a swap, whose leaf is no sentinel
+pub record SwapChecked (k : Knowledge) (p leaf new : ℕ) : Type 0 where
+  pub high : 6 ≤ leaf
+  pub known : knows k p ≡ true
+  pub held : knows k leaf ≡ true
+  pub leafy : knows_leaf k leaf ≡ true
+  pub own : is_private k new ≡ true
+  pub ready : is_leaf_draft k new ≡ true
+
+pub swap_checked : (s : State) (w p : ℕ) (d : Side) (leaf new : ℕ) → refusal_of s w (Swap p d leaf new) ≡ None
+    → SwapChecked (of s w) p leaf new
+unfolding refusal
+swap_checked s w p d leaf new ok = record {
+  high = (high_from 6 s.layout.nodes leaf
+      (or_parts (outside 6 s.layout.nodes leaf) (outside 6 s.layout.nodes new)
+      (or_parts (outside 1 s.layout.nodes p) (outside 6 s.layout.nodes leaf || outside 6 s.layout.nodes new)
+      (passed _ _ _ ok).0).1).0).0;
+  known = three.0;
+  held = two.0;
+  leafy = two.1;
+  own = not-false (is_private (of s w) new)
+      (fourth first (is_none (of s w).brief.pin)
+      (not (knows (of s w) p && (knows (of s w) leaf && knows_leaf (of s w) leaf)))
+      (not (is_private (of s w) new)) NoSlot NotPinned NotHeld NotPrivate _ ok);
+  ready = not-false (is_leaf_draft (of s w) new)
+      (fifth first (is_none (of s w).brief.pin)
+      (not (knows (of s w) p && (knows (of s w) leaf && knows_leaf (of s w) leaf))) (not (is_private (of s w) new))
+      (not (is_leaf_draft (of s w) new)) NoSlot NotPinned NotHeld NotPrivate NotReady _ ok);
+}
+  where
+    first : Bool
+    first = outside 1 s.layout.nodes p || (outside 6 s.layout.nodes leaf || outside 6 s.layout.nodes new)
+
+    three : (knows (of s w) p ≡ true) × ((knows (of s w) leaf && knows_leaf (of s w) leaf) ≡ true)
+    three = and_parts (knows (of s w) p) (knows (of s w) leaf && knows_leaf (of s w) leaf)
+        (not-false _ (third first (is_none (of s w).brief.pin)
+        (not (knows (of s w) p && (knows (of s w) leaf && knows_leaf (of s w) leaf))) NoSlot NotPinned NotHeld _ ok))
+
+    two : (knows (of s w) leaf ≡ true) × (knows_leaf (of s w) leaf ≡ true)
+    two = and_parts (knows (of s w) leaf) (knows_leaf (of s w) leaf) three.1
 
 -- the same of a flag, whose leaf is no sentinel
 pub record FlagChecked (k : Knowledge) (p leaf : ℕ) : Type 0 where
@@ -214,6 +256,9 @@ module _ (s : State) (h : ℕ → ℕ) (law : Lawful s h) (w : ℕ) where
       go (Tag p d) ok alone = let c = tag_checked s w p d ok in tag_view s.layout.nodes s.memory (of s) h w p d law.roomy.nodes c.0 c.1 law.tree
       go (Splice a d x p keep) ok alone = let c = splice_checked s w a d x p keep ok in
           splice_view s.layout s.memory (of s) h w a d x p keep law.roomy.nodes (owned ok'.worker ok'.stays) c.high.0 c.high.1 c.known c.held c.frozen law.tree
+      go (Swap p d leaf new) ok alone = let c = swap_checked s w p d leaf new ok in
+          swap_view s.layout.nodes s.memory (of s) h w p d leaf new law.roomy.nodes
+          (owned ok'.worker ok'.stays) c.high c.known c.held c.leafy c.own c.ready (law.drafts w) law.tree
       go (Join v) ok alone = absurd (alone v refl)
 
 -- ---- a join

@@ -10,7 +10,7 @@ use Rattle.nm_edge.specs.declared.edge.Side.TheVariants.{Left, Right}
 use Rattle.nm_model.specs.declared.event.Field.{Field}
 use Rattle.nm_model.specs.declared.event.Field.TheVariants.{Key, Edge as EdgeOn}
 use Rattle.nm_model.specs.declared.event.Event.{Event}
-use Rattle.nm_model.specs.declared.event.Event.TheVariants.{Sight, SightFor, Leave, LeaveWith, Look, Link, Flag, Splice}
+use Rattle.nm_model.specs.declared.event.Event.TheVariants.{Sight, SightFor, Leave, LeaveWith, Look, Link, Flag, Splice, Swap}
 use Rattle.nm_model.specs.declared.reply.Reply.{Reply}
 use Rattle.nm_model.specs.declared.reply.Reply.TheVariants.{Pinned, Departed, KeyIs, EdgeIs, Linked, Flagged, Cut}
 use Rattle.nm_model.specs.declared.arrivals.Call.{Call}
@@ -218,6 +218,8 @@ one_more s so_far (Look slot f) r knows c is = looks_on s so_far slot f r knows 
 one_more s so_far (Link p side leaf new) (Linked n) knows c is = all_more c.key so_far (Link p side leaf new, Linked n) s.walks (knows c is)
 one_more s so_far (Flag p side leaf) (Flagged n) knows c is = all_more c.key so_far (Flag p side leaf, Flagged n) s.walks (knows c is)
 one_more s so_far (Splice a side x p keep) (Cut ns) knows c is = all_more c.key so_far (Splice a side x p keep, Cut ns) s.walks (knows c is)
+one_more s so_far (Swap p side leaf new) (Cut ns) knows c is =
+    all_more c.key so_far (Swap p side leaf new, Cut ns) s.walks (knows c is)
 one_more s so_far e r knows c is = all_more c.key so_far (e, r) s.walks (knows c is)
 
 all_known : (log : List Entry) (s : Search) (so_far : List Entry) → KnowsWalks s so_far → KnowsWalks (search_after s log) (since_pin so_far log)

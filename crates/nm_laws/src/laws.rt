@@ -1,7 +1,7 @@
 //! Laws of all runs. Each holds for every layout of at least 5 nodes and every list of events: for
 //! all that the workers do, in every order.
 ghost use Rattle.nm_model.specs.Lawful.{BriefsAreRight, CountsAddUp, EachBirthStands, EachReadStands, EpochsAgree, FlaggedEdgesLeadToLeaves, KnownLeavesAreLeaves, LabelsDoNotFall, NoLabelIsAboveTheEpoch, OnlyThePinnedKnow, QueuedNodesAreFrozen, ReachIsGuarded, ReachIsShared, TaggedEdgesHaveFlaggedTwins};
-ghost use Rattle.nm_model.specs.Laws.{CutsJust, EachLedgerHasOneHolder, EachFreeTakesAFront, FreesThenQueueAreTheCuts, GraceHolds, IsFreedThenQueue, IsTheCuts, IsTheFrees, NamesBirths, NoNodeTwice, NothingElseCuts, OfEachCut, OfEachLedger, OfEachLedgerOfATree, OfEachState, OnlySplicesAnswerCuts, PinsStayNear, RetiredGrowsByTheCuts};
+ghost use Rattle.nm_model.specs.Laws.{CutsJust, EachLedgerHasOneHolder, EachFreeTakesAFront, FreesThenQueueAreTheCuts, GraceHolds, IsFreedThenQueue, IsTheCuts, IsTheFrees, NamesBirths, NoNodeTwice, NothingElseCuts, OfEachCut, OfEachLedger, OfEachLedgerOfATree, OfEachState, OfEachSwap, OnlySplicesAnswerCuts, PinsStayNear, RetiredGrowsByTheCuts};
 ghost use Rattle.nm_model.specs.Laws.{StatesJoin, TracesJoin};
 ghost use Rattle.nm_model.specs.Ordered.{OrderedRunsAreRuns, PlainRunsAreRuns, SearchesTellTheLogs};
 ghost use Rattle.nm_model.specs.Walks.{ArrivalsAreWalks, SearchesOnlyGrow};
@@ -35,8 +35,16 @@ pub fn splices_cut_their_nodes()
     ensures kept { OfEachState EachSpliceKeepsTheEdge }
 {}
 
+/// Law: in every run, a won swap cuts off from the root exactly its leaf, which its reply names with
+/// its birth.
+pub fn swaps_cut_their_leaves()
+    ensures exactly { OfEachState
+        (OfEachSwap (λ before leaf ns after. CutsJust before.memory ns after.memory)) }
+    ensures births { OfEachState (OfEachSwap (λ before leaf ns after. NamesBirths before ns)) }
+{}
+
 /// Law: in every run, an event whose reply is not a cut makes no reached node unreached, and only a
-/// splice has a cut as its reply.
+/// splice or a swap has a cut as its reply.
 pub fn nothing_else_cuts()
     ensures others { OfEachState NothingElseCuts }
     ensures splices { OfEachState OnlySplicesAnswerCuts }

@@ -10,13 +10,13 @@ use Rattle.nm_edge.specs.declared.edge.Side.TheVariants.{Left, Right}
 use Rattle.nm_edge.specs.declared.node.NodeId.{NodeId}
 use Rattle.nm_model.specs.declared.event.Field.{Field}
 use Rattle.nm_model.specs.declared.event.Event.{Event}
-use Rattle.nm_model.specs.declared.event.Event.TheVariants.{Sight, SightFor, Announce, Leave, LeaveWith, Scan, Advance, Claim, Give, Look, Fill, Link, Flag, Tag, Splice}
+use Rattle.nm_model.specs.declared.event.Event.TheVariants.{Sight, SightFor, Announce, Leave, LeaveWith, Scan, Advance, Claim, Give, Look, Fill, Link, Flag, Tag, Splice, Swap}
 use Rattle.nm_model.specs.declared.event.Field.TheVariants.{Key, Edge as EdgeOn, Birth}
 use Rattle.nm_model.specs.declared.reply.Reply.{Reply}
 use Rattle.nm_model.specs.declared.reply.Reply.TheVariants.{Saw, Labelled, Pinned, Missed, Announced, Departed, Idle, In, Moved, Behind, Claimed, Taken, Returned, Freed, KeyIs, BirthIs, EdgeIs, Filled, Linked, Flagged, Was, Cut, Lost}
 use Rattle.nm_model.specs.declared.reply.Refused.{Refused}
 use Rattle.nm_model.specs.declared.trace.Turn.{Turn}
-use Rattle.nm_model.specs.Memory.{Memory, node, edge, announcement, child, named, in_pool, put_node, put_edge, opening}
+use Rattle.nm_model.specs.Memory.{is_leaf, Memory, node, edge, announcement, child, named, in_pool, put_node, put_edge, opening}
 use Rattle.nm_model.specs.Paths.{at, Reached, IsCut}
 
 -- ---- the words
@@ -37,6 +37,7 @@ written m w (Link p side leaf new) (Ok (Linked n)) = put_edge m p side (to new)
 written m w (Flag p side leaf) (Ok (Flagged n)) = put_edge m p side (record { slot = leaf; flag = true; tag = false })
 written m w (Tag p side) (Ok (Was e)) = put_edge m p side (tagged e)
 written m w (Splice a side s p keep) (Ok (Cut ns)) = put_edge m a side (untagged (edge m p keep))
+written m w (Swap p side leaf new) (Ok (Cut ns)) = put_edge m p side (to new)
 written m w _ _ = m
 
 -- `after_turn`, `words_from`: the words after a turn; the words after these turns, from given words
@@ -87,6 +88,7 @@ TellsWhatStands m w (Flag p side leaf) (Flagged n) = (edge m p side ≡ to leaf)
 TellsWhatStands m w (Flag p side leaf) (Lost e) = e ≡ edge m p side
 TellsWhatStands m w (Tag p side) (Was e) = e ≡ edge m p side
 TellsWhatStands m w (Splice a side s p keep) (Lost e) = e ≡ edge m a side
+TellsWhatStands m w (Swap p side leaf new) (Lost e) = e ≡ edge m p side
 TellsWhatStands m w _ r = Unit {0}
 
 -- ---- cuts
@@ -132,16 +134,27 @@ pub record IsWonSplice (m : Memory) (e : Event) (ns : List NodeId) : Type 0 wher
   pub chain : IsFrozenChainTo m parent keep successor (slots_of ns)
   pub births : ns ≡ map (named m) (slots_of ns)
 
+-- a won swap names the leaf to which the edge led, with its birth
+pub record IsWonSwap (m : Memory) (e : Event) (ns : List NodeId) : Type 0 where
+  pub parent : ℕ
+  pub side : Side
+  pub old : ℕ
+  pub new : ℕ
+  pub is_swap : e ≡ Swap parent side old new
+  pub led : edge m parent side ≡ to old
+  pub leaf : is_leaf (node m old) ≡ true
+  pub nodes : ns ≡ named m old ∷ []
+
 -- from one moment to the next exactly these nodes were cut off: paths from the root reached them
 -- before, and none does after (Natarajan and Mittal, section 3.2, cleanup)
 abbrev pub CutsJust : Memory → List NodeId → Memory → Type 0
 CutsJust before ns after = (x : ℕ) → IsCut before after x ↔ Contains (slots_of ns) x
 
 -- a turn cuts exactly the nodes that its reply names as cut, and only the reply of a won splice
--- names any (Natarajan and Mittal, section 3.2, cleanup)
+-- or swap names any (Natarajan and Mittal, section 3.2, cleanup)
 pub record CutsItsNodes (m : Memory) (t : Turn) : Type 0 where
   pub just : CutsJust m (nodes_cut_of t.outcome) (after_turn m t)
-  pub splices : (ns : List NodeId) → t.outcome ≡ Ok (Cut ns) → IsWonSplice m t.event ns
+  pub splices : (ns : List NodeId) → t.outcome ≡ Ok (Cut ns) → IsWonSplice m t.event ns ⊎ IsWonSwap m t.event ns
 
 -- ---- what becomes of them
 
@@ -226,11 +239,12 @@ abbrev pub takes : Event → Result Reply Refused → ℕ → Bool
 takes (Claim s) (Ok (Claimed t)) x = x == s
 takes _ _ x = false
 
--- a worker lets go of a slot if it gives the slot back or links it. A won link lets go of the new
--- node, and of both slots to which the new node's edges lead: the new leaf is one of them
+-- a worker lets go of a slot if it gives the slot back, or links or swaps it in. A won link lets go
+-- of the new node, and of both slots to which the new node's edges lead: the new leaf is one of them
 abbrev pub lets_go : Memory → Event → Result Reply Refused → ℕ → Bool
 lets_go m (Give s) (Ok (Returned t)) x = x == s
 lets_go m (Link p side leaf new) (Ok (Linked n)) x = (x == new) || ((x == child m new Left) || (x == child m new Right))
+lets_go m (Swap p side leaf new) (Ok (Cut ns)) x = x == new
 lets_go m _ _ x = false
 
 -- whether a worker has a slot in its hands after these turns, by the words and by whether it had
@@ -272,19 +286,20 @@ WhatIsReachedIsYounger L turns = (w : ℕ) (n : NodeId) → Contains (cuts_of w 
 
 -- ---- what workers touch
 
--- the slots with a word that an event reads or exchanges, and the nodes that a link, a flag or a
--- splice names
+-- the slots with a word that an event reads or exchanges, and the nodes that a link, a flag, a
+-- splice or a swap names
 abbrev pub touched : Event → List ℕ
 touched (Look s f) = s ∷ []
 touched (Link p side leaf new) = p ∷ leaf ∷ new ∷ []
 touched (Flag p side leaf) = p ∷ leaf ∷ []
 touched (Tag p side) = p ∷ []
 touched (Splice a side s p keep) = a ∷ s ∷ p ∷ []
+touched (Swap p side leaf new) = p ∷ leaf ∷ new ∷ []
 touched _ = []
 
 -- the node whose edge a reply returns, and the slot to which this edge leads. It is the edge that
 -- was looked at or tagged, or the one that an exchange found in place of the expected one. After a
--- won link it is the edge to the new node
+-- won link or swap it is the edge to the new node
 abbrev pub edge_told : Event → Result Reply Refused → Option (ℕ × ℕ)
 edge_told (Look s (EdgeOn side)) (Ok (EdgeIs e)) = Some (s, e.slot)
 edge_told (Link p side leaf new) (Ok (Linked n)) = Some (p, new)
@@ -292,6 +307,8 @@ edge_told (Link p side leaf new) (Ok (Lost e)) = Some (p, e.slot)
 edge_told (Flag p side leaf) (Ok (Lost e)) = Some (p, e.slot)
 edge_told (Tag p side) (Ok (Was e)) = Some (p, e.slot)
 edge_told (Splice a side s p keep) (Ok (Lost e)) = Some (a, e.slot)
+edge_told (Swap p side leaf new) (Ok (Cut ns)) = Some (p, new)
+edge_told (Swap p side leaf new) (Ok (Lost e)) = Some (p, e.slot)
 edge_told _ _ = None
 
 -- a worker has learned of a slot, and has not left after that: it was pinned, and a reply returned

@@ -7,7 +7,7 @@ use Rattle.nm_edge.specs.declared.node.NodeId.{NodeId}
 use Rattle.nm_model.specs.declared.event.Op.{Op}
 use Rattle.nm_model.specs.declared.event.Op.TheVariants.{Has, Insert, Delete}
 use Rattle.nm_model.specs.declared.event.Event.{Event}
-use Rattle.nm_model.specs.declared.event.Event.TheVariants.{Sight, SightFor, Leave, LeaveWith, Link, Flag}
+use Rattle.nm_model.specs.declared.event.Event.TheVariants.{Sight, SightFor, Leave, LeaveWith, Link, Flag, Splice}
 use Rattle.nm_model.specs.declared.reply.Reply.{Reply}
 use Rattle.nm_model.specs.declared.reply.Reply.TheVariants.{Pinned, Departed, Linked, Flagged, Cut}
 use Rattle.nm_model.specs.declared.reply.Refused.{Refused}
@@ -76,11 +76,12 @@ pub record IsHistory (L : Layout) (turns : List Turn) (acts : List Act) : Type 0
   pub each : (a : Act) → IsAmong acts a → IsAct turns a
   pub answered : (before since : List Turn) (w : ℕ) (answer : Bool) (c : Called) → turns ≡ before ++ record { worker = w; event = LeaveWith answer; outcome = Ok Departed } ∷ since
       → call_begun w before ≡ Some c → HasAct acts w c answer
-  -- a won link is the moment of its own insert. A cut is the moment of the deletes that flagged its
-  -- leaves: their acts follow each other, in the order of the cut
+  -- a won link is the moment of its own insert. A cut by a splice is the moment of the deletes that
+  -- flagged its leaves: their acts follow each other, in the order of the cut
   pub links : (before since : List Turn) (w p : ℕ) (side : Side) (leaf new : ℕ) (n : NodeId) → turns ≡ before ++ record { worker = w; event = Link p side leaf new; outcome = Ok (Linked n) } ∷ since
       → (a : Act) × IsAmong acts a × (a.worker ≡ w) × (a.moment ≡ length before + 1) × IsInCall before Insert a
   pub cuts : (before since : List Turn) (t : Turn) (ns : List NodeId) → turns ≡ before ++ t ∷ since → t.outcome ≡ Ok (Cut ns)
+      → (a : ℕ) (side : Side) (s p : ℕ) (keep : Side) → t.event ≡ Splice a side s p keep
       → HasInARow acts (leaf_keys (words_after L before) (slots_of ns)) (length before + 1) (λ a. IsInCall before Delete a × HasFlaggedOneOf before a.worker ns)
 
 -- the turns have a history

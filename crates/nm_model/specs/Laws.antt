@@ -5,7 +5,7 @@ use Rattle.nm_edge.specs.Layouts.{Layout}
 use Rattle.nm_edge.specs.declared.edge.Side.{Side}
 use Rattle.nm_edge.specs.declared.node.NodeId.{NodeId}
 use Rattle.nm_model.specs.declared.event.Event.{Event}
-use Rattle.nm_model.specs.declared.event.Event.TheVariants.{Splice}
+use Rattle.nm_model.specs.declared.event.Event.TheVariants.{Splice, Swap}
 use Rattle.nm_model.specs.declared.reply.Reply.TheVariants.{Cut, Freed}
 use Rattle.nm_model.specs.declared.trace.Turn.{Turn}
 use Rattle.nm_model.specs.declared.ledger.Queued.{Queued}
@@ -55,16 +55,23 @@ OfEachCut P s = (w a : ℕ) (side : Side) (successor parent : ℕ) (keep : Side)
     → outcome s (w, Splice a side successor parent keep) ≡ Ok (Cut ns)
     → P s successor ns (next s (w, Splice a side successor parent keep))
 
+-- the same for every swap that is won, by its leaf
+abbrev pub OfEachSwap : (State → ℕ → List NodeId → State → Type 0) → State → Type 0
+OfEachSwap P s = (w p : ℕ) (side : Side) (leaf new : ℕ) (ns : List NodeId)
+    → outcome s (w, Swap p side leaf new) ≡ Ok (Cut ns)
+    → P s leaf ns (next s (w, Swap p side leaf new))
+
 -- a turn whose reply is not a cut cuts nothing
 abbrev pub NothingElseCuts : State → Type 0
 NothingElseCuts s = (turn : ℕ × Event) → ((ns : List NodeId) → outcome s turn ≡ Ok (Cut ns) → ⊥)
     → (x : ℕ) → Reached s.memory x → Reached (next s turn).memory x
 
--- only a splice has a cut as its reply
+-- only a splice, or a swap, has a cut as its reply
 abbrev pub OnlySplicesAnswerCuts : State → Type 0
 OnlySplicesAnswerCuts s = (turn : ℕ × Event) (ns : List NodeId) → outcome s turn ≡ Ok (Cut ns)
-    → (a : ℕ) × (side : Side) × (successor : ℕ) × (parent : ℕ) × (keep : Side)
-    × (turn.1 ≡ Splice a side successor parent keep)
+    → ((a : ℕ) × (side : Side) × (successor : ℕ) × (parent : ℕ) × (keep : Side)
+    × (turn.1 ≡ Splice a side successor parent keep))
+    ⊎ ((p : ℕ) × (side : Side) × (leaf : ℕ) × (new : ℕ) × (turn.1 ≡ Swap p side leaf new))
 
 -- ---- ledgers
 

@@ -8,7 +8,7 @@ use Rattle.nm_edge.specs.declared.node.NodeId.{NodeId}
 use Rattle.nm_model.specs.declared.event.Field.{Field}
 use Rattle.nm_model.specs.declared.event.Field.TheVariants.{Key, Edge as EdgeOn, Birth}
 use Rattle.nm_model.specs.declared.event.Event.{Event}
-use Rattle.nm_model.specs.declared.event.Event.TheVariants.{Sight, SightFor, Announce, Leave, LeaveWith, Scan, Advance, Claim, Give, Look, Fill, Link, Flag, Tag, Splice, Join}
+use Rattle.nm_model.specs.declared.event.Event.TheVariants.{Sight, SightFor, Announce, Leave, LeaveWith, Scan, Advance, Claim, Give, Look, Fill, Link, Flag, Tag, Splice, Swap, Join}
 use Rattle.nm_model.specs.declared.reply.Reply.{Reply}
 use Rattle.nm_model.specs.declared.reply.Reply.TheVariants.{Saw, Labelled, Pinned, Missed, Announced, Departed, Idle, In, Moved, Behind, Claimed, Returned, Freed, BirthIs, EdgeIs, Filled, Linked, Flagged, Was, Cut, Lost, Joined}
 use Rattle.nm_model.specs.declared.knowledge.Seen.{Seen}
@@ -115,6 +115,10 @@ linked_in k leaf new = record k {
   drafts = without (without k.drafts new) (unwrap_or (beside (draft_of k new) leaf) 0);
 }
 
+-- the new leaf is no longer private, and is known
+abbrev pub swapped_in : Knowledge → ℕ → Knowledge
+swapped_in k new = record k { known = met k.known new; drafts = without k.drafts new }
+
 -- the flagged edge to a leaf
 abbrev pub flag_to : ℕ → Edge
 flag_to leaf = record { slot = leaf; flag = true; tag = false }
@@ -158,5 +162,7 @@ learn w k (Flag p side leaf) (Lost e) = read_edge k p side e
 learn w k (Tag p side) (Was e) = read_edge k p side (tagged e)
 learn w k (Splice a side s p keep) (Cut ns) = cutting w k ns
 learn w k (Splice a side s p keep) (Lost e) = read_edge k a side e
+learn w k (Swap p side leaf new) (Cut ns) = cutting w (swapped_in k new) ns
+learn w k (Swap p side leaf new) (Lost e) = read_edge k p side e
 learn w k (Join v) (Joined ls) = if w == v then resigned k else inheriting k ls
 learn w k _ _ = k

@@ -10,7 +10,7 @@ use Rattle.nm_edge.specs.declared.node.NodeId.{NodeId}
 use Rattle.nm_model.specs.declared.event.Op.{Op}
 use Rattle.nm_model.specs.declared.event.Op.TheVariants.{Has, Insert, Delete}
 use Rattle.nm_model.specs.declared.event.Event.{Event}
-use Rattle.nm_model.specs.declared.event.Event.TheVariants.{SightFor, Leave, LeaveWith, Link, Flag}
+use Rattle.nm_model.specs.declared.event.Event.TheVariants.{SightFor, Leave, LeaveWith, Link, Flag, Swap}
 use Rattle.nm_model.specs.declared.reply.Reply.{Reply}
 use Rattle.nm_model.specs.declared.reply.Refused.{Refused}
 use Rattle.nm_model.specs.declared.reply.Refused.TheVariants.{NotOrdered, NoAnswer}
@@ -114,11 +114,15 @@ shows_place L k key p side x new ws =
 abbrev pub new_leaf : Knowledge → ℕ → ℕ → Draft
 new_leaf k leaf new = draft_of k (unwrap_or (beside (draft_of k new) leaf) 0)
 
--- a call to insert may make this link: it has made none yet, the new leaf has its key, and a walk
--- of it shows the place
+-- a call to insert has put its leaf in, by a link or by a swap
+abbrev pub has_put_in : Search → Bool
+has_put_in s = s.linked || s.swapped
+
+-- a call to insert may make this link: it has put no leaf in yet, the new leaf has its key, and a
+-- walk of it shows the place
 abbrev pub inserts : Layout → Knowledge → Search → Op → ℕ → ℕ → Side → ℕ → ℕ → Bool
 inserts L k s Insert key p side leaf new =
-    not s.linked && (is_number (new_leaf k leaf new).key key
+    not (has_put_in s) && (is_number (new_leaf k leaf new).key key
     && shows_place L k key p side leaf new s.walks)
 inserts L k s _ key p side leaf new = false
 
@@ -132,7 +136,16 @@ deletes s Delete key p side leaf =
     is_none s.flagged && list_any (may_flag_at key p side leaf) s.walks
 deletes s _ key p side leaf = false
 
--- `links_in_order`, `flags_in_order`: the log shows that the link, or the flag, belongs to the call
+-- a call to insert may make this swap: it has put no leaf in yet, and a walk of it ended at the old
+-- leaf, which has the key of the new one
+abbrev pub swaps : Knowledge → Search → Op → ℕ → ℕ → Side → ℕ → ℕ → Bool
+swaps k s Insert key p side leaf new =
+    not (has_put_in s) && (is_number (draft_of k new).key key
+    && list_any (may_flag_at key p side leaf) s.walks)
+swaps k s _ key p side leaf new = false
+
+-- `links_in_order`, `flags_in_order`, `swaps_in_order`: the log shows that the link, the flag, or the
+-- swap belongs to the call
 abbrev pub links_in_order : Layout → Knowledge → Search → Option Call → ℕ → Side → ℕ → ℕ → Bool
 links_in_order L k s None p side leaf new = false
 links_in_order L k s (Some c) p side leaf new = inserts L k s c.op c.key p side leaf new
@@ -141,17 +154,23 @@ abbrev pub flags_in_order : Search → Option Call → ℕ → Side → ℕ → 
 flags_in_order s None p side leaf = false
 flags_in_order s (Some c) p side leaf = deletes s c.op c.key p side leaf
 
+abbrev pub swaps_in_order : Knowledge → Search → Option Call → ℕ → Side → ℕ → ℕ → Bool
+swaps_in_order k s None p side leaf new = false
+swaps_in_order k s (Some c) p side leaf new = swaps k s c.op c.key p side leaf new
+
 -- why an ordered core refuses an event that a plain core allows, if it does, by the worker's own
--- knowledge and log. A link or a flag must be at a place to which a walk of the worker's own
--- operation came. A leave must have the answer that the log shows, and after a link or a flag it
--- must have one (from Natarajan and Mittal, section 3.2)
+-- knowledge and log. A link, a flag or a swap must be at a place to which a walk of the worker's own
+-- operation came. A leave must have the answer that the log shows, and after a link, a flag or a
+-- swap it must have one (from Natarajan and Mittal, section 3.2)
 abbrev pub disorder : Layout → Knowledge → Search → Event → Option Refused
 disorder L k s (Link p side leaf new) =
     first (not (links_in_order L k s s.call p side leaf new) refuses NotOrdered ∷ [])
 disorder L k s (Flag p side leaf) =
     first (not (flags_in_order s s.call p side leaf) refuses NotOrdered ∷ [])
+disorder L k s (Swap p side leaf new) =
+    first (not (swaps_in_order k s s.call p side leaf new) refuses NotOrdered ∷ [])
 disorder L k s (LeaveWith answer) = first (not (shows_call s s.call answer) refuses NoAnswer ∷ [])
-disorder L k s Leave = first ((s.linked || is_some s.flagged) refuses NoAnswer ∷ [])
+disorder L k s Leave = first ((has_put_in s || is_some s.flagged) refuses NoAnswer ∷ [])
 disorder L k s _ = None
 
 -- ---- configurations of a core

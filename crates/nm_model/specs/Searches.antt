@@ -8,7 +8,7 @@ use Rattle.nm_edge.specs.declared.node.NodeId.{NodeId}
 use Rattle.nm_model.specs.declared.event.Field.{Field}
 use Rattle.nm_model.specs.declared.event.Field.TheVariants.{Key, Edge as EdgeOn}
 use Rattle.nm_model.specs.declared.event.Event.{Event}
-use Rattle.nm_model.specs.declared.event.Event.TheVariants.{Sight, SightFor, Leave, LeaveWith, Look, Link, Flag, Splice}
+use Rattle.nm_model.specs.declared.event.Event.TheVariants.{Sight, SightFor, Leave, LeaveWith, Look, Link, Flag, Splice, Swap}
 use Rattle.nm_model.specs.declared.reply.Reply.{Reply}
 use Rattle.nm_model.specs.declared.reply.Reply.TheVariants.{Pinned, Departed, KeyIs, EdgeIs, Linked, Flagged, Cut}
 use Rattle.nm_model.specs.declared.arrivals.Call.{Call}
@@ -82,11 +82,12 @@ walked k ws slot _ _ = ws
 
 -- ---- a search
 
--- the call; whether it linked; the leaf that it flagged, and whether a splice of its own cut that
--- leaf; the arrivals of its walks, and those of the walks that began after the flag
+-- the call; whether it linked, or swapped; the leaf that it flagged, and whether a splice of its own
+-- cut that leaf; the arrivals of its walks, and those of the walks that began after the flag
 pub record Search : Type 0 where
   pub call : Option Call
   pub linked : Bool
+  pub swapped : Bool
   pub flagged : Option NodeId
   pub cut : Bool
   pub walks : List Arrival
@@ -94,13 +95,22 @@ pub record Search : Type 0 where
 
 -- no pin, or a pin without a call
 abbrev pub idle : Search
-idle = record { call = None; linked = false; flagged = None; cut = false; walks = []; later = [] }
+idle = record {
+  call = None;
+  linked = false;
+  swapped = false;
+  flagged = None;
+  cut = false;
+  walks = [];
+  later = [];
+}
 
 -- a pin is confirmed for a call, or for none
 abbrev pub begun : Search → Option Call → Reply → Search
 begun s call (Pinned e) = record {
   call = call;
   linked = false;
+  swapped = false;
   flagged = None;
   cut = false;
   walks = [];
@@ -108,8 +118,8 @@ begun s call (Pinned e) = record {
 }
 begun s call _ = s
 
--- `left`, `look_for`, `linked`, `flagged`, `spliced`: what a leave, a look, a link, a flag and a
--- splice add to a search
+-- `left`, `look_for`, `linked`, `swapped`, `flagged`, `spliced`: what a leave, a look, a link, a
+-- swap, a flag and a splice add to a search
 abbrev pub left : Search → Reply → Search
 left s Departed = idle
 left s _ = s
@@ -136,6 +146,10 @@ abbrev pub linked : Search → Reply → Search
 linked s (Linked n) = record s { linked = true }
 linked s _ = s
 
+abbrev pub swapped : Search → Reply → Search
+swapped s (Cut ns) = record s { swapped = true }
+swapped s _ = s
+
 abbrev pub flagged : Search → Reply → Search
 flagged s (Flagged n) = record s { flagged = Some n }
 flagged s _ = s
@@ -154,4 +168,5 @@ searched s (Look slot field) r = look_for s s.call slot field r
 searched s (Link p side leaf new) r = linked s r
 searched s (Flag p side leaf) r = flagged s r
 searched s (Splice a side x p keep) r = spliced s r
+searched s (Swap p side leaf new) r = swapped s r
 searched s _ r = s

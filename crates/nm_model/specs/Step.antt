@@ -8,7 +8,7 @@ use Rattle.nm_edge.specs.declared.node.NodeId.{NodeId}
 use Rattle.nm_model.specs.declared.event.Field.{Field}
 use Rattle.nm_model.specs.declared.event.Field.TheVariants.{Key, Edge as EdgeOn, Birth}
 use Rattle.nm_model.specs.declared.event.Event.{Event}
-use Rattle.nm_model.specs.declared.event.Event.TheVariants.{Sight, SightFor, Announce, Leave, LeaveWith, Scan, Advance, Claim, Give, Look, Fill, Link, Flag, Tag, Splice, Join}
+use Rattle.nm_model.specs.declared.event.Event.TheVariants.{Sight, SightFor, Announce, Leave, LeaveWith, Scan, Advance, Claim, Give, Look, Fill, Link, Flag, Tag, Splice, Swap, Join}
 use Rattle.nm_model.specs.declared.reply.Reply.{Reply}
 use Rattle.nm_model.specs.declared.reply.Reply.TheVariants.{Saw, Labelled, Pinned, Missed, Announced, Departed, Idle, In, Moved, Behind, Claimed, Taken, Returned, Freed, KeyIs, BirthIs, EdgeIs, Filled, Linked, Flagged, Was, Cut, Lost, Joined}
 use Rattle.nm_model.specs.declared.reply.Refused.{Refused}
@@ -159,6 +159,12 @@ refusal L m k w (Splice a side s p keep) = first (
     ∷ is_none k.brief.pin refuses NotPinned
     ∷ not (knows k a && knows k s) refuses NotHeld
     ∷ not (is_frozen L k s p keep) refuses NotFrozen ∷ [])
+refusal L m k w (Swap p side leaf new) = first (
+    (outside 1 L.nodes p || (outside 6 L.nodes leaf || outside 6 L.nodes new)) refuses NoSlot
+    ∷ is_none k.brief.pin refuses NotPinned
+    ∷ not (knows k p && (knows k leaf && knows_leaf k leaf)) refuses NotHeld
+    ∷ not (is_private k new) refuses NotPrivate
+    ∷ not (is_leaf_draft k new) refuses NotReady ∷ [])
 -- (no join is refused here: join_refusal of Runs refuses joins, by what both workers know)
 refusal L m k w (Join v) = None
 
@@ -229,6 +235,8 @@ reply L m k (Flag p side leaf) = reply_exchange (edge m p side) leaf (Flagged (n
 reply L m k (Tag p side) = Was (edge m p side)
 reply L m k (Splice a side s p keep) =
     reply_exchange (edge m a side) s (Cut (cut_nodes L m k s p keep))
+reply L m k (Swap p side leaf new) =
+    reply_exchange (edge m p side) leaf (Cut (named m leaf ∷ []))
 -- (this row is never used: the reply to a join depends on what its leaver knows, by reply_of of
 -- Runs)
 reply L m k (Join v) = Joined []
@@ -268,4 +276,5 @@ write m k w (Link p side leaf new) = exchanged m p side leaf (to new)
 write m k w (Flag p side leaf) = exchanged m p side leaf (flag_to leaf)
 write m k w (Tag p side) = put_edge m p side (tagged (edge m p side))
 write m k w (Splice a side s p keep) = exchanged m a side s (kept (read k p keep))
+write m k w (Swap p side leaf new) = exchanged m p side leaf (to new)
 write m k w (Join v) = m

@@ -119,6 +119,7 @@ pub record GrowsTo (a b : Arrival) : Type 0 where
 pub record SearchGrows (s t : Search) : Type 0 where
   pub call : t.call ≡ s.call
   pub linked : s.linked ≡ true → t.linked ≡ true
+  pub swapped : s.swapped ≡ true → t.swapped ≡ true
   pub cut : s.cut ≡ true → t.cut ≡ true
   pub walks : (a : Arrival) → Contains s.walks a → (b : Arrival) × Contains t.walks b × GrowsTo a b
 

@@ -71,6 +71,9 @@ pub enum Event {
     /// unmarked to the successor. Fields: ancestor, side, successor, parent, and the side that is
     /// kept.
     Splice(u32, Side, u32, u32, Side),
+    /// Replaces the edge of a parent on a side by an edge to a new leaf, if it leads unmarked to the
+    /// leaf, and cuts that off. Fields: parent, side, leaf, new.
+    Swap(u32, Side, u32, u32),
     /// Takes over all queues that another worker holds. That worker resigns by it.
     Join(u32),
 }

@@ -50,7 +50,16 @@ same_arrival a = record { slot = refl; parent = refl; side = refl; key = λ v is
 pub grows_by : (k : ℕ) (ws : List Arrival) (e : Entry) (a : Arrival) → Contains ws a → (b : Arrival) × Contains (walked_by k ws e) b × GrowsTo a b
 unfolding searched
 grows_by k ws (Look slot field, r) a there =
-    let s : Search = record { call = Some (record { op = Has; key = k }); linked = false; flagged = None; cut = false; walks = ws; later = [] } in
+    let s : Search = record {
+      call = Some (record { op = Has; key = k });
+      linked = false;
+      swapped = false;
+      flagged =
+          None;
+      cut = false;
+      walks = ws;
+      later = [];
+    } in
     (only_grow s (Look slot field) r refl).walks a there
 grows_by k ws e a there = (a, there, same_arrival a)
 

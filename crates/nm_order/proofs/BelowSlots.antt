@@ -1,6 +1,6 @@
 -- The slots to which paths go on from a known slot: what holds of each of them outlasts an event,
 -- where it holds of each slot that a path from the root reaches now.
-use Rattle.std.proofs.Common.{◌≡◌, ◌≢◌, ℕ, true, List, ◌∷◌, ◌++◌, refl, sym, ap, subst, ◌∙◌}
+use Rattle.std.proofs.Common.{arith, ◌≡◌, ◌≢◌, ℕ, true, List, ◌∷◌, ◌++◌, refl, sym, ap, subst, ◌∙◌}
 use Rattle.std.specs.Prelude.{Option, Some, None}
 use mathlib.Core.Path.{fun_ext}
 use Rattle.nm_edge.specs.declared.edge.Side.{Side}
@@ -20,7 +20,7 @@ use Rattle.nm_order.specs.Intervals.{key}
 use Rattle.nm_order.proofs.Searching.{apart_follow}
 use Rattle.nm_order.proofs.OnwardSlots.{straight_to}
 use Rattle.nm_order.proofs.TreeChanges.{TreeChange}
-use Rattle.nm_order.proofs.TreeChanges.TreeChange.{Kept, Filled, Linked, Spliced}
+use Rattle.nm_order.proofs.TreeChanges.TreeChange.{Kept, Filled, Linked, Swapped, Spliced}
 use Rattle.nm_order.proofs.OrderedChanges.{off_known}
 use Rattle.nm_order.proofs.OrderedMoments.{Lasting, lasting}
 
@@ -61,6 +61,15 @@ module _ (s : State) (h : ℕ → ℕ) (law : Lawful s h) (w : ℕ) (e : Event) 
       let on : IsOnPath (picture s h) p = live_on_path s.layout.nodes (picture s h) p law.tree link.live link.is_slot link.inside (unmarked_not_queued s.layout.nodes (picture s h) p d leaf law.tree link.unmarked link.leaf_slot) in
       below_exchanged (child s.memory) (child m) (lasting s.memory) (lasting m) R R' grows z lasts_on p d new exchanged on.path on.ends
       (straight_to (child s.memory) (child m) (alone s.layout.nodes (picture s h) law.tree) p d new exchanged on.path on.ends link.is_slot) now each
+  below_outlasts (Swapped p d leaf new n is swap exchanged keys) each =
+      let on : IsOnPath (picture s h) p =
+      live_on_path s.layout.nodes (picture s h) p law.tree swap.live swap.is_slot swap.inside
+      (unmarked_not_queued s.layout.nodes (picture s h) p d leaf law.tree swap.unmarked
+      (λ z. let high = swap.high in omega (arith, high, z))) in
+      below_exchanged (child s.memory) (child m) (lasting s.memory)
+      (lasting m) R R' grows z lasts_on p d new exchanged on.path on.ends
+      (straight_to (child s.memory) (child m)
+      (alone s.layout.nodes (picture s h) law.tree) p d new exchanged on.path on.ends swap.is_slot) now each
   below_outlasts (Spliced a d way g some target keys high) each =
       below_exchanged (child s.memory) (child m) (lasting s.memory) (lasting m) R R' grows z lasts_on a d (follow (child s.memory) (child s.memory a d) way) g.exchanged g.front g.at_front
       (straight (child s.memory) (child m) a d way g) now each

@@ -53,7 +53,9 @@ pub data GoesOn (s : Search) (e : Event) (r : Reply) (t : Search) : Type 0 where
   Looked : (x : ℕ) (f : Field) → e ≡ Look x f → t ≡ look_for s s.call x f r → GoesOn s e r t
 
 pub goes_on_so : (s : Search) (e : Event) (r : Reply) → begins_anew (e, r) ≡ false → GoesOn s e r (searched s e r)
-goes_on_so s = search_goes (GoesOn s) s (λ x f r. Looked x f refl refl) (λ p side leaf new n. Same refl refl refl) (λ p side leaf n. Same refl refl refl) (λ a side x p keep ns. Same refl refl refl) (λ e r. Same refl refl refl)
+goes_on_so s = search_goes (GoesOn s) s (λ x f r. Looked x f refl refl) (λ p side leaf new n. Same refl refl refl)
+    (λ p side leaf n. Same refl refl refl)
+    (λ a side x p keep ns. Same refl refl refl) (λ p side leaf new ns. Same refl refl refl) (λ e r. Same refl refl refl)
 
 -- where a pin begins or ends there are no walks
 pub begun_anew : (s : Search) (e : Event) (r : Reply) → begins_anew (e, r) ≡ true → (since : Since) → arrivals (searched s e r) since ≡ []

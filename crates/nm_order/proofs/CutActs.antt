@@ -12,6 +12,7 @@ use Rattle.nm_edge.specs.declared.node.NodeId.{NodeId}
 use Rattle.nm_model.specs.declared.event.Op.TheVariants.{Delete}
 use Rattle.nm_model.specs.declared.event.Event.{Event}
 use Rattle.nm_model.specs.declared.event.Event.TheVariants.{Link}
+use Rattle.nm_order.specs.Removals.{is_splice}
 use Rattle.nm_order.specs.Exchanges.{is_won_link}
 use Rattle.nm_model.specs.declared.reply.Reply.TheVariants.{Cut}
 use Rattle.nm_model.specs.declared.reply.Reply.{Reply}
@@ -35,7 +36,7 @@ use Rattle.nm_order.specs.History.{SameCall, EachOnce, pin_of}
 use Rattle.nm_order.proofs.OrderedMoments.{Lasting, call_walks}
 use Rattle.nm_order.proofs.OrderedLaws.{IsOrdered, each_ordered, law_of_state, own_keys}
 use Rattle.nm_order.proofs.OwnTurns.{own_search}
-use Rattle.nm_order.proofs.CutTurns.{cut_shows, cut_goes_down, mapped_among}
+use Rattle.nm_order.proofs.CutTurns.{splice_of, cut_shows, cut_goes_down, mapped_among}
 use Rattle.nm_order.proofs.SetChanges.{cut_takes}
 use Rattle.nm_order.proofs.FlaggedNodes.{FlaggedLeaf}
 use Rattle.nm_order.proofs.FlagFates.{own_flagged}
@@ -285,15 +286,17 @@ module _ (L : Layout) (enough : 5 ≤ L.nodes) (ts : List (ℕ × Event)) (keys 
     pub each : (a : Act) → IsAmong made a → (x : ℕ) × ((own_search c a.worker).flagged ≡ Some (named c.state.memory x)) × (is_leaf (node c.state.memory x) ≡ true) × (a ≡ delete_of a.worker x) × IsCut c.state.memory (next_in c t).state.memory x
     pub all : (x : ℕ) → is_leaf (node c.state.memory x) ≡ true → IsCut c.state.memory (next_in c t).state.memory x → (u : ℕ) × ((own_search c u).flagged ≡ Some (named c.state.memory x)) × IsAmong made (delete_of u x)
 
-  pub cut_made : (t : ℕ × Event) → HasKey t.1 → (ns : List NodeId) → outcome_in c t ≡ Ok (Cut ns) → CutMade t ns
-  cut_made t has ns is = record {
+  pub cut_made : (t : ℕ × Event) → HasKey t.1 → (ns : List NodeId) → outcome_in c t ≡ Ok (Cut ns)
+      → is_splice t.1 ≡ true → CutMade t ns
+  cut_made t has ns is splice = record {
     made = deletes chain.0 (slots_of ns) chain.1 reached;
     changes = record {
       at = deletes_at chain.0 (slots_of ns) chain.1 reached;
       replays = replays_to (InSet c.state.memory) (λ k. InSet c.state.memory k × (LeafKey c.state.memory (slots_of ns) k → ⊥)) (deletes chain.0 (slots_of ns) chain.1 reached) (InSet (next_in c t).state.memory) alike
           (deletes_replay chain.0 (slots_of ns) chain.1 reached (InSet c.state.memory) (λ k f. takes.had k (to_key k f)));
-      cut = λ ms is'. deletes_keys chain.0 (slots_of ns) chain.1 reached ∙ ap (λ (l : List NodeId). leaf_keys c.state.memory (slots_of l)) (same_cut ns ms (sym is ∙ is'));
-      owner = λ ms is' a there. let d = each_delete chain.0 (slots_of ns) chain.1 reached a there in (
+      cut = λ ms is' _. deletes_keys chain.0 (slots_of ns) chain.1 reached
+          ∙ ap (λ (l : List NodeId). leaf_keys c.state.memory (slots_of l)) (same_cut ns ms (sym is ∙ is'));
+      owner = λ ms is' _ a there. let d = each_delete chain.0 (slots_of ns) chain.1 reached a there in (
         named c.state.memory d.slot,
         subst (λ (l : List NodeId). Contains l (named c.state.memory d.slot)) (sym shows.1 ∙ same_cut ns ms (sym is ∙ is'))
             (mapped_among (named c.state.memory) (slots_of ns) d.slot (d.index, slice_get_within (slots_of ns) d.index d.slot d.at, get_or_from_slice_get (slots_of ns) d.index d.slot d.slot d.at)),
@@ -323,7 +326,7 @@ module _ (L : Layout) (enough : 5 ≤ L.nodes) (ts : List (ℕ × Event)) (keys 
       shows = cut_shows L enough c t o ns is
 
       chain : (s : ℕ) × IsFrozenChain c.state.memory s (slots_of ns)
-      chain = cut_goes_down L enough c t o ns is
+      chain = cut_goes_down L enough c t o ns (splice_of t.1 splice) is
 
       cut_at : (i x : ℕ) → slice_get (slots_of ns) i ≡ Some x → IsCut c.state.memory (next_in c t).state.memory x
       cut_at i x at = (shows.0 x).1 (i, slice_get_within (slots_of ns) i x at, get_or_from_slice_get (slots_of ns) i x x at)
@@ -332,7 +335,7 @@ module _ (L : Layout) (enough : 5 ≤ L.nodes) (ts : List (ℕ × Event)) (keys 
       reached i x at = (cut_at i x at).was
 
       takes : Loses c.state.memory (next_in c t).state.memory ns
-      takes = cut_takes L enough c t has o ns is
+      takes = cut_takes L enough c t has o ns is splice
 
       to_key : (k : ℕ) → LeafKey c.state.memory (slots_of ns) k → IsKeyOf c.state.memory ns k
       to_key k f = record {

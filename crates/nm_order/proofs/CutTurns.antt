@@ -7,7 +7,7 @@ use Rattle.nm_edge.specs.Layouts.{Layout}
 use Rattle.nm_edge.specs.declared.edge.Side.{Side}
 use Rattle.nm_edge.specs.declared.node.NodeId.{NodeId}
 use Rattle.nm_model.specs.declared.event.Event.{Event}
-use Rattle.nm_model.specs.declared.event.Event.TheVariants.{Splice}
+use Rattle.nm_model.specs.declared.event.Event.TheVariants.{Splice, Swap}
 use Rattle.nm_model.specs.declared.reply.Reply.{Reply}
 use Rattle.nm_model.specs.declared.reply.Reply.TheVariants.{Cut}
 use Rattle.nm_model.specs.declared.reply.Refused.{Refused}
@@ -19,11 +19,12 @@ use Rattle.nm_model.specs.Laws.{slots_of}
 use Rattle.nm_model.specs.Runs.{State, start, after, next, outcome}
 use Rattle.nm_model.specs.Ordered.{Configuration, refused_in, next_in, outcome_in}
 use Rattle.nm_order.specs.Intervals.{HasKey}
+use Rattle.nm_order.specs.Removals.{is_splice}
 use Rattle.nm_laws.proofs.Pictures.{within_path}
 use Rattle.nm_laws.proofs.Views.{picture}
 use Rattle.nm_laws.proofs.OnePlace.{each_slot_has_one_place}
-use Rattle.nm_laws.proofs.Stays.{nothing_else_cuts, only_splices_answer_cuts}
-use Rattle.nm_laws.proofs.Cuts.{cuts_just, cuts_name_births}
+use Rattle.nm_laws.proofs.Stays.{IsSplice, SpliceOrSwap, nothing_else_cuts, only_splices_answer_cuts}
+use Rattle.nm_laws.proofs.Cuts.{cuts_just, cuts_name_births, swaps_cut_just, swaps_name_births}
 use Rattle.nm_laws.proofs.SplicedEdges.{IsFrozenChain, cuts_go_down}
 use Rattle.nm_laws.proofs.Configurations.{refused_next, refused_outcome, allowed_state, allowed_outcome, state_outcome}
 use Rattle.nm_laws.proofs.Outcomes.{same_reply, no_reply}
@@ -35,6 +36,10 @@ use Rattle.nm_order.proofs.OrderedLaws.{IsOrdered, ordered_next, law_of_state}
 abbrev pub is_cut : Reply → Bool
 is_cut (Cut ns) = true
 is_cut _ = false
+
+pub splice_of : (e : Event) → is_splice e ≡ true → IsSplice e
+splice_of (Splice a side s p keep) h = (a, side, s, p, keep, refl)
+splice_of e h = absurd (true≢false (sym h))
 
 pub cut_shown : (r : Reply) → is_cut r ≡ true → (ns : List NodeId) × (r ≡ Cut ns)
 cut_shown (Cut ns) h = (ns, refl)
@@ -98,12 +103,25 @@ module _ (L : Layout) (enough : 5 ≤ L.nodes) where
       Shows s s' = ((x : ℕ) → IsCut s.memory s'.memory x ↔ Contains (slots_of ns) x) × (ns ≡ map (named s.memory) (slots_of ns))
 
       by : outcome (after (start L) o.events) t ≡ Ok (Cut ns) → Shows (after (start L) o.events) (next (after (start L) o.events) t)
-      by is =
-          let e = only_splices_answer_cuts L enough o.events t ns is in
-          let turn : t ≡ (t.0, Splice e.0 e.1 e.2 e.3 e.4) = λ i. (t.0, e.5 i) in
-          let is' : outcome (after (start L) o.events) (t.0, Splice e.0 e.1 e.2 e.3 e.4) ≡ Ok (Cut ns) = ap (outcome (after (start L) o.events)) (sym turn) ∙ is in
-          subst (λ (u : ℕ × Event). Shows (after (start L) o.events) (next (after (start L) o.events) u)) (sym turn)
-          (cuts_just L enough o.events t.0 e.0 e.1 e.2 e.3 e.4 ns is', cuts_name_births L enough o.events t.0 e.0 e.1 e.2 e.3 e.4 ns is')
+      by is = on (only_splices_answer_cuts L enough o.events t ns is)
+        where
+          on : SpliceOrSwap t.1 → Shows (after (start L) o.events) (next (after (start L) o.events) t)
+          on (inl e) =
+              let turn : t ≡ (t.0, Splice e.0 e.1 e.2 e.3 e.4) = λ i. (t.0, e.5 i) in
+              let is' : outcome (after (start L) o.events) (t.0, Splice e.0 e.1 e.2 e.3 e.4) ≡ Ok (Cut ns) =
+              ap (outcome (after (start L) o.events)) (sym turn) ∙ is in
+              subst (λ (u : ℕ × Event). Shows (after (start L) o.events) (next (after (start L) o.events) u)) (sym turn) (
+                cuts_just L enough o.events t.0 e.0 e.1 e.2 e.3 e.4 ns is',
+                cuts_name_births L enough o.events t.0 e.0 e.1 e.2 e.3 e.4 ns is',
+              )
+          on (inr e) =
+              let turn : t ≡ (t.0, Swap e.0 e.1 e.2 e.3) = λ i. (t.0, e.4 i) in
+              let is' : outcome (after (start L) o.events) (t.0, Swap e.0 e.1 e.2 e.3) ≡ Ok (Cut ns) =
+              ap (outcome (after (start L) o.events)) (sym turn) ∙ is in
+              subst (λ (u : ℕ × Event). Shows (after (start L) o.events) (next (after (start L) o.events) u)) (sym turn) (
+                swaps_cut_just L enough o.events t.0 e.0 e.1 e.2 e.3 ns is',
+                swaps_name_births L enough o.events t.0 e.0 e.1 e.2 e.3 ns is',
+              )
 
       go : (r : Option Refused) → refused_in c t.0 t.1 ≡ r → Shows c.state (next_in c t).state
       go (Some r) why = absurd (no_reply r (Cut ns) (sym (refused_outcome c t r why) ∙ is))
@@ -111,12 +129,12 @@ module _ (L : Layout) (enough : 5 ≤ L.nodes) where
           (subst (λ (s : State). outcome s t ≡ Ok (Cut ns) → Shows s (next s t)) (sym o.leads) by (state_outcome c t why ∙ (sym (allowed_outcome c t why) ∙ is)))
 
   -- and that its nodes go down a frozen chain
-  pub cut_goes_down : (c : Configuration) (t : ℕ × Event) → IsOrdered L c → (ns : List NodeId) → outcome_in c t ≡ Ok (Cut ns) → (s : ℕ) × IsFrozenChain c.state.memory s (slots_of ns)
-  cut_goes_down c t o ns is = go (refused_in c t.0 t.1) refl
+  pub cut_goes_down : (c : Configuration) (t : ℕ × Event) → IsOrdered L c → (ns : List NodeId) → IsSplice t.1
+      → outcome_in c t ≡ Ok (Cut ns) → (s : ℕ) × IsFrozenChain c.state.memory s (slots_of ns)
+  cut_goes_down c t o ns e is = go (refused_in c t.0 t.1) refl
     where
       by : outcome (after (start L) o.events) t ≡ Ok (Cut ns) → (s : ℕ) × IsFrozenChain (after (start L) o.events).memory s (slots_of ns)
       by is =
-          let e = only_splices_answer_cuts L enough o.events t ns is in
           let turn : t ≡ (t.0, Splice e.0 e.1 e.2 e.3 e.4) = λ i. (t.0, e.5 i) in
           (e.2, cuts_go_down L enough o.events t.0 e.0 e.1 e.2 e.3 e.4 ns (ap (outcome (after (start L) o.events)) (sym turn) ∙ is))
 
@@ -124,11 +142,12 @@ module _ (L : Layout) (enough : 5 ≤ L.nodes) where
       go (Some r) why = absurd (no_reply r (Cut ns) (sym (refused_outcome c t r why) ∙ is))
       go None why = subst (λ (s : State). outcome s t ≡ Ok (Cut ns) → (x : ℕ) × IsFrozenChain s.memory x (slots_of ns)) (sym o.leads) by (state_outcome c t why ∙ (sym (allowed_outcome c t why) ∙ is))
 
-  -- that it is a splice
-  pub cut_is_splice : (c : Configuration) (t : ℕ × Event) → IsOrdered L c → (ns : List NodeId) → outcome_in c t ≡ Ok (Cut ns) → (a : ℕ) × (side : Side) × (x : ℕ) × (p : ℕ) × (keep : Side) × (t.1 ≡ Splice a side x p keep)
-  cut_is_splice c t o ns is = go (refused_in c t.0 t.1) refl
+  -- that it is a splice, or a swap
+  pub cut_is : (c : Configuration) (t : ℕ × Event) → IsOrdered L c → (ns : List NodeId) → outcome_in c t ≡ Ok (Cut ns)
+      → SpliceOrSwap t.1
+  cut_is c t o ns is = go (refused_in c t.0 t.1) refl
     where
-      go : (r : Option Refused) → refused_in c t.0 t.1 ≡ r → (a : ℕ) × (side : Side) × (x : ℕ) × (p : ℕ) × (keep : Side) × (t.1 ≡ Splice a side x p keep)
+      go : (r : Option Refused) → refused_in c t.0 t.1 ≡ r → SpliceOrSwap t.1
       go (Some r) why = absurd (no_reply r (Cut ns) (sym (refused_outcome c t r why) ∙ is))
       go None why = only_splices_answer_cuts L enough o.events t ns (ap (λ (s : State). outcome s t) (sym o.leads) ∙ (state_outcome c t why ∙ (sym (allowed_outcome c t why) ∙ is)))
 

@@ -7,7 +7,7 @@ use Rattle.nm_edge.specs.Edges.{Edge, to, is_to, tagged, untagged}
 use Rattle.nm_edge.specs.declared.edge.Side.{Side}
 use Rattle.nm_model.specs.declared.memory.Node.{Node}
 use Rattle.nm_model.specs.declared.event.Event.{Event}
-use Rattle.nm_model.specs.declared.event.Event.TheVariants.{Fill, Link, Flag, Tag, Splice, Advance}
+use Rattle.nm_model.specs.declared.event.Event.TheVariants.{Fill, Link, Flag, Tag, Splice, Advance, Swap}
 use Rattle.nm_model.specs.declared.event.Field.{Field}
 use Rattle.nm_model.specs.Maps.{is_number}
 use Rattle.nm_model.specs.Memory.{Memory, blank, node, edge, edge_of, child, put_edge, put_node}
@@ -23,11 +23,15 @@ use Rattle.nm_laws.proofs.Splices.{live_on_path, unmarked_not_queued}
 use Rattle.nm_laws.proofs.Views.{picture}
 use Rattle.nm_laws.proofs.TreeSlots.{is_to-true, tag_known}
 use Rattle.nm_laws.proofs.TreeSteps.{Lawful, slot_inside, fill_checked}
-use Rattle.nm_laws.proofs.Cuts.{Shown, shown}
+use Rattle.nm_laws.proofs.Cuts.{Shown, shown, ShownSwap, shown_swap}
 use Rattle.nm_order.proofs.TreeChanges.{WonLink, won_link}
 use Rattle.nm_order.proofs.OrderedChanges.{off_root}
 use Rattle.nm_order.proofs.FlaggedPaths.{On, on_next, closed, Put, put_case, way_ends}
 use Rattle.nm_order.proofs.FlaggedPaths.Put.{Here, There}
+
+-- the event puts new in at the edge of p that led to the leaf: over it, or in its place
+abbrev pub PutsIn : Event → ℕ → Side → ℕ → ℕ → Type 0
+PutsIn e p d leaf new = (e ≡ Link p d leaf new) ⊎ (e ≡ Swap p d leaf new)
 
 -- an edge of a node that is reached after the event
 pub data EdgeOrigin (s : State) (w : ℕ) (e : Event) (m : Memory) (y : ℕ) (g : Side) : Type 0 where
@@ -36,7 +40,8 @@ pub data EdgeOrigin (s : State) (w : ℕ) (e : Event) (m : Memory) (y : ℕ) (g 
   -- it is flagged by the event
   IsFlaggedNow : (leaf : ℕ) → e ≡ Flag y g leaf → Reached s.memory y → edge s.memory y g ≡ to leaf → edge m y g ≡ flag_to leaf → EdgeOrigin s w e m y g
   -- it leads to a node that is put in, or to none
-  LeadsToNew : (p : ℕ) (d : Side) (leaf new : ℕ) → e ≡ Link p d leaf new → edge s.memory p d ≡ to leaf → is_private (of s w) (child m y g) ≡ true → (edge m y g).flag ≡ false → EdgeOrigin s w e m y g
+  LeadsToNew : (p : ℕ) (d : Side) (leaf new : ℕ) → PutsIn e p d leaf new → edge s.memory p d ≡ to leaf
+      → is_private (of s w) (child m y g) ≡ true → (edge m y g).flag ≡ false → EdgeOrigin s w e m y g
   LeadsNowhere : child m y g ≡ 0 → EdgeOrigin s w e m y g
 
 module _ (s : State) (h : ℕ → ℕ) (law : Lawful s h) (w : ℕ) where
@@ -215,7 +220,8 @@ module _ (s : State) (h : ℕ → ℕ) (law : Lawful s h) (w : ℕ) where
       from (inl on) = go (put_case s.memory p d (to new) inside y g)
         where
           go : Put s.memory p d (to new) y g → EdgeOrigin s w (Link p d leaf new) (put_edge s.memory p d (to new)) y g
-          go (Here at side is) = LeadsToNew p d leaf new refl k.unmarked (ap (is_private (of s w)) (ap (λ (e : Edge). e.slot) is) ∙ k.link.own) (ap (λ (e : Edge). e.flag) is)
+          go (Here at side is) = LeadsToNew p d leaf new (inl refl) k.unmarked
+              (ap (is_private (of s w)) (ap (λ (e : Edge). e.slot) is) ∙ k.link.own) (ap (λ (e : Edge). e.flag) is)
           go (There is) = WasThere y g (record { path = on.0; ends = on.1; is_slot = r.is_slot }) (sym (ap (λ (e : Edge). e.slot) is)) (sym (ap (λ (e : Edge). e.flag) is))
       from (inr (inl at)) = go (below g)
         where
@@ -224,9 +230,63 @@ module _ (s : State) (h : ℕ → ℕ) (law : Lawful s h) (w : ℕ) where
 
           go : Below g → EdgeOrigin s w (Link p d leaf new) (put_edge s.memory p d (to new)) y g
           go (inl is) = WasThere p d p_reached (ap (λ (e : Edge). e.slot) k.unmarked ∙ sym (ap (λ (e : Edge). e.slot) (now ∙ is))) (ap (λ (e : Edge). e.flag) k.unmarked ∙ sym (ap (λ (e : Edge). e.flag) (now ∙ is)))
-          go (inr is) = LeadsToNew p d leaf new refl k.unmarked (ap (is_private (of s w)) (ap (λ (e : Edge). e.slot) (now ∙ is)) ∙ k.link.far_own) (ap (λ (e : Edge). e.flag) (now ∙ is))
+          go (inr is) = LeadsToNew p d leaf new (inl refl) k.unmarked
+              (ap (is_private (of s w)) (ap (λ (e : Edge). e.slot) (now ∙ is)) ∙ k.link.far_own)
+              (ap (λ (e : Edge). e.flag) (now ∙ is))
       from (inr (inr (inr at))) = absurd (r.is_slot at)
       from (inr (inr (inl at))) = LeadsNowhere (ap (λ (t : ℕ). child (put_edge s.memory p d (to new)) t g) at ∙ (ap (λ (e : Edge). e.slot) (as_was k.drafts.far g (not_p k.drafts.far k.link.far_own)) ∙ ap (λ (e : Edge). e.slot) (k.link.far_leaf g)))
+
+  -- a swap
+  swapping : (p : ℕ) (d : Side) (leaf new : ℕ) → Allowed s w (Swap p d leaf new)
+      → is_to (edge s.memory p d) leaf ≡ true → Origins (Swap p d leaf new) (put_edge s.memory p d (to new))
+  swapping p d leaf new ok won y r g = from within
+    where
+      k : ShownSwap s h w p d leaf new
+      k = shown_swap s h law w p d leaf new ok won
+
+      as_was : (z : ℕ) (f : Side) → z ≢ p → edge (put_edge s.memory p d (to new)) z f ≡ edge s.memory z f
+      as_was z f far = go (put_case s.memory p d (to new) k.inside z f)
+        where
+          go : Put s.memory p d (to new) z f → edge (put_edge s.memory p d (to new)) z f ≡ edge s.memory z f
+          go (Here at side is) = absurd (far at)
+          go (There is) = is
+
+      none_below : (f : Side) → child (put_edge s.memory p d (to new)) new f ≡ 0
+      none_below f = ap (λ (e : Edge). e.slot)
+          (as_was new f (λ at. true≢false (sym (ap (is_private (of s w)) (sym at) ∙ k.swap.own)
+          ∙ k.swap.live.shared w))) ∙ ap (λ (e : Edge). e.slot) (k.swap.new_leaf f)
+
+      -- on a path of the old tree, or the new leaf, or none
+      Within : ℕ → Type 0
+      Within z = On (child s.memory) 1 z ⊎ ((z ≡ new) ⊎ (z ≡ 0))
+
+      step : (z : ℕ) (f : Side) → Within z → Within (child (put_edge s.memory p d (to new)) z f)
+      step z f (inl on) = go (put_case s.memory p d (to new) k.inside z f)
+        where
+          go : Put s.memory p d (to new) z f → Within (child (put_edge s.memory p d (to new)) z f)
+          go (Here at side is) = inr (inl (ap (λ (e : Edge). e.slot) is))
+          go (There is) = inl (subst (λ (t : ℕ). On (child s.memory) 1 t) (sym (ap (λ (e : Edge). e.slot) is))
+              (on_next (child s.memory) 1 z f on))
+      step z f (inr (inl at)) = inr (inr (ap (λ (t : ℕ). child (put_edge s.memory p d (to new)) t f) at ∙ none_below f))
+      step z f (inr (inr at)) =
+          inr (inr (ap (λ (t : ℕ). child (put_edge s.memory p d (to new)) t f) at
+          ∙ (ap (λ (e : Edge). e.slot) (as_was 0 f (λ z. k.swap.is_slot (sym z)))
+          ∙ ap (λ (e : Edge). e.slot) (law.tree.nothing f))))
+
+      within : Within y
+      within = subst Within r.ends
+          (closed (child (put_edge s.memory p d (to new))) Within step 1 (inl ([], refl)) r.path)
+
+      from : Within y → EdgeOrigin s w (Swap p d leaf new) (put_edge s.memory p d (to new)) y g
+      from (inl on) = go (put_case s.memory p d (to new) k.inside y g)
+        where
+          go : Put s.memory p d (to new) y g → EdgeOrigin s w (Swap p d leaf new) (put_edge s.memory p d (to new)) y g
+          go (Here at side is) = LeadsToNew p d leaf new (inr refl) k.swap.unmarked
+              (ap (is_private (of s w)) (ap (λ (e : Edge). e.slot) is) ∙ k.swap.own) (ap (λ (e : Edge). e.flag) is)
+          go (There is) = WasThere y g (record { path = on.0; ends = on.1; is_slot = r.is_slot })
+              (sym (ap (λ (e : Edge). e.slot) is)) (sym (ap (λ (e : Edge). e.flag) is))
+      from (inr (inl at)) = LeadsNowhere (ap (λ (t : ℕ). child (put_edge s.memory p d (to new)) t g) at ∙ none_below g)
+      from (inr (inr at)) = absurd (r.is_slot at)
 
   pub edge_origins : (e : Event) → Allowed s w e → Origins e (write s.memory (of s w) w e)
   unfolding write refusal
@@ -237,4 +297,7 @@ module _ (s : State) (h : ℕ → ℕ) (law : Lawful s h) (w : ℕ) where
       (λ won. flagging p d leaf (slot_inside s h law p 1 (or_parts (outside 1 s.layout.nodes p) (outside 6 s.layout.nodes leaf) (passed _ _ _ ok.event).0).0) (is_to-true (edge s.memory p d) leaf won)) (λ _. kept_edges (Flag p d leaf) s.memory (λ y g. refl))
   edge_origins (Tag p d) ok = tagging p d (slot_inside s h law p 1 (passed _ _ _ ok.event).0)
   edge_origins (Splice a d x p keep) ok = cond_both (is_to (edge s.memory a d) x) (put_edge s.memory a d (kept (read (of s w) p keep))) s.memory (λ m. Origins (Splice a d x p keep) m) (λ won. splicing a d x p keep ok won) (λ _. kept_edges (Splice a d x p keep) s.memory (λ y g. refl))
+  edge_origins (Swap p d leaf new) ok = cond_both (is_to (edge s.memory p d) leaf)
+      (put_edge s.memory p d (to new)) s.memory (λ m. Origins (Swap p d leaf new) m)
+      (λ won. swapping p d leaf new ok won) (λ _. kept_edges (Swap p d leaf new) s.memory (λ y g. refl))
   edge_origins e ok = kept_edges e (write s.memory (of s w) w e) (λ y g. refl)

@@ -74,7 +74,8 @@ data CutStep (s : Search) (e : Event) (r : Reply) (t : Search) : Type 0 where
 
 cut_step : (s : Search) (e : Event) (r : Reply) → begins_anew (e, r) ≡ false → CutStep s e r (searched s e r)
 cut_step s = search_goes (CutStep s) s (λ x f r. SameCut (ap (λ (t : Search). t.cut) (look_beside s s.call x f r))) (λ p side leaf new n. SameCut refl) (λ p side leaf n. SameCut refl)
-    (λ a side x p keep ns. Splices a x p side keep ns refl refl refl refl) (λ e r. SameCut refl)
+    (λ a side x p keep ns. Splices a x p side keep ns refl refl refl refl) (λ p side leaf new ns. SameCut refl)
+    (λ e r. SameCut refl)
 
 -- the leaf that is found among the nodes of a cut
 flagged_among : (n : NodeId) (ns : List NodeId) → is_flagged_in (Some n) ns ≡ true → Contains (slots_of ns) n.slot

@@ -66,7 +66,8 @@ pub data FlagStep (s : Search) (e : Event) (r : Reply) (t : Search) : Type 0 whe
 
 pub flag_step : (s : Search) (e : Event) (r : Reply) → begins_anew (e, r) ≡ false → FlagStep s e r (searched s e r)
 flag_step s = search_goes (FlagStep s) s (λ x f r. SameFlag (ap (λ (t : Search). t.flagged) (look_beside s s.call x f r))) (λ p side leaf new n. SameFlag refl)
-    (λ p side leaf n. NewFlag p leaf side n refl refl refl refl) (λ a side x p keep ns. SameFlag refl) (λ e r. SameFlag refl)
+    (λ p side leaf n. NewFlag p leaf side n refl refl refl refl) (λ a side x p keep ns. SameFlag refl)
+    (λ p side leaf new ns. SameFlag refl) (λ e r. SameFlag refl)
 
 pub anew_unflagged : (s : Search) (e : Event) (r : Reply) → begins_anew (e, r) ≡ true → (searched s e r).flagged ≡ None
 anew_unflagged s e r anew = ap (λ (t : Search). t.flagged) (begun_is s e r anew)

@@ -6,7 +6,7 @@ use Rattle.nm_edge.specs.Edges.{Edge, to, is_to, other, tagged, untagged}
 use Rattle.nm_edge.specs.declared.edge.Side.{Side}
 use Rattle.nm_model.specs.declared.event.Field.{Field}
 use Rattle.nm_model.specs.declared.event.Event.{Event}
-use Rattle.nm_model.specs.declared.event.Event.TheVariants.{Fill, Link, Flag, Tag, Splice, Advance}
+use Rattle.nm_model.specs.declared.event.Event.TheVariants.{Fill, Link, Flag, Tag, Splice, Advance, Swap}
 use Rattle.nm_model.specs.declared.memory.Node.{Node}
 use Rattle.nm_model.specs.Maps.{is_number}
 use Rattle.nm_model.specs.Memory.{Memory, blank, node, edge, edge_of, child, put_edge, put_node}
@@ -19,7 +19,7 @@ use Rattle.nm_laws.proofs.Steps.{Allowed, passed}
 use Rattle.nm_laws.proofs.Trees.{same_side, same_side-true, same_side-false}
 use Rattle.nm_laws.proofs.TreeSlots.{is_to-true, tag_known}
 use Rattle.nm_laws.proofs.TreeSteps.{Lawful, slot_inside, fill_checked}
-use Rattle.nm_laws.proofs.Cuts.{Shown, shown}
+use Rattle.nm_laws.proofs.Cuts.{Shown, shown, shown_swap}
 use Rattle.nm_order.proofs.TreeChanges.{won_link}
 use Rattle.nm_order.proofs.FlaggedPaths.{LeadsFlagged, On, on_next, on_further, flag_on, closed, marked, filled_apart, way_ends, Put, put_case}
 use Rattle.nm_order.proofs.FlaggedPaths.Put.{Here, There}
@@ -109,6 +109,53 @@ module _ (m : Memory) (n z p : ℕ) (d : Side) (leaf new far : ℕ) (dl : Side) 
   linked : LeadsFlagged (put_edge m p d (to new)) n z
   linked path g to_n = flag_of (follow (child m') z path) g (closed (child m') Within down z (inl ([], refl)) path) to_n
 
+-- ---- a swap that is won
+
+module _ (m : Memory) (n z p : ℕ) (d : Side) (leaf new : ℕ) (inside : p < length m.nodes)
+    (new_leaf : (f : Side) → child m new f ≡ 0) (nothing : (f : Side) → child m 0 f ≡ 0) (p_some : p ≢ 0)
+    (p_new : p ≢ new)
+    (n_some : n ≢ 0) (n_new : n ≢ new) (good : LeadsFlagged m n z) where
+  abbrev after_swap : Memory
+  after_swap = put_edge m p d (to new)
+
+  -- on a path from z, or a node without children
+  abbrev Inside : ℕ → Type 0
+  Inside y = On (child m) z y ⊎ ((g : Side) → child after_swap y g ≡ 0)
+
+  unswapped : (y : ℕ) (g : Side) → y ≢ p → edge after_swap y g ≡ edge m y g
+  unswapped y g far = go (put_case m p d (to new) inside y g)
+    where
+      go : Put m p d (to new) y g → edge after_swap y g ≡ edge m y g
+      go (Here at side is) = absurd (far at)
+      go (There is) = is
+
+  bare : (y : ℕ) → y ≢ p → ((f : Side) → child m y f ≡ 0) → (g : Side) → child after_swap y g ≡ 0
+  bare y apart none g = ap (λ (e : Edge). e.slot) (unswapped y g apart) ∙ none g
+
+  go_down : (y : ℕ) (g : Side) → Inside y → Inside (child after_swap y g)
+  go_down y g (inl on) = go (put_case m p d (to new) inside y g)
+    where
+      go : Put m p d (to new) y g → Inside (child after_swap y g)
+      go (Here at side is) = inr (λ f. ap (λ (t : ℕ). child after_swap t f) (ap (λ (e : Edge). e.slot) is)
+          ∙ bare new (λ at. p_new (sym at)) new_leaf f)
+      go (There is) = inl (subst (λ (t : ℕ). On (child m) z t) (sym (ap (λ (e : Edge). e.slot) is))
+          (on_next (child m) z y g on))
+  go_down y g (inr none) =
+      inr (λ f. ap (λ (t : ℕ). child after_swap t f) (none g) ∙ bare 0 (λ at. p_some (sym at)) nothing f)
+
+  flag_inside : (y : ℕ) (g : Side) → Inside y → child after_swap y g ≡ n → (edge after_swap y g).flag ≡ true
+  flag_inside y g (inl on) to_n = go (put_case m p d (to new) inside y g)
+    where
+      go : Put m p d (to new) y g → (edge after_swap y g).flag ≡ true
+      go (Here at side is) = absurd (n_new (sym to_n ∙ ap (λ (e : Edge). e.slot) is))
+      go (There is) = ap (λ (e : Edge). e.flag) is
+          ∙ flag_on m n z y g good on (ap (λ (e : Edge). e.slot) (sym is) ∙ to_n)
+  flag_inside y g (inr none) to_n = absurd (n_some (sym to_n ∙ none g))
+
+  swapped : LeadsFlagged (put_edge m p d (to new)) n z
+  swapped path g to_n = flag_inside (follow (child after_swap) z path) g
+      (closed (child after_swap) Inside go_down z (inl ([], refl)) path) to_n
+
 -- ---- every event
 
 module _ (s : State) (h : ℕ → ℕ) (law : Lawful s h) (w : ℕ) (n z : ℕ) (n_some : n ≢ 0) (n_shared : (x : ℕ) → is_private (of s w) x ≡ true → n ≢ x) (never : (x : ℕ) → is_private (of s w) x ≡ true → (q : List Side) → follow (child s.memory) z q ≡ x → ⊥) where
@@ -139,6 +186,16 @@ module _ (s : State) (h : ℕ → ℕ) (law : Lawful s h) (w : ℕ) (n z : ℕ) 
           (ap (λ (y : ℕ). follow (child s.memory) y k.sides) (ap (λ (x : Edge). x.slot) k.is) ∙ way_ends (child s.memory) (of s w) so s.layout.nodes x p k.sides k.found)
           (law.tree.tag_read w p keep e is t) good
 
+  swapping : (p : ℕ) (d : Side) (leaf new : ℕ) → Allowed s w (Swap p d leaf new)
+      → is_to (edge s.memory p d) leaf ≡ true → LeadsFlagged s.memory n z
+      → LeadsFlagged (put_edge s.memory p d (to new)) n z
+  swapping p d leaf new ok won good =
+      let k = shown_swap s h law w p d leaf new ok won in
+      swapped s.memory n z p d leaf new k.inside (λ f. ap (λ (e : Edge). e.slot) (k.swap.new_leaf f))
+      (λ f. ap (λ (e : Edge). e.slot) (law.tree.nothing f)) k.swap.is_slot
+      (λ at. true≢false (sym (ap (is_private (of s w)) at ∙ k.swap.own) ∙ k.swap.live.shared w)) n_some
+      (n_shared new k.swap.own) good
+
   pub leads_flagged_still : (e : Event) → Allowed s w e → LeadsFlagged s.memory n z → LeadsFlagged (write s.memory (of s w) w e) n z
   unfolding write refusal
   leads_flagged_still Advance ok good = cond_both (is_number (of s w).brief.seen s.memory.epoch) (record s.memory { epoch = s.memory.epoch + 1 }) s.memory (λ m. LeadsFlagged m n z) (λ _. good) (λ _. good)
@@ -148,4 +205,7 @@ module _ (s : State) (h : ℕ → ℕ) (law : Lawful s h) (w : ℕ) (n z : ℕ) 
       (λ won. marked s.memory n z p d (flag_to leaf) (slot_inside s h law p 1 (or_parts (outside 1 s.layout.nodes p) (outside 6 s.layout.nodes leaf) (passed _ _ _ ok.event).0).0) (ap (λ (e : Edge). e.slot) (sym (is_to-true (edge s.memory p d) leaf won))) (λ _. refl) good) (λ _. good)
   leads_flagged_still (Tag p d) ok good = marked s.memory n z p d (tagged (edge s.memory p d)) (slot_inside s h law p 1 (passed _ _ _ ok.event).0) refl (λ f. f) good
   leads_flagged_still (Splice a d x p keep) ok good = cond_both (is_to (edge s.memory a d) x) (put_edge s.memory a d (kept (read (of s w) p keep))) s.memory (λ m. LeadsFlagged m n z) (λ won. splicing a d x p keep ok won good) (λ _. good)
+  leads_flagged_still (Swap p d leaf new) ok good = cond_both (is_to (edge s.memory p d) leaf)
+      (put_edge s.memory p d (to new)) s.memory (λ m. LeadsFlagged m n z) (λ won. swapping p d leaf new ok won good)
+      (λ _. good)
   leads_flagged_still e ok good = good

@@ -6,7 +6,7 @@ use Rattle.std.proofs.lemmas.Option.{none-some}
 use Rattle.nm_edge.specs.declared.edge.Side.{Side}
 use Rattle.nm_edge.specs.declared.node.NodeId.{NodeId}
 use Rattle.nm_model.specs.declared.event.Event.{Event}
-use Rattle.nm_model.specs.declared.event.Event.TheVariants.{Sight, SightFor, Leave, LeaveWith, Look, Link, Flag, Splice}
+use Rattle.nm_model.specs.declared.event.Event.TheVariants.{Sight, SightFor, Leave, LeaveWith, Look, Link, Flag, Splice, Swap}
 use Rattle.nm_model.specs.declared.event.Field.{Field}
 use Rattle.nm_model.specs.declared.reply.Reply.{Reply}
 use Rattle.nm_model.specs.declared.reply.Reply.TheVariants.{Pinned, Departed, Linked, Flagged, Cut}
@@ -56,6 +56,7 @@ flag_added s (Look slot f) r stands = ap (λ (t : Search). t.flagged) (look_besi
 flag_added s (Link p side leaf new) (Linked n) stands = refl
 flag_added s (Flag p side leaf) (Flagged n) stands = refl
 flag_added s (Splice a side x p keep) (Cut ns) stands = refl
+flag_added s (Swap p side leaf new) (Cut ns) stands = refl
 flag_added s e r stands = refl
 
 pub kept_flag : (o : Option NodeId) (e : Event) (r : Reply) → is_won_flag (e, r) ≡ false → flag_by o (e, r) ≡ o
@@ -89,4 +90,6 @@ later_look s slot f r (Some call) (Some n) is a there = rw is (grows_by call.key
 
 pub later_grows : LaterArrivalsOnlyGrow
 later_grows s = search_goes (λ e r t. (a : Arrival) → Contains s.later a → (b : Arrival) × Contains t.later b × GrowsTo a b) s (λ slot f r. later_look s slot f r s.call s.flagged refl)
-    (λ p side leaf new n a there. (a, there, same_arrival a)) (λ p side leaf n a there. (a, there, same_arrival a)) (λ x side y p keep ns a there. (a, there, same_arrival a)) (λ e r a there. (a, there, same_arrival a))
+    (λ p side leaf new n a there. (a, there, same_arrival a)) (λ p side leaf n a there. (a, there, same_arrival a))
+    (λ x side y p keep ns a there. (a, there, same_arrival a))
+    (λ p side leaf new ns a there. (a, there, same_arrival a)) (λ e r a there. (a, there, same_arrival a))

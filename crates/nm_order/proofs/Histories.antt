@@ -11,12 +11,13 @@ use Rattle.nm_edge.specs.declared.node.NodeId.{NodeId}
 use Rattle.nm_model.specs.declared.event.Op.{Op}
 use Rattle.nm_model.specs.declared.event.Op.TheVariants.{Has, Insert, Delete}
 use Rattle.nm_model.specs.declared.event.Event.{Event}
-use Rattle.nm_model.specs.declared.event.Event.TheVariants.{Sight, SightFor, Leave, LeaveWith, Link, Flag}
+use Rattle.nm_edge.specs.declared.edge.Side.{Side}
+use Rattle.nm_model.specs.declared.event.Event.TheVariants.{Sight, SightFor, Leave, LeaveWith, Link, Flag, Swap}
 use Rattle.nm_model.specs.declared.reply.Reply.{Reply}
 use Rattle.nm_model.specs.declared.reply.Reply.TheVariants.{Departed, Linked, Flagged, Cut}
 use Rattle.nm_model.specs.declared.reply.Refused.{Refused}
 use Rattle.nm_model.specs.declared.arrivals.Call.{Call}
-use Rattle.nm_model.specs.Memory.{node, named, is_leaf}
+use Rattle.nm_model.specs.Memory.{node, edge, child, named, is_leaf}
 use Rattle.nm_model.specs.Knowledge.{knows}
 use Rattle.nm_model.specs.Paths.{Reached, IsCut}
 use Rattle.nm_model.specs.Step.{reply}
@@ -44,7 +45,13 @@ use Rattle.nm_order.proofs.RunWalks.{reply_is}
 use Rattle.nm_order.proofs.FlaggedLeaves.{FlagStep, flag_step, anew_unflagged}
 use Rattle.nm_order.proofs.FlaggedLeaves.FlagStep.{SameFlag, NewFlag}
 use Rattle.nm_order.proofs.FlaggedNodes.{FlaggedLeaf}
-use Rattle.nm_order.proofs.CutTurns.{is_cut, cut_shown, layout_is, uncut_stays, reached_or}
+use Rattle.nm_order.proofs.CutTurns.{is_cut, cut_is, cut_shown, layout_is, uncut_stays, reached_or}
+use Rattle.nm_laws.proofs.Stays.{SpliceOrSwap}
+use Rattle.nm_order.specs.Removals.{is_splice}
+use Rattle.nm_order.proofs.LaterFlags.{FlagKept}
+use Rattle.nm_order.proofs.LaterFlagLaws.{EachFlagKept, flags_step, flags_start}
+use Rattle.nm_order.proofs.OrderedInduction.{each_run_keeps}
+use Rattle.nm_order.proofs.SwapTurns.{SwapLeaves, swap_turn}
 use Rattle.nm_order.proofs.SetChanges.{set_stays, WinsNoLink, cut_links_none}
 use Rattle.nm_order.proofs.TurnEdges.{nothing_below, stays_gone}
 use Rattle.nm_order.proofs.FlagFates.{own_flagged, StandsStill, CutSince, fates, not_elsewhere, one_more, first, has_key}
@@ -395,7 +402,14 @@ module _ (L : Layout) (enough : 5 ≤ L.nodes) (ts : List (ℕ × Event)) (t : �
   made_none : WinsNoLink L enough c t has o → ((ns : List NodeId) → outcome_in c t ≡ Ok (Cut ns) → ⊥) → Made
   made_none plain uncut = record {
     made = [];
-    changes = record { at = tt; replays = λ k small. let s = set_stays L enough c t has o plain uncut k in (s.1, s.0); cut = λ ns is. absurd (uncut ns is); owner = λ ns is. absurd (uncut ns is); link = λ k called q told such. absurd (true≢false (sym such ∙ plain q told)) };
+    changes = record {
+      at = tt;
+      replays = λ k small. let s = set_stays L enough c t has o plain uncut k in (s.1, s.0);
+      cut = λ ns is _. absurd (uncut ns is);
+      owner = λ ns is _. absurd (uncut ns is);
+      link =
+          λ k called q told such. absurd (true≢false (sym such ∙ plain q told));
+    };
     once = tt;
     each = λ a there. absurd there;
     live = λ w op k still called did. inl (old w op still did);
@@ -411,11 +425,75 @@ module _ (L : Layout) (enough : 5 ≤ L.nodes) (ts : List (ℕ × Event)) (t : �
             | inr cut ↦ absurd (cut.gone (uncut_stays L enough c t o uncut x.0.slot cut.was))
           ]
 
+  -- nothing, where it wins a swap
+  made_swap : (p : ℕ) (d : Side) (leaf new : ℕ) (ns : List NodeId) → t.1 ≡ Swap p d leaf new
+      → outcome_in c t ≡ Ok (Cut ns) → Made
+  made_swap p d leaf new ns e is = record {
+    made = [];
+    changes = record {
+      at = tt;
+      replays = λ k small. let s = leaves.set k in (s.1, s.0);
+      cut =
+          λ ms _ splice. absurd (no_splice splice);
+      owner = λ ms _ splice. absurd (no_splice splice);
+      link =
+          λ k called q told such. absurd (true≢false (sym such ∙ cut_links_none L enough c t has o ns is q told));
+    };
+    once = tt;
+    each = λ a there. absurd there;
+    live = λ w op k still called did. inl (old w op still did);
+  }
+    where
+      leaves : SwapLeaves c.state.memory c'.state.memory
+      leaves = swap_turn L enough c t o p d leaf new e ns is
+
+      no_splice : is_splice t.1 ≡ true → ⊥
+      no_splice h = true≢false (sym h ∙ ap is_splice e)
+
+      flag_kept : (w : ℕ) → FlagKept c.state.memory (of c.state w) (own_search c w)
+      flag_kept w = subst (λ (S : Search). FlagKept c.state.memory (of c.state w) S)
+          (sym (ap (λ (l : Option (List Search)). search_of (unwrap_or l []) w) o.are))
+          (each_run_keeps EachFlagKept flags_step L enough (flags_start L) ts before o.searches o.are w)
+
+      old : (w : ℕ) (op : Op) → IsStill w → Changed c' w op → Changed c w op
+      old w Has still x = x
+      old w Insert still x = linked_back w still (cut_links_none L enough c t has o ns is) x
+      old w Delete still x =
+          let was = flagged_back w x.0 still x.1 x.2 in
+          elim (flagged_fate w x.0 was x.2) [
+            | inl gone ↦ (x.0, was, gone)
+            | inr cut ↦
+                let hangs = leaves.cut x.0.slot cut in
+                let flag = ((flag_kept w).some x.0 was).root hangs.2.path hangs.1
+                (ap (λ (y : ℕ). child c.state.memory y hangs.1) hangs.2.ends ∙ hangs.3) in
+                absurd (true≢false (sym flag
+                ∙ (ap (λ (y : ℕ). (edge c.state.memory y hangs.1).flag) hangs.2.ends ∙ hangs.4)))
+          ]
+
   -- an insert, where it wins a link
   made_link : (r : Reply) → outcome_in c t ≡ Ok r → (l : IsLinkEntry t.1 r) → (j : ℕ) → IsCalled c t.0 Insert j → Gains c.state.memory c'.state.memory j → Made
   made_link r won l j called gains = record {
     made = act ∷ [];
-    changes = record { at = (refl, refl, tt); replays = (call_key t.0 Insert j call_is, gains.was_not, λ k small. ((λ s. (gains.now k).1 s), (λ s. (gains.now k).0 s))); cut = λ ns is. absurd (uncut ns is); owner = λ ns is. absurd (uncut ns is); link = λ k call q told such. (act, refl, ap (λ (x : Call). x.key) (same_Some (record { op = Insert; key = j }) (record { op = Insert; key = k }) (sym call_is ∙ call)), refl, refl, refl) };
+    changes = record {
+      at = (refl, refl, tt);
+      replays = (
+        call_key t.0 Insert j call_is,
+        gains.was_not,
+        λ k small. ((λ s. (gains.now k).1 s), (λ s. (gains.now k).0 s)),
+      );
+      cut = λ ns is _. absurd (uncut ns is);
+      owner = λ ns is _. absurd (uncut ns is);
+      link =
+          λ k call q told such. (
+            act,
+            refl,
+            ap (λ (x : Call). x.key)
+                (same_Some (record { op = Insert; key = j }) (record { op = Insert; key = k }) (sym call_is ∙ call)),
+            refl,
+            refl,
+            refl,
+          );
+    };
     once = ((λ b none same. none), tt);
     each = each;
     live = live;
@@ -481,11 +559,11 @@ module _ (L : Layout) (enough : 5 ≤ L.nodes) (ts : List (ℕ × Event)) (t : �
           ]
 
   -- the deletes of its leaves, where it is a cut
-  made_cut : (ns : List NodeId) → outcome_in c t ≡ Ok (Cut ns) → Made
-  made_cut ns is = record { made = m.made; changes = m.changes; once = m.once; each = each; live = live }
+  made_cut : (ns : List NodeId) → outcome_in c t ≡ Ok (Cut ns) → is_splice t.1 ≡ true → Made
+  made_cut ns is splice = record { made = m.made; changes = m.changes; once = m.once; each = each; live = live }
     where
       m : CutMade L enough ts before t ns
-      m = cut_made L enough ts before t has ns is
+      m = cut_made L enough ts before t has ns is splice
 
       still_all : (w : ℕ) → IsStill w
       still_all w = none_anew w c t (Cut ns) is (cut_stands t.1 ns)
@@ -551,7 +629,12 @@ module _ (L : Layout) (enough : 5 ≤ L.nodes) (ts : List (ℕ × Event)) (t : �
                   let turn : t ≡ (t.0, Link l.parent l.side l.leaf l.new) = λ i. (t.0, l.is_event i) in
                   let ins = each_link_inserts L enough ts before t.0 l.parent l.side l.leaf l.new l.node (ap (outcome_in c) (sym turn) ∙ (is ∙ ap (λ (x : Reply). Ok x) l.is_reply)) in
                   made_link r is l ins.0 ins.1 (subst (λ (v : ℕ × Event). Gains c.state.memory (next_in c v).state.memory ins.0) (sym turn) ins.2)
-          by false link true cut = let ns = cut_shown r cut in made_cut ns.0 (is ∙ ap (λ (x : Reply). Ok x) ns.1)
+          by false link true cut = let ns = cut_shown r cut in on ns.0 (is ∙ ap (λ (x : Reply). Ok x) ns.1)
+              (cut_is L enough c t o ns.0 (is ∙ ap (λ (x : Reply). Ok x) ns.1))
+            where
+              on : (ns : List NodeId) → outcome_in c t ≡ Ok (Cut ns) → SpliceOrSwap t.1 → Made
+              on ns told (inl e) = made_cut ns told (ap is_splice e.5)
+              on ns told (inr e) = made_swap e.0 e.1 e.2 e.3 ns e.4 told
           by false link false cut = made_none (λ q told. ap (λ (x : Reply). is_won_link (t.1, x)) (same_reply q r (sym told ∙ is)) ∙ link) (λ ns told. true≢false (sym (ap is_cut (same_reply r (Cut ns) (sym is ∙ told))) ∙ cut))
 
   -- ---- an answer that changes nothing

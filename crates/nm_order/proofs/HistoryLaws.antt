@@ -3,6 +3,7 @@
 use Rattle.std.proofs.Common.{◌≡◌, ◌+◌, ℕ, ◌≤◌, inl, inr, ◌⊎◌, true, false, List, [], ◌∷◌, ◌++◌, append_assoc, append-nil, length, map, refl, sym, ap, subst, ◌∙◌, arith, true≢false}
 use Rattle.std.specs.Prelude.{Option, Some, unwrap_or, Ok, Contains, All}
 use Rattle.nm_edge.specs.declared.edge.Side.{Side}
+use Rattle.nm_order.specs.Removals.{is_splice}
 use Rattle.nm_order.proofs.FlaggedNodes.{FlaggedLeaf}
 use Rattle.nm_order.proofs.OrderedMoments.{Lasting}
 use Rattle.nm_model.specs.Laws.{slots_of}
@@ -192,16 +193,18 @@ module _ (L : Layout) (enough : 5 ≤ L.nodes) where
           a : (a : Act) × (r.row ≡ a ∷ []) × (a.key ≡ k) × (a.worker ≡ w) × (a.op ≡ Insert) × (a.answer ≡ true)
           a = r.changes.link k (is_own_call (after_in (ordered L) before) w Insert k called) (Linked n) is refl
 
-      cut_row : (acts : List Act) (before : List (ℕ × Event)) → All (λ t. HasKey t.1) before → (t : ℕ × Event) (ns : List NodeId) → outcome_in (after_in (ordered L) before) t ≡ Ok (Cut ns)
+      cut_row : (acts : List Act) (before : List (ℕ × Event)) → All (λ t. HasKey t.1) before
+          → (t : ℕ × Event) (ns : List NodeId) → outcome_in (after_in (ordered L) before) t ≡ Ok (Cut ns)
+          → is_splice t.1 ≡ true
           → Row (after_in (ordered L) before) t (0 + length before + 1) acts → HasInARow acts (leaf_keys (after_in (ordered L) before).state.memory (slots_of ns)) (length before + 1) (IsDeleteOf L before ns)
-      cut_row acts before first t ns is r = record {
+      cut_row acts before first t ns is splice r = record {
         front = r.front;
         row = r.row;
         back = r.back;
         are = r.are;
-        are_keys = r.changes.cut ns is;
+        are_keys = r.changes.cut ns is splice;
         at = λ b there. all_at (0 + length before + 1) r.row r.changes.at b there ∙ omega arith;
-        each = λ b there. owned_by b (r.changes.owner ns is b there);
+        each = λ b there. owned_by b (r.changes.owner ns is splice b there);
       }
         where
           owned_by : (b : Act) → (n : NodeId) × Contains ns n × ((own_search (after_in (ordered L) before) b.worker).flagged ≡ Some n) × (key (after_in (ordered L) before).state.memory n.slot ≡ b.key) × (b.op ≡ Delete) × (b.answer ≡ true) → IsDeleteOf L before ns b
@@ -226,7 +229,10 @@ module _ (L : Layout) (enough : 5 ≤ L.nodes) where
           in_order = follows_in_order (ordered L) ts 0 acts.0 acts.1.follows 0 false (omega arith);
           once = acts.1.once;
           links = λ before since w p d leaf new n k run is called. linked acts.0 before w p d leaf new n k is called (row_of acts.0 acts.1 before since (w, Link p d leaf new) run);
-          cuts = λ before since t ns run is. cut_row acts.0 before (first_keys before (t ∷ since) (subst (λ (l : List (ℕ × Event)). All (λ t. HasKey t.1) l) run keys)) t ns is (row_of acts.0 acts.1 before since t run);
+          cuts = λ before since t ns run is splice. cut_row acts.0 before
+              (first_keys before (t ∷ since)
+              (subst (λ (l : List (ℕ × Event)). All (λ t. HasKey t.1) l) run keys)) t ns is splice
+              (row_of acts.0 acts.1 before since t run);
           moments = λ before since run. moment before (split_at (ordered L) before since 0 acts.0 (subst (λ (l : List (ℕ × Event)). Follows (ordered L) l 0 acts.0) run acts.1.follows));
           each = λ a there. is_act ts keys a (acts.1.each a there);
           answered = acts.2;

@@ -9,7 +9,7 @@ use Rattle.nm_edge.specs.declared.edge.Side.TheVariants.{Left, Right}
 use Rattle.nm_model.specs.declared.event.Field.{Field}
 use Rattle.nm_model.specs.declared.event.Field.TheVariants.{Key, Edge as EdgeOn, Birth}
 use Rattle.nm_model.specs.declared.event.Event.{Event}
-use Rattle.nm_model.specs.declared.event.Event.TheVariants.{Sight, SightFor, Announce, Leave, LeaveWith, Scan, Advance, Claim, Give, Look, Fill, Link, Flag, Tag, Splice, Join}
+use Rattle.nm_model.specs.declared.event.Event.TheVariants.{Sight, SightFor, Announce, Leave, LeaveWith, Scan, Advance, Claim, Give, Look, Fill, Link, Flag, Tag, Splice, Join, Swap}
 use Rattle.nm_model.specs.declared.reply.Reply.{Reply}
 use Rattle.nm_model.specs.declared.reply.Reply.TheVariants.{Saw, Labelled, Pinned, Missed, Announced, Departed, Idle, In, Moved, Behind, Claimed, Returned, Freed, BirthIs, EdgeIs, Filled, Linked, Flagged, Was, Cut, Lost, Joined}
 use Rattle.nm_model.specs.declared.knowledge.Seen.{Seen}
@@ -37,6 +37,7 @@ Answers m (Flag p d leaf) (Flagged n) = is_to (edge m p d) leaf ≡ true
 Answers m (Flag p d leaf) (Lost e) = e ≡ edge m p d
 Answers m (Tag p d) (Was e) = (e ≡ edge m p d) × (e.slot ≢ 0)
 Answers m (Splice a d x p keep) (Lost e) = e ≡ edge m a d
+Answers m (Swap p d leaf new) (Lost e) = e ≡ edge m p d
 Answers m _ _ = Unit {0}
 
 -- an edge that was read in place of another: it leads there too, and has its marks
@@ -189,6 +190,8 @@ module _ (m : Memory) (k : Knowledge) where
   learned_stays w (Tag p d) (Was e) is stands = renewed p d (tagged e) (tagged_on p d e is)
   learned_stays w (Splice a d x p keep) (Cut ns) is stands = quiet _ refl refl
   learned_stays w (Splice a d x p keep) (Lost e) is stands = renewed a d e (same a d e is)
+  learned_stays w (Swap p d leaf new) (Cut ns) is stands = met_new _ new refl refl
+  learned_stays w (Swap p d leaf new) (Lost e) is stands = renewed p d e (same p d e is)
   learned_stays w (Join v) (Joined ls) is stands = cond_both (eqb w v) (resigned k) (inheriting k ls) (Stays m k) (λ _. quiet _ refl refl) (λ _. quiet _ refl refl)
   learned_stays w e r is stands = quiet _ refl refl
 
@@ -231,4 +234,5 @@ answers s h law w e ok = go e ok.event
     go (Flag p d leaf) ok = lost_is (edge s.memory p d) leaf _ (Answers s.memory (Flag p d leaf)) (λ t. t) refl
     go (Tag p d) ok = (refl, tag_not_null s h law w p d ok)
     go (Splice a d x p keep) ok = lost_is (edge s.memory a d) x _ (Answers s.memory (Splice a d x p keep)) (λ _. tt) refl
+    go (Swap p d leaf new) ok = lost_is (edge s.memory p d) leaf _ (Answers s.memory (Swap p d leaf new)) (λ _. tt) refl
     go e ok = tt

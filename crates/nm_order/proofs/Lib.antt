@@ -23,6 +23,7 @@ pub mod WalkLaws
 pub mod FlagsOfEvents
 pub mod FlagsOfRuns
 pub mod OnwardSlots
+pub mod SwappedTrees
 pub mod OrderedMoments
 pub mod BelowSlots
 pub mod RunMoments
@@ -65,7 +66,9 @@ pub mod RadixLater
 pub mod EdgeOrigins
 pub mod TurnEdges
 pub mod FlagFates
+pub mod SwappedSets
 pub mod SetChanges
+pub mod SwapTurns
 pub mod FlagOwners
 pub mod PendingLeaves
 pub mod NothingPends

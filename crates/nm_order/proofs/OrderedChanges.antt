@@ -7,7 +7,7 @@ use Rattle.std.proofs.lemmas.Bool.{cond-true, lt-ltb}
 use Rattle.nm_edge.specs.declared.edge.Side.{Side}
 use Rattle.nm_edge.specs.declared.edge.Side.TheVariants.{Left, Right}
 use Rattle.nm_model.specs.declared.event.Event.{Event}
-use Rattle.nm_model.specs.declared.event.Event.TheVariants.{Link}
+use Rattle.nm_model.specs.declared.event.Event.TheVariants.{Link, Swap}
 use Rattle.nm_model.specs.Memory.{Memory, child, infinity_1, infinity_2}
 use Rattle.nm_model.specs.Knowledge.{knows, is_private}
 use Rattle.nm_model.specs.Paths.{follow}
@@ -17,13 +17,17 @@ use Rattle.nm_order.specs.Intervals.{GoesBy, key}
 use Rattle.nm_laws.proofs.Trees.{Children, Exchanged}
 use Rattle.nm_order.proofs.Searching.{Keys}
 use Rattle.nm_order.proofs.OrderedTrees.{InOrder, Onward, Linking, order_spliced, onward_spliced, order_linked, onward_linked, order_apart, onward_apart}
-use Rattle.nm_laws.proofs.Pictures.{alone, reached_live, null_below}
+use Rattle.nm_edge.specs.Edges.{Edge}
+use Rattle.nm_order.proofs.SwappedTrees.{Swapping, order_swapped, onward_swapped}
+use Rattle.nm_laws.proofs.Splices.{live_on_path, unmarked_not_queued}
+use Rattle.nm_laws.proofs.Swaps.{IsSwap}
+use Rattle.nm_laws.proofs.Pictures.{IsOnPath, alone, reached_live, null_below}
 use Rattle.nm_laws.proofs.Views.{picture}
 use Rattle.nm_laws.proofs.Links.{IsLink}
 use Rattle.nm_laws.proofs.TreeLink.{Linkable}
 use Rattle.nm_laws.proofs.TreeSteps.{Lawful}
 use Rattle.nm_order.proofs.TreeChanges.{TreeChange}
-use Rattle.nm_order.proofs.TreeChanges.TreeChange.{Kept, Filled, Linked, Spliced}
+use Rattle.nm_order.proofs.TreeChanges.TreeChange.{Kept, Filled, Linked, Swapped, Spliced}
 
 -- ---- the root
 
@@ -74,10 +78,41 @@ module _ (s : State) (h : ℕ → ℕ) (law : Lawful s h) where
   fixed_still : (m : Memory) → ((x : ℕ) → key m x ≡ v x) → FixedKeys s.memory → FixedKeys m
   fixed_still m same f = record { root = same 1 ∙ f.root; second = same 2 ∙ f.second }
 
+  -- a swap asks for the leaf's key
+  abbrev pub AsksKey : ℕ → Event → Type 0
+  AsksKey w e = (p : ℕ) (d : Side) (leaf new : ℕ) → e ≡ Swap p d leaf new → v new ≡ v leaf
+
   -- a link asks for the order of its three keys
   abbrev pub AsksOrder : ℕ → Event → Type 0
-  AsksOrder w e = (p : ℕ) (d : Side) (leaf new : ℕ) → e ≡ Link p d leaf new → (l : Linkable (of s w) new leaf) → IsLink s.layout.radix s.layout.nodes (picture s h) w p d leaf new l.far l.side
-      → (c' : Children) → Exchanged c c' p d new → Linking c c' v p d leaf new l.far l.side
+  AsksOrder w e = AsksKey w e
+      × ((p : ℕ) (d : Side) (leaf new : ℕ) → e ≡ Link p d leaf new → (l : Linkable (of s w) new leaf)
+      → IsLink s.layout.radix s.layout.nodes (picture s h) w p d leaf new l.far l.side
+      → (c' : Children) → Exchanged c c' p d new → Linking c c' v p d leaf new l.far l.side)
+
+  -- what a swap has shown, and that its leaves have one key
+  pub swapping : (w n p : ℕ) (d : Side) (leaf new : ℕ) → IsSwap s.layout.nodes (picture s h) w n p d leaf new
+      → v new ≡ v leaf → (c' : Children) → Exchanged c c' p d new → Swapping c c' v p d leaf new
+  swapping w n p d leaf new swap same c' exchanged = record {
+    nothing = null_below s.layout.nodes (picture s h) law.tree;
+    alone = alone s.layout.nodes (picture s h) law.tree;
+    exchanged = exchanged;
+    front = on.path;
+    at_front = on.ends;
+    is_slot = swap.is_slot;
+    leads = ap (λ (e : Edge). e.slot) swap.unmarked;
+    leaf_slot = leaf_slot;
+    leaf_null = swap.is_leaf;
+    new_null = λ f. ap (λ (e : Edge). e.slot) (swap.new_leaf f);
+    not_p = λ at. true≢false (sym (ap (is_private (of s w)) (sym at) ∙ swap.own) ∙ swap.live.shared w);
+    same_key = same;
+  }
+    where
+      leaf_slot : leaf ≢ 0
+      leaf_slot z = let high = swap.high in omega arith
+
+      on : IsOnPath (picture s h) p
+      on = live_on_path s.layout.nodes (picture s h) p law.tree swap.live swap.is_slot swap.inside
+          (unmarked_not_queued s.layout.nodes (picture s h) p d leaf law.tree swap.unmarked leaf_slot)
 
   pub outlasts : (w : ℕ) (e : Event) (m : Memory) → InOrder c v → AsksOrder w e → TreeChange s h w e m → Outlasts m
   outlasts w e m order asks (Kept children keys) = record {
@@ -109,10 +144,24 @@ module _ (s : State) (h : ℕ → ℕ) (law : Lawful s h) where
   }
     where
       k : Linking c (child m) v p d leaf new l.far l.side
-      k = asks p d leaf new is l link (child m) exchanged
+      k = asks.1 p d leaf new is l link (child m) exchanged
 
       some : new ≢ 0
       some z = let r = law.tree.privates w new link.own in absurd (omega arith)
+
+      same_keys : key m ≡ v
+      same_keys = fun_ext keys
+  outlasts w e m order asks (Swapped p d leaf new n is swap exchanged keys) = record {
+    order = λ o. subst (λ (n : Keys). InOrder (child m) n) (sym same_keys)
+        (order_swapped c (child m) v p d leaf new k o);
+    onward = λ search u z n known o. subst (λ (y : Keys). Onward (child m) y n z) (sym same_keys)
+        (onward_swapped c (child m) v p d leaf new k n z o);
+    keys = λ u z known. keys z;
+    fixed = fixed_still m keys;
+  }
+    where
+      k : Swapping c (child m) v p d leaf new
+      k = swapping w n p d leaf new swap (asks.0 p d leaf new is) (child m) exchanged
 
       same_keys : key m ≡ v
       same_keys = fun_ext keys

@@ -38,7 +38,7 @@ use Rattle.nm_laws.proofs.TreeSteps.{Lawful, fill_checked}
 use Rattle.nm_laws.proofs.WalksOfLogs.{turned}
 use Rattle.nm_order.proofs.OrderedTrees.{Onward}
 use Rattle.nm_order.proofs.TreeChanges.{TreeChange, tree_change}
-use Rattle.nm_order.proofs.TreeChanges.TreeChange.{Kept, Filled, Linked, Spliced}
+use Rattle.nm_order.proofs.TreeChanges.TreeChange.{Kept, Filled, Linked, Swapped, Spliced}
 use Rattle.nm_order.proofs.OrderedWalks.{WalkLaw, is_side-true}
 use Rattle.nm_order.proofs.OrderedChanges.{FixedKeys, left_of, off_known}
 use Rattle.nm_order.proofs.OrderedSteps.{ForCall}
@@ -120,6 +120,9 @@ module _ (s : State) (h : ℕ → ℕ) (law : Lawful s h) (w : ℕ) where
       leaf (Kept children keys) = unmoved (children x Left) (children x Right)
       leaf (Filled y own apart) = unmoved (apart.edges x Left (λ i. free (rw i own))) (apart.edges x Right (λ i. free (rw i own)))
       leaf (Linked p d old new is unmarked l link exchanged keys) = moved p d new exchanged (λ z. link.leaf_slot (sym (ap (λ (y : Edge). y.slot) unmarked) ∙ z)) (λ z. let r = law.tree.privates w new link.own in absurd (omega arith))
+      leaf (Swapped p d old new n is swap exchanged keys) =
+          moved p d new exchanged (λ z. let e = ap (λ (y : Edge). y.slot) swap.unmarked in let high = swap.high in
+          absurd (omega arith)) (λ z. let r = law.tree.privates w new swap.own in absurd (omega arith))
       leaf (Spliced a d way g some target keys high) = moved a d (follow (child s.memory) (child s.memory a d) way) g.exchanged some target
 
   module _ (e : Event) (m : Memory) (stays : (x : ℕ) → (is_private (of s w) x ≡ true → ⊥) → lasting m x ≡ lasting s.memory x) (u z : ℕ) (known : knows (of s u) z ≡ true) (k : ℕ) (onward : Onward (child s.memory) (key s.memory) k z)
@@ -138,6 +141,17 @@ module _ (s : State) (h : ℕ → ℕ) (law : Lawful s h) (w : ℕ) where
         each_exchanged (child s.memory) (child m) (key s.memory) (key m) (lasting s.memory) (lasting m) k W W' grows z lasts_on p d new exchanged (fun_ext keys) on.path on.ends
         (straight_to (child s.memory) (child m) (alone s.layout.nodes (picture s h) law.tree) p d new exchanged on.path on.ends link.is_slot)
         (λ e. link.leaf_slot (sym (ap (λ (y : Edge). y.slot) unmarked) ∙ e)) onward now each
+    each_outlasts (Swapped p d leaf new n is swap exchanged keys) each =
+        let on : IsOnPath (picture s h) p =
+        live_on_path s.layout.nodes (picture s h) p law.tree swap.live swap.is_slot swap.inside
+        (unmarked_not_queued s.layout.nodes (picture s h) p d leaf law.tree swap.unmarked
+        (λ z. let high = swap.high in omega (arith, high, z))) in
+        each_exchanged (child s.memory) (child m) (key s.memory) (key m) (lasting s.memory)
+        (lasting m) k W W' grows z lasts_on p d new exchanged (fun_ext keys) on.path on.ends
+        (straight_to (child s.memory) (child m)
+        (alone s.layout.nodes (picture s h) law.tree) p d new exchanged on.path on.ends swap.is_slot)
+        (λ z. let e = ap (λ (y : Edge). y.slot) swap.unmarked in let high = swap.high in
+        absurd (omega arith)) onward now each
     each_outlasts (Spliced a d way g some target keys high) each =
         each_exchanged (child s.memory) (child m) (key s.memory) (key m) (lasting s.memory) (lasting m) k W W' grows z lasts_on a d (follow (child s.memory) (child s.memory a d) way) g.exchanged (fun_ext keys) g.front g.at_front
         (straight (child s.memory) (child m) a d way g) some onward now each

@@ -27,8 +27,9 @@ use Rattle.nm_model.specs.Learning.{learn, look_known, look_private, met, with_r
 use Rattle.nm_model.specs.Step.{reply, write}
 use Rattle.nm_model.specs.Runs.{State, of, reply_of, applied}
 use Rattle.nm_model.specs.Lawful.{EachBirthStands}
-use Rattle.nm_model.specs.Searches.{Search, idle, searched, walked, look_for, is_first, goes_on, turns, is_side}
-use Rattle.nm_model.specs.Ordered.{search_of, learned_from, disorder, inserts, links_in_order, may_link_at, may_link_between, narrows, shows_place, new_leaf}
+use Rattle.nm_model.specs.Searches.{Search, idle, searched, walked, look_for, is_first, goes_on, turns, is_side, is_by}
+use Rattle.nm_model.proofs.Numbers.{number_is}
+use Rattle.nm_model.specs.Ordered.{search_of, learned_from, disorder, has_put_in, inserts, links_in_order, swaps, swaps_in_order, ended_at, may_flag_at, may_link_at, may_link_between, narrows, shows_place, new_leaf}
 use Rattle.nm_order.specs.Intervals.{HasKey, key}
 use Rattle.nm_model.proofs.Lists.{any_at}
 use Rattle.nm_laws.proofs.Steps.{Allowed, passed}
@@ -47,7 +48,7 @@ use Rattle.nm_order.proofs.OrderedTrees.{InOrder, Linking}
 use Rattle.nm_order.proofs.SearchSteps.{StillKnown, SearchStep, search_step}
 use Rattle.nm_order.proofs.SearchSteps.SearchStep.{Same, Looked, Begun, Over}
 use Rattle.nm_order.proofs.OrderedWalks.{WalkLaw, no_walks, walks_last, key_looked, edge_looked}
-use Rattle.nm_order.proofs.OrderedChanges.{FixedKeys, first_onward, Outlasts, AsksOrder, outlasts}
+use Rattle.nm_order.proofs.OrderedChanges.{FixedKeys, first_onward, Outlasts, AsksKey, AsksOrder, outlasts}
 use Rattle.nm_order.proofs.OrderedLinks.{far_key, linking_shown}
 use Rattle.nm_order.proofs.RadixTrees.{RadixLaw, Parting}
 use Rattle.nm_order.proofs.RadixChanges.{parting, radix_linking, AsksPart, radix_outlasts}
@@ -159,7 +160,9 @@ module _ (s : State) (h : ℕ → ℕ) (law : Lawful s h) (w : ℕ) where
           on Has is t = absurd (true≢false (sym t))
           on Delete is t = absurd (true≢false (sym t))
           on Insert is t =
-              let parts = and_parts (not S.linked) (is_number (new_leaf (of s w) leaf new).key call.key && shows_place s.layout (of s w) call.key p d leaf new S.walks) t in
+              let parts = and_parts (not (has_put_in S))
+              (is_number (new_leaf (of s w) leaf new).key call.key
+              && shows_place s.layout (of s w) call.key p d leaf new S.walks) t in
               let rest = and_parts (is_number (new_leaf (of s w) leaf new).key call.key) (shows_place s.layout (of s w) call.key p d leaf new S.walks) parts.1 in
               record {
                 call = call;
@@ -175,9 +178,44 @@ module _ (s : State) (h : ℕ → ℕ) (law : Lawful s h) (w : ℕ) where
               shaped true radix own place = radix_linking s h law w (births w) call.key walks.0 fixed S.walks walks.1 p d leaf new l link own order (nested radix) place c' exchanged
               shaped false search own place = linking_shown s h law w (births w) call.key walks.0 fixed S.walks walks.1 p d leaf new l link own search order place c' exchanged
 
+  -- a swap in order has the call's key at both leaves
+  pub asks_key : EachBirthStands s → (e : Event) → (S : Search) → disorder s.layout (of s w) S e ≡ None
+      → ForCall s.layout.radix s.memory (knows (of s w)) S.call S.walks → AsksKey s h law w e
+  asks_key births e S ordered walks p d leaf new is =
+      by S.call walks (not-false (swaps_in_order (of s w) S S.call p d leaf new)
+      (passed _ NotOrdered None (subst (λ (x : Event). disorder s.layout (of s w) S x ≡ None) is ordered)).0)
+    where
+      by : (o : Option Call) → ForCall s.layout.radix s.memory (knows (of s w)) o S.walks
+          → swaps_in_order (of s w) S o p d leaf new ≡ true → key s.memory new ≡ key s.memory leaf
+      by None walks t = absurd (true≢false (sym t))
+      by (Some call) walks t = on call.op t
+        where
+          on : (op : Op) → swaps (of s w) S op call.key p d leaf new ≡ true → key s.memory new ≡ key s.memory leaf
+          on Has t = absurd (true≢false (sym t))
+          on Delete t = absurd (true≢false (sym t))
+          on Insert t =
+              let fresh = and_parts (not (has_put_in S))
+              (is_number (draft_of (of s w) new).key call.key
+              && list_any (may_flag_at call.key p d leaf) S.walks) t in
+              let parts = and_parts (is_number (draft_of (of s w) new).key call.key)
+              (list_any (may_flag_at call.key p d leaf) S.walks) fresh.1 in
+              let found = any_at (may_flag_at call.key p d leaf) S.walks parts.1 in
+              let two = and_parts (is_by leaf p d found.1) (ended_at call.key found.1) found.3 in
+              let slot = eqb-true found.1.slot leaf
+              (and_parts (found.1.slot == leaf) ((found.1.parent == p) && is_side found.1.side d) two.0).0 in
+              let read = number_is found.1.key call.key
+              (and_parts found.1.ended (is_number found.1.key call.key) two.1).1 in
+              (births w).key new call.key (number_is (draft_of (of s w) new).key call.key parts.0)
+              ∙ sym (ap (key s.memory) (sym slot) ∙ walks.1.is_keyed found.0 found.1 call.key found.2 read)
+
   pub asks_order : EachBirthStands s → InOrder (child s.memory) (key s.memory) → (s.layout.radix ≡ true → RadixLaw (child s.memory) (key s.memory)) → (e : Event) → (S : Search) → disorder s.layout (of s w) S e ≡ None → FixedKeys s.memory → ForCall s.layout.radix s.memory (knows (of s w)) S.call S.walks → AsksOrder s h law w e
-  asks_order births order nested e S ordered fixed walks p d leaf new is l link c' exchanged =
-      (link_of_call births order nested S p d leaf new (subst (λ (x : Event). disorder s.layout (of s w) S x ≡ None) is ordered) fixed walks l link c' exchanged).linking
+  asks_order births order nested e S ordered fixed walks = (
+    asks_key births e S ordered walks,
+    λ p d leaf new is l link c' exchanged.
+        (link_of_call births order nested S p d leaf new
+        (subst (λ (x : Event). disorder s.layout (of s w) S x ≡ None) is
+        ordered) fixed walks l link c' exchanged).linking,
+  )
 
   -- walks outlast an event by which no less is known
   pub last : (m : Memory) → Outlasts s h law m → (u : ℕ) (known : ℕ → Bool) → StillKnownBy (knows (of s u)) known → (call : Option Call) (ws : List Arrival) → ForCall s.layout.radix s.memory (knows (of s u)) call ws → ForCall s.layout.radix m known call ws
@@ -229,7 +267,9 @@ module _ (s : State) (h : ℕ → ℕ) (law : Lawful s h) (w : ℕ) where
   -- the law of a radix tree is kept
   pub radix_step : EachBirthStands s → (e : Event) → Allowed s w e → (S : Search) → disorder s.layout (of s w) S e ≡ None → InOrder (child s.memory) (key s.memory) → FixedKeys s.memory → ForCall s.layout.radix s.memory (knows (of s w)) S.call S.walks
       → s.layout.radix ≡ true → RadixLaw (child s.memory) (key s.memory) → RadixLaw (child (write s.memory (of s w) w e)) (key (write s.memory (of s w) w e))
-  radix_step births e ok S ordered order fixed walks radix nested = radix_outlasts s h law w e (write s.memory (of s w) w e) fixed order nested asks (tree_change s h law w e ok)
+  radix_step births e ok S ordered order fixed walks radix nested =
+      radix_outlasts s h law w e (write s.memory (of s w) w e) fixed order nested
+      (asks_key births e S ordered walks) asks (tree_change s h law w e ok)
     where
       asks : AsksPart s h law w e
       asks p d leaf new is l link = by S.call walks (not-false (links_in_order s.layout (of s w) S S.call p d leaf new) (passed _ NotOrdered None (subst (λ (x : Event). disorder s.layout (of s w) S x ≡ None) is ordered)).0)
@@ -248,7 +288,9 @@ module _ (s : State) (h : ℕ → ℕ) (law : Lawful s h) (w : ℕ) where
               on Has t = absurd (true≢false (sym t))
               on Delete t = absurd (true≢false (sym t))
               on Insert t =
-                  let parts = and_parts (not S.linked) (is_number (new_leaf (of s w) leaf new).key call.key && shows_place s.layout (of s w) call.key p d leaf new S.walks) t in
+                  let parts = and_parts (not (has_put_in S))
+                  (is_number (new_leaf (of s w) leaf new).key call.key
+                  && shows_place s.layout (of s w) call.key p d leaf new S.walks) t in
                   let rest = and_parts (is_number (new_leaf (of s w) leaf new).key call.key) (shows_place s.layout (of s w) call.key p d leaf new S.walks) parts.1 in
                   parting s h law w (births w) call.key walks.0 fixed S.walks walks.1 p d leaf new l link rest.0 (shaped s.layout.radix radix rest.1)
 

@@ -6,7 +6,7 @@ use Rattle.std.proofs.lemmas.Bool.{cond_both}
 use Rattle.std.proofs.lemmas.Option.{none-some}
 use Rattle.nm_edge.specs.Layouts.{Layout}
 use Rattle.nm_model.specs.declared.event.Event.{Event}
-use Rattle.nm_model.specs.declared.event.Event.TheVariants.{Sight, SightFor, Announce, Leave, LeaveWith, Scan, Advance, Claim, Give, Look, Fill, Link, Flag, Tag, Splice, Join}
+use Rattle.nm_model.specs.declared.event.Event.TheVariants.{Sight, SightFor, Announce, Leave, LeaveWith, Scan, Advance, Claim, Give, Look, Fill, Link, Flag, Tag, Splice, Join, Swap}
 use Rattle.nm_model.specs.declared.event.Field.{Field}
 use Rattle.nm_model.specs.declared.reply.Reply.{Reply}
 use Rattle.nm_model.specs.declared.reply.Reply.TheVariants.{Saw, Labelled, Pinned, Missed, Announced, Departed, Moved, Behind, Claimed, Returned, Freed, Filled, Was, Joined}
@@ -19,7 +19,7 @@ use Rattle.nm_model.specs.Runs.{State, of, refusal_of}
 use Rattle.nm_model.specs.Searches.{Search, idle, searched, begun, look_for}
 use Rattle.nm_model.specs.Step.{refusal}
 use Rattle.nm_model.specs.Walks.{Entry, search_after}
-use Rattle.nm_laws.proofs.Epochs.{alike_link, alike_flag, alike_tag, alike_splice}
+use Rattle.nm_laws.proofs.Epochs.{alike_link, alike_flag, alike_tag, alike_splice, alike_swap}
 use Rattle.nm_laws.proofs.Steps.{allowed, passed, second}
 use Rattle.nm_laws.proofs.Configurations.{allowed_by_state}
 use Rattle.nm_laws.proofs.Learned.{scan_teaches, look_teaches}
@@ -80,6 +80,9 @@ module _ (L : Layout) (m : Memory) (w : ℕ) (k : Knowledge) (s : Search) (law :
   after_event (Flag p side leaf) r ok = λ pin. absurd (pinned k.brief.pin _ (second _ (is_none k.brief.pin) _ _ _ ok) (alike_flag w k p side leaf r).pin pin)
   after_event (Tag p side) (Was e) ok = λ pin. absurd (pinned k.brief.pin _ (second _ (is_none k.brief.pin) _ _ _ ok) (alike_tag w k p side e).pin pin)
   after_event (Splice a side x p keep) r ok = λ pin. absurd (pinned k.brief.pin _ (second _ (is_none k.brief.pin) _ _ _ ok) (alike_splice w k a side x p keep r).pin pin)
+  after_event (Swap p side leaf new) r ok =
+      λ pin. absurd (pinned k.brief.pin _ (second _ (is_none k.brief.pin) _ _ _ ok)
+      (alike_swap w k p side leaf new r).pin pin)
   after_event (Join v) r ok = same_brief k (learn w k (Join v) r) s (join_stays w k v r) law
   after_event _ _ ok = law
 

@@ -19,7 +19,7 @@ use Rattle.nm_model.specs.Maps.{is_number}
 use Rattle.nm_model.specs.Knowledge.{Knowledge}
 use Rattle.nm_model.specs.Searches.{Search, searched}
 use Rattle.nm_model.specs.Walks.{begins_anew}
-use Rattle.nm_model.specs.Ordered.{disorder, shows, shows_call, inserts, deletes, links_in_order, flags_in_order, shows_place, may_flag_at, new_leaf, has_removed}
+use Rattle.nm_model.specs.Ordered.{disorder, shows, shows_call, has_put_in, inserts, deletes, links_in_order, flags_in_order, shows_place, may_flag_at, new_leaf, has_removed}
 use Rattle.nm_order.specs.Exchanges.{is_won_link, links_told, flags_told}
 use Rattle.nm_order.specs.WalksToArrivals.{is_won_flag}
 use Rattle.nm_laws.proofs.Steps.{passed}
@@ -49,7 +49,7 @@ link_anew S e r anew = ap has_linked (begun_is S e r anew)
 
 link_kept : (S : Search) (e : Event) (r : Reply) → begins_anew (e, r) ≡ false → is_won_link (e, r) ≡ false → has_linked (searched S e r) ≡ has_linked S
 link_kept S = search_goes (λ e r T. is_won_link (e, r) ≡ false → has_linked T ≡ has_linked S) S (λ x f r plain. ap has_linked (look_beside S S.call x f r)) (λ p d leaf new n plain. absurd (true≢false plain))
-    (λ p d leaf n plain. refl) (λ a d x p keep ns plain. refl) (λ e r plain. refl)
+    (λ p d leaf n plain. refl) (λ a d x p keep ns plain. refl) (λ p d leaf new ns plain. refl) (λ e r plain. refl)
 
 link_done : (S : Search) (e : Event) (r : Reply) → is_won_link (e, r) ≡ true → has_linked (searched S e r) ≡ true
 unfolding searched
@@ -77,7 +77,10 @@ may_link K k S p d leaf new order = by S.call refl (not-false (links_in_order K 
           call = call;
           is_call = is;
           is_op = i;
-          fresh = not-true S.linked (and_parts (not S.linked) (is_number (new_leaf k leaf new).key call.key && shows_place K k call.key p d leaf new S.walks) t).0;
+          fresh = (or_parts S.linked S.swapped (not-true (has_put_in S)
+              (and_parts (not (has_put_in S))
+              (is_number (new_leaf k leaf new).key call.key
+              && shows_place K k call.key p d leaf new S.walks) t).0)).0;
         }
 
 link_order : (K : Layout) (k : Knowledge) (S : Search) (e : Event) (r : Reply) → disorder K k S e ≡ None → is_won_link (e, r) ≡ true → MayLink S
@@ -114,7 +117,8 @@ flag_anew S e r anew = ap has_flagged (begun_is S e r anew)
 
 flag_kept : (S : Search) (e : Event) (r : Reply) → begins_anew (e, r) ≡ false → is_won_flag (e, r) ≡ false → has_flagged (searched S e r) ≡ has_flagged S
 flag_kept S = search_goes (λ e r T. is_won_flag (e, r) ≡ false → has_flagged T ≡ has_flagged S) S (λ x f r plain. ap has_flagged (look_beside S S.call x f r)) (λ p d leaf new n plain. refl)
-    (λ p d leaf n plain. absurd (true≢false plain)) (λ a d x p keep ns plain. refl) (λ e r plain. refl)
+    (λ p d leaf n plain. absurd (true≢false plain)) (λ a d x p keep ns plain. refl) (λ p d leaf new ns plain. refl)
+    (λ e r plain. refl)
 
 flag_done : (S : Search) (e : Event) (r : Reply) → is_won_flag (e, r) ≡ true → has_flagged (searched S e r) ≡ true
 unfolding searched
@@ -214,4 +218,5 @@ flags_shown S op key answer shown is_op = by S.flagged refl op answer shown (λ 
 
 -- a search that may leave without an answer has neither linked nor flagged
 pub silent : (K : Layout) (k : Knowledge) (S : Search) → disorder K k S Leave ≡ None → (S.linked ≡ false) × (is_some S.flagged ≡ false)
-silent K k S order = or_parts S.linked (is_some S.flagged) (passed _ NoAnswer None order).0
+silent K k S order = let parts = or_parts (has_put_in S) (is_some S.flagged) (passed _ NoAnswer None order).0 in
+    ((or_parts S.linked S.swapped parts.0).0, parts.1)

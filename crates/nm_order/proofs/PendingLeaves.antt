@@ -23,11 +23,12 @@ use Rattle.nm_model.specs.Lawful.{OnlyThePinnedKnow}
 use Rattle.nm_model.specs.Paths.{Reached, IsCut}
 use Rattle.nm_model.specs.Laws.{slots_of}
 use Rattle.nm_laws.proofs.SplicedEdges.{IsFrozenChain}
+use Rattle.nm_order.specs.Removals.{is_splice}
 use Rattle.nm_order.specs.Pending.{IsOfOneDelete, FlaggedLeavesArePending, CutLeavesAreOfOneDelete}
 use Rattle.nm_order.specs.Moments.{OfEachOrderedRun}
 use Rattle.nm_order.proofs.RunExchanges.{first_keys}
 use Rattle.nm_order.proofs.FlagOwners.{each_flag_has_one_call, flag_kept}
-use Rattle.nm_order.proofs.CutTurns.{cut_shows, cut_goes_down, named_so, mapped_among}
+use Rattle.nm_order.proofs.CutTurns.{splice_of, cut_shows, cut_goes_down, named_so, mapped_among}
 use Rattle.nm_model.specs.Step.{reply, reply_sight, confirmed}
 use Rattle.nm_model.specs.Runs.{State, of, reply_of}
 use Rattle.nm_model.specs.Searches.{Search, searched}
@@ -317,9 +318,11 @@ module _ (L : Layout) (enough : 5 ≤ L.nodes) where
   chain_leaf c o s (z ∷ l ∷ rest) chain reached (suc (suc i)) x at leaf = chain_leaf c o (child c.state.memory s chain.1) rest chain.5 (λ j y there. reached (suc (suc j)) y there) i x at leaf
 
   -- each leaf of a cut hangs by a flagged edge
-  pub cut_leaf_hangs : (c : Configuration) → IsOrdered L c → (t : ℕ × Event) (ns : List NodeId) → outcome_in c t ≡ Ok (Cut ns) → (n : NodeId) → Contains ns n → is_leaf (node c.state.memory n.slot) ≡ true
+  pub cut_leaf_hangs : (c : Configuration) → IsOrdered L c → (t : ℕ × Event) (ns : List NodeId)
+      → outcome_in c t ≡ Ok (Cut ns) → is_splice t.1 ≡ true → (n : NodeId) → Contains ns n
+      → is_leaf (node c.state.memory n.slot) ≡ true
       → (y : ℕ) × (g : Side) × Reached c.state.memory y × ((edge c.state.memory y g).flag ≡ true) × (child c.state.memory y g ≡ n.slot)
-  cut_leaf_hangs c o t ns is n among leaf =
+  cut_leaf_hangs c o t ns is splice n among leaf =
       chain_leaf c o chain.0 (slots_of ns) chain.1 (λ i x at. ((shows.0 x).1 (i, slice_get_within (slots_of ns) i x at, get_or_from_slice_get (slots_of ns) i x x at)).was)
       member.0 n.slot (slice_get-get_or (slots_of ns) member.0 n.slot member.1 ∙ ap Some member.2) leaf
     where
@@ -327,17 +330,18 @@ module _ (L : Layout) (enough : 5 ≤ L.nodes) where
       shows = cut_shows L enough c t o ns is
 
       chain : (s : ℕ) × IsFrozenChain c.state.memory s (slots_of ns)
-      chain = cut_goes_down L enough c t o ns is
+      chain = cut_goes_down L enough c t o ns (splice_of t.1 splice) is
 
       member : Contains (slots_of ns) n.slot
       member = mapped_among (λ (y : NodeId). y.slot) ns n among
 
   -- and is kept as flagged by a call
-  pub cut_leaf_owned : (ts : List (ℕ × Event)) → All (λ t. HasKey t.1) ts → (t : ℕ × Event) (ns : List NodeId) → outcome_in (after_in (ordered L) ts) t ≡ Ok (Cut ns) → (n : NodeId) → Contains ns n
+  pub cut_leaf_owned : (ts : List (ℕ × Event)) → All (λ t. HasKey t.1) ts → (t : ℕ × Event) (ns : List NodeId)
+      → outcome_in (after_in (ordered L) ts) t ≡ Ok (Cut ns) → is_splice t.1 ≡ true → (n : NodeId) → Contains ns n
       → is_leaf (node (after_in (ordered L) ts).state.memory n.slot) ≡ true → (u : ℕ) × ((own_search (after_in (ordered L) ts) u).flagged ≡ Some n)
-  cut_leaf_owned ts keys t ns is n among leaf =
+  cut_leaf_owned ts keys t ns is splice n among leaf =
       let o = each_ordered L enough ts keys in
-      let hangs = cut_leaf_hangs (after_in (ordered L) ts) o t ns is n among leaf in
+      let hangs = cut_leaf_hangs (after_in (ordered L) ts) o t ns is splice n among leaf in
       let owner = owned ts keys hangs.0 hangs.1 hangs.2 hangs.3 in
       (owner.0, owner.1 ∙ ap Some (ap (named (after_in (ordered L) ts).state.memory) hangs.4 ∙ named_so L enough (after_in (ordered L) ts) t o ns is n among))
 
@@ -345,4 +349,5 @@ pub each_flagged_leaf_is_pending : OfEachOrderedRun FlaggedLeavesArePending
 each_flagged_leaf_is_pending L enough turns keys parent side reached flag = let u = owned L enough turns keys parent side reached flag in of_one L enough turns keys u.0 _ u.1
 
 pub each_cut_leaf_is_of_one : OfEachOrderedRun CutLeavesAreOfOneDelete
-each_cut_leaf_is_of_one L enough turns keys t ns is n among leaf = let u = cut_leaf_owned L enough turns keys t ns is n among leaf in of_one L enough turns keys u.0 n u.1
+each_cut_leaf_is_of_one L enough turns keys t ns is splice n among leaf = let u =
+    cut_leaf_owned L enough turns keys t ns is splice n among leaf in of_one L enough turns keys u.0 n u.1

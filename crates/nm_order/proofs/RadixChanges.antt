@@ -34,12 +34,12 @@ use Rattle.nm_laws.proofs.TreeLink.{Linkable}
 use Rattle.nm_laws.proofs.TreeSteps.{Lawful}
 use Rattle.nm_order.proofs.Searching.{Keys}
 use Rattle.nm_order.proofs.TreeChanges.{TreeChange}
-use Rattle.nm_order.proofs.TreeChanges.TreeChange.{Kept, Filled, Linked, Spliced}
+use Rattle.nm_order.proofs.TreeChanges.TreeChange.{Kept, Filled, Linked, Swapped, Spliced}
 use Rattle.nm_order.proofs.OrderedTrees.{InOrder, Linking}
 use Rattle.nm_order.proofs.OrderedWalks.{WalkLaw, is_side-true}
-use Rattle.nm_order.proofs.OrderedChanges.{FixedKeys, left_of, off_root}
+use Rattle.nm_order.proofs.OrderedChanges.{FixedKeys, AsksKey, swapping, left_of, off_root}
 use Rattle.nm_order.proofs.OrderedLinks.{right_of, far_key, leaf_on, grafted, above}
-use Rattle.nm_order.proofs.RadixTrees.{RadixLaw, Parting, Placed, which, radix_spliced, radix_apart, radix_links, radix_linked}
+use Rattle.nm_order.proofs.RadixTrees.{RadixLaw, Parting, Placed, which, radix_spliced, radix_swapped, radix_apart, radix_links, radix_linked}
 
 -- ---- a link's slots
 
@@ -200,16 +200,22 @@ module _ (s : State) (h : ℕ → ℕ) (law : Lawful s h) (w : ℕ) where
   AsksPart e = (p : ℕ) (d : Side) (leaf new : ℕ) → e ≡ Link p d leaf new → (l : Linkable (of s w) new leaf) → IsLink s.layout.radix s.layout.nodes (picture s h) w p d leaf new l.far l.side
       → Parting (child s.memory) (key s.memory) p d leaf new l.far l.side
 
-  pub radix_outlasts : (e : Event) (m : Memory) → FixedKeys s.memory → InOrder (child s.memory) (key s.memory) → RadixLaw (child s.memory) (key s.memory) → AsksPart e → TreeChange s h w e m → RadixLaw (child m) (key m)
-  radix_outlasts e m fixed order nested asks (Kept children keys) = subst (λ (d : Children). RadixLaw d (key m)) (sym same) (subst (λ (n : Keys). RadixLaw (child s.memory) n) (sym same_keys) nested)
+  pub radix_outlasts : (e : Event) (m : Memory) → FixedKeys s.memory → InOrder (child s.memory) (key s.memory)
+      → RadixLaw (child s.memory) (key s.memory) → AsksKey s h law w e → AsksPart e → TreeChange s h w e m
+      → RadixLaw (child m) (key m)
+  radix_outlasts e m fixed order nested same asks (Kept children keys) = subst (λ (d : Children). RadixLaw d (key m))
+      (sym same_children) (subst (λ (n : Keys). RadixLaw (child s.memory) n) (sym same_keys) nested)
     where
-      same : child m ≡ child s.memory
-      same = fun_ext (λ x. fun_ext (λ d. children x d))
+      same_children : child m ≡ child s.memory
+      same_children = fun_ext (λ x. fun_ext (λ d. children x d))
 
       same_keys : key m ≡ key s.memory
       same_keys = fun_ext keys
-  radix_outlasts e m fixed order nested asks (Filled x own apart) = radix_apart (child s.memory) (child m) (key s.memory) (key m) x apart (off_root s h law w x own) (law.tree.privates w x own).0 nested
-  radix_outlasts e m fixed order nested asks (Linked p d leaf new is unmarked l link exchanged keys) = subst (λ (n : Keys). RadixLaw (child m) n) (sym same_keys) (radix_linked (child s.memory) (child m) (key s.memory) p d leaf new l.far l.side b t nested links)
+  radix_outlasts e m fixed order nested same asks (Filled x own apart) = radix_apart (child s.memory) (child m)
+      (key s.memory) (key m) x apart (off_root s h law w x own) (law.tree.privates w x own).0 nested
+  radix_outlasts e m fixed order nested same asks (Linked p d leaf new is unmarked l link exchanged keys) =
+      subst (λ (n : Keys). RadixLaw (child m) n) (sym same_keys)
+      (radix_linked (child s.memory) (child m) (key s.memory) p d leaf new l.far l.side b t nested links)
     where
       b : Placed (child s.memory) (child m) (key s.memory) p d leaf new l.far l.side
       b = placed s h law w fixed p d leaf new l.far l.side link (child m) exchanged
@@ -222,7 +228,17 @@ module _ (s : State) (h : ℕ → ℕ) (law : Lawful s h) (w : ℕ) where
 
       same_keys : key m ≡ key s.memory
       same_keys = fun_ext keys
-  radix_outlasts e m fixed order nested asks (Spliced a d way g some target keys high) = subst (λ (n : Keys). RadixLaw (child m) n) (sym same_keys) (radix_spliced (child s.memory) (child m) (key s.memory) a d way g some target high nested)
+  radix_outlasts e m fixed order nested same asks (Swapped p d leaf new n is swap exchanged keys) =
+      subst (λ (n : Keys). RadixLaw (child m) n) (sym same_keys)
+      (radix_swapped (child s.memory) (child m) (key s.memory) p d leaf new
+      (swapping s h law w n p d leaf new swap (same p d leaf new is) (child m) exchanged)
+      (λ z. let up = (law.tree.privates w new swap.own).0 in omega (arith, up, z)) swap.high nested)
+    where
+      same_keys : key m ≡ key s.memory
+      same_keys = fun_ext keys
+  radix_outlasts e m fixed order nested same asks (Spliced a d way g some target keys high) =
+      subst (λ (n : Keys). RadixLaw (child m) n) (sym same_keys)
+      (radix_spliced (child s.memory) (child m) (key s.memory) a d way g some target high nested)
     where
       same_keys : key m ≡ key s.memory
       same_keys = fun_ext keys

@@ -24,7 +24,7 @@ use Rattle.nm_laws.proofs.Views.{picture}
 use Rattle.nm_laws.proofs.TreeSteps.{Lawful}
 use Rattle.nm_order.proofs.Searching.{Keys}
 use Rattle.nm_order.proofs.TreeChanges.{TreeChange}
-use Rattle.nm_order.proofs.TreeChanges.TreeChange.{Kept, Filled, Linked, Spliced}
+use Rattle.nm_order.proofs.TreeChanges.TreeChange.{Kept, Filled, Linked, Swapped, Spliced}
 use Rattle.nm_order.proofs.OrderedTrees.{InOrder}
 use Rattle.nm_order.proofs.OrderedChanges.{FixedKeys, off_known, left_of}
 use Rattle.nm_order.proofs.OrderedMoments.{Lasting, lasting}
@@ -73,6 +73,19 @@ module _ (s : State) (h : ℕ → ℕ) (law : Lawful s h) (w : ℕ) (r : Rooted 
       (nests_exchanged (child s.memory) (child m) (key s.memory) (lasting s.memory) (lasting m) p d new exchanged (λ e. link.leaf_slot (sym (ap (λ (y : Edge). y.slot) unmarked) ∙ e))
       (λ e. let up = (law.tree.privates w new link.own).0 in omega (arith, e, up)) on.path on.ends link.is_slot
       (straight_to (child s.memory) (child m) (alone s.layout.nodes (picture s h) law.tree) p d new exchanged on.path on.ends link.is_slot) r (subst (λ (n : Keys). Nests (child m) n) (fun_ext keys) after) z nests)
+  nests_outlast (Swapped p d leaf new n is swap exchanged keys) nests =
+      let on : IsOnPath (picture s h) p =
+      live_on_path s.layout.nodes (picture s h) p law.tree swap.live swap.is_slot swap.inside
+      (unmarked_not_queued s.layout.nodes (picture s h) p d leaf law.tree swap.unmarked
+      (λ z. let high = swap.high in omega (arith, high, z))) in
+      subst (λ (n : Keys). NestsFrom (child m) n z) (sym (fun_ext keys))
+      (nests_exchanged (child s.memory) (child m) (key s.memory) (lasting s.memory) (lasting m) p d new exchanged
+      (λ e. let is = ap (λ (y : Edge). y.slot) swap.unmarked in let high = swap.high in
+      omega (arith, e, is, high))
+      (λ e. let up = (law.tree.privates w new swap.own).0 in omega (arith, e, up)) on.path on.ends swap.is_slot
+      (straight_to (child s.memory) (child m)
+      (alone s.layout.nodes (picture s h) law.tree) p d new exchanged on.path on.ends swap.is_slot) r
+      (subst (λ (n : Keys). Nests (child m) n) (fun_ext keys) after) z nests)
   nests_outlast (Spliced a d way g some target keys high) nests =
       subst (λ (n : Keys). NestsFrom (child m) n z) (sym (fun_ext keys))
       (nests_exchanged (child s.memory) (child m) (key s.memory) (lasting s.memory) (lasting m) a d (follow (child s.memory) (child s.memory a d) way) g.exchanged some target g.front g.at_front g.is_slot
@@ -97,6 +110,21 @@ module _ (s : State) (h : ℕ → ℕ) (law : Lawful s h) (w : ℕ) (r : Rooted 
         (λ e. let up = (law.tree.privates w new link.own).0 in omega (arith, e, up)) on.path on.ends link.is_slot
         (straight_to (child s.memory) (child m) (alone s.layout.nodes (picture s h) law.tree) p d new exchanged on.path on.ends link.is_slot) r (subst (λ (n : Keys). Nests (child m) n) (fun_ext keys) after)
         k small W W' grows z lasts_on (subst (λ (n : Keys). EachNow (child m) n (lasting m) k W') (fun_ext keys) now) each)
+    each_in_outlasts (Swapped p d leaf new n is swap exchanged keys) each =
+        let on : IsOnPath (picture s h) p =
+        live_on_path s.layout.nodes (picture s h) p law.tree swap.live swap.is_slot swap.inside
+        (unmarked_not_queued s.layout.nodes (picture s h) p d leaf law.tree swap.unmarked
+        (λ z. let high = swap.high in omega (arith, high, z))) in
+        subst (λ (n : Keys). EachIn (child m) n (lasting m) k W' z) (sym (fun_ext keys))
+        (each_in_exchanged (child s.memory) (child m) (key s.memory) (lasting s.memory) (lasting m) p d new exchanged
+        (λ e. let is = ap (λ (y : Edge). y.slot) swap.unmarked in let high = swap.high in
+        omega (arith, e, is, high))
+        (λ e. let up = (law.tree.privates w new swap.own).0 in omega (arith, e, up)) on.path on.ends swap.is_slot
+        (straight_to (child s.memory) (child m)
+        (alone s.layout.nodes (picture s h) law.tree) p d new exchanged on.path on.ends swap.is_slot) r
+        (subst (λ (n : Keys). Nests (child m) n) (fun_ext keys) after)
+        k small W W' grows z lasts_on
+        (subst (λ (n : Keys). EachNow (child m) n (lasting m) k W') (fun_ext keys) now) each)
     each_in_outlasts (Spliced a d way g some target keys high) each =
         subst (λ (n : Keys). EachIn (child m) n (lasting m) k W' z) (sym (fun_ext keys))
         (each_in_exchanged (child s.memory) (child m) (key s.memory) (lasting s.memory) (lasting m) a d (follow (child s.memory) (child s.memory a d) way) g.exchanged some target g.front g.at_front g.is_slot
@@ -109,6 +137,12 @@ module _ (s : State) (h : ℕ → ℕ) (law : Lawful s h) (w : ℕ) (r : Rooted 
     stood (Filled x own apart) stands = stands_apart (child s.memory) (child m) (key s.memory) (key m) x apart z k (off_known s h law u z w x known own []) stands
     stood (Linked p d leaf new is unmarked l link exchanged keys) stands =
         stands_back (child s.memory) (child m) (key s.memory) p d new exchanged (λ e. link.leaf_slot (sym (ap (λ (y : Edge). y.slot) unmarked) ∙ e)) (λ e. let up = (law.tree.privates w new link.own).0 in omega (arith, e, up)) z k
+        (subst (λ (n : Keys). StandsFor (child m) n z k) (fun_ext keys) stands)
+    stood (Swapped p d leaf new n is swap exchanged keys) stands =
+        stands_back (child s.memory) (child m) (key s.memory) p d new exchanged
+        (λ e. let is = ap (λ (y : Edge). y.slot) swap.unmarked in let high = swap.high in
+        omega (arith, e, is, high))
+        (λ e. let up = (law.tree.privates w new swap.own).0 in omega (arith, e, up)) z k
         (subst (λ (n : Keys). StandsFor (child m) n z k) (fun_ext keys) stands)
     stood (Spliced a d way g some target keys high) stands =
         stands_back (child s.memory) (child m) (key s.memory) a d (follow (child s.memory) (child s.memory a d) way) g.exchanged some target z k (subst (λ (n : Keys). StandsFor (child m) n z k) (fun_ext keys) stands)

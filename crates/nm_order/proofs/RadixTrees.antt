@@ -18,6 +18,7 @@ use Rattle.nm_laws.proofs.Trees.{Children, Exchanged, rest_after, same_side, sam
 use Rattle.nm_laws.proofs.CutPaths.{Splicing, old_path, led}
 use Rattle.nm_order.proofs.Searching.{Keys, goes-append, Apart, apart_follow}
 use Rattle.nm_order.proofs.OrderedTrees.{InOrder, Linking, had_child, unless_at, one_or_other, down, new_still, far_still, Below, below_new, at_leaf, at_far, Grafting}
+use Rattle.nm_order.proofs.SwappedTrees.{Swapping, SwappedWay, swapped_way, to_old_leaf, new_null_now}
 use Rattle.nm_order.proofs.OrderedTrees.Below.{Itself, Old, New}
 use Rattle.nm_order.proofs.RangesOfKeys.{covers_own, lies_in_half, half_has_range}
 
@@ -201,6 +202,51 @@ module _ (c c' : Children) (v : Keys) (a : ℕ) (d : Side) (way : List Side) (g 
           let is : follow c' 1 q ≡ follow c 1 (old_path c c' a d way g (rest_after c a d 1 q) q) = led c c' a d way g q in
           let was : IsNested c v (follow c' 1 q) = subst (IsNested c v) (sym is) (law.nests (old_path c c' a d way g (rest_after c a d 1 q) q) (rw (← is) up)) in
           nested_still c c' v a d _ g.exchanged some target (follow c' 1 q) was (λ e k stands. rw e (new_child k (rw (← e) up) stands))
+
+-- ---- a swap
+
+module _ (c c' : Children) (v : Keys) (p : ℕ) (d : Side) (leaf new : ℕ) (g : Swapping c c' v p d leaf new)
+    (some_new : new ≢ 0) (leaf_high : 6 ≤ leaf) (law : RadixLaw c v) where
+  some_leaf : c p d ≢ 0
+  some_leaf z = g.leaf_slot (sym g.leads ∙ z)
+
+  swapped_child : (k : ℕ) → 6 ≤ p → StandsFor c' v new k → (covers (v p) k ≡ true) × (side_of k (v p) ≡ d)
+  swapped_child k up stands =
+      (subst (λ (y : ℕ). IsNested c v y) g.at_front (law.nests g.front (rw g.at_front up))).below d k some_leaf
+      (subst (λ (y : ℕ). StandsFor c v y k) (sym g.leads) (was stands))
+    where
+      was : StandsFor c' v new k → StandsFor c v leaf k
+      was (inl (null, is)) = inl (g.leaf_null, sym g.same_key ∙ is)
+      was (inr (at, has)) = absurd (at.1 (new_null_now c c' v p d leaf new g at.0))
+
+  pub radix_swapped : RadixLaw c' v
+  radix_swapped = record {
+    nests = λ q up. nests q up (swapped_way c c' v p d leaf new g q (λ z. omega (arith, up, z)));
+    low = λ q up. low q up (swapped_way c c' v p d leaf new g q (λ z. omega (arith, up, z)));
+    third = law.third;
+    right = fixed_still c c' p d new g.exchanged 1 Right (λ e f. let is : leaf ≡ 5 = sym g.leads
+        ∙ (ap (λ (y : ℕ). c y d) (sym e) ∙ (ap (c 1) f ∙ law.right)) in omega (arith, leaf_high, is)) ∙ law.right;
+    second_right = fixed_still c c' p d new g.exchanged 2 Right (λ e f. let is : leaf ≡ 4 = sym g.leads
+        ∙ (ap (λ (y : ℕ). c y d) (sym e) ∙ (ap (c 2) f ∙ law.second_right)) in omega (arith, leaf_high, is))
+        ∙ law.second_right;
+  }
+    where
+      nests : (q : List Side) → 6 ≤ follow c' 1 q → SwappedWay c c' v p d leaf new g q → IsNested c' v (follow c' 1 q)
+      nests q up (inl a) = nested_still c c' v p d new g.exchanged some_leaf some_new (follow c' 1 q)
+          (subst (IsNested c v) (sym a.1) (law.nests q (rw (← a.1) up)))
+          (λ e k stands. rw e (swapped_child k (rw (← e) up) stands))
+      nests q up (inr b) = subst (IsNested c' v) (sym b.1)
+          (record {
+            own = λ f there. absurd (there (new_null_now c c' v p d leaf new g f));
+            below =
+                λ f k there stands. absurd (there (new_null_now c c' v p d leaf new g f));
+          })
+
+      low : (q : List Side) → 6 ≤ follow c' 1 q → SwappedWay c c' v p d leaf new g q → v (follow c' 1 q) ≤ infinity_0
+      low q up (inl a) = rw a.1 (law.low q (rw (← a.1) up))
+      low q up (inr b) =
+          let at = to_old_leaf c c' v p d leaf new g in
+          rw (b.1, g.same_key) (rw at at (law.low (g.front ++ d ∷ []) (rw at leaf_high)))
 
 -- ---- a slot that no path comes to is changed
 

@@ -6,7 +6,7 @@ use Rattle.std.proofs.lemmas.List.Elements.{Contains-push_cases}
 use Rattle.std.proofs.lemmas.Option.{none-some, same_Some}
 use Rattle.nm_edge.specs.Layouts.{Layout}
 use Rattle.nm_model.specs.declared.event.Event.{Event}
-use Rattle.nm_model.specs.declared.event.Event.TheVariants.{Sight, SightFor, Announce, Leave, LeaveWith, Scan, Advance, Claim, Give, Look, Fill, Link, Flag, Tag, Splice, Join}
+use Rattle.nm_model.specs.declared.event.Event.TheVariants.{Sight, SightFor, Announce, Leave, LeaveWith, Scan, Advance, Claim, Give, Look, Fill, Link, Flag, Tag, Splice, Join, Swap}
 use Rattle.nm_model.specs.declared.reply.Reply.{Reply}
 use Rattle.nm_model.specs.declared.reply.Reply.TheVariants.{Saw, Labelled, Pinned, Missed, Announced, Departed, Moved, Behind, Filled, Was}
 use Rattle.nm_model.specs.Maps.{is_number}
@@ -15,7 +15,7 @@ use Rattle.nm_model.specs.Learning.{learn, learn_sight}
 use Rattle.nm_model.specs.Step.{confirmed, reply_sight, reply}
 use Rattle.nm_model.specs.Runs.{State, of, reply_of}
 use Rattle.nm_model.specs.Walks.{Entry}
-use Rattle.nm_laws.proofs.Epochs.{alike_claim, alike_give, alike_look, alike_fill, alike_link, alike_flag, alike_tag, alike_splice, alike_join}
+use Rattle.nm_laws.proofs.Epochs.{alike_claim, alike_give, alike_look, alike_fill, alike_link, alike_flag, alike_tag, alike_splice, alike_swap, alike_join}
 use Rattle.nm_laws.proofs.Learned.{scan_teaches}
 use Rattle.nm_order.specs.Logs.{known_by, IsLogOf}
 use Rattle.nm_order.specs.Reads.{sight_epoch, epoch_read, HasRead, ReadLast, EpochsAreReadInOrder}
@@ -66,6 +66,7 @@ stays w k (Link p side leaf new) r is = (alike_link w k p side leaf new r).seen
 stays w k (Flag p side leaf) r is = (alike_flag w k p side leaf r).seen
 stays w k (Tag p side) (Was e) is = (alike_tag w k p side e).seen
 stays w k (Splice a side s p keep) r is = (alike_splice w k a side s p keep r).seen
+stays w k (Swap p side leaf new) r is = (alike_swap w k p side leaf new r).seen
 stays w k (Join v) r is = (alike_join w k v r).seen
 stays w k _ _ is = refl
 

@@ -8,7 +8,7 @@ use Rattle.nm_model.specs.declared.event.Field.{Field}
 use Rattle.nm_model.specs.declared.event.Field.TheVariants.{Edge as EdgeOn, Birth}
 use Rattle.nm_model.specs.declared.event.Op.{Op}
 use Rattle.nm_model.specs.declared.event.Event.{Event}
-use Rattle.nm_model.specs.declared.event.Event.TheVariants.{Sight, SightFor, Announce, Leave, LeaveWith, Scan, Advance, Claim, Give, Look, Fill, Link, Flag, Tag, Splice, Join}
+use Rattle.nm_model.specs.declared.event.Event.TheVariants.{Sight, SightFor, Announce, Leave, LeaveWith, Scan, Advance, Claim, Give, Look, Fill, Link, Flag, Tag, Splice, Join, Swap}
 use Rattle.nm_model.specs.declared.reply.Reply.{Reply}
 use Rattle.nm_model.specs.declared.reply.Reply.TheVariants.{Saw, Labelled, Pinned, Missed, Announced, Departed, Idle, In, Moved, Behind, Claimed, Returned, Freed, EdgeIs, BirthIs, Filled, Linked, Flagged, Was, Cut, Lost, Joined}
 use Rattle.nm_model.specs.Knowledge.{Knowledge, knows, is_private, seen_of}
@@ -97,5 +97,7 @@ search_step s w k (Flag p d leaf) (Lost e) = Same refl refl (still_read k p d e)
 search_step s w k (Tag p d) (Was e) = Same refl refl (still_read k p d (tagged e))
 search_step s w k (Splice a d y p keep) (Cut ns) = Same refl refl (λ x h. h)
 search_step s w k (Splice a d y p keep) (Lost e) = Same refl refl (still_read k a d e)
+search_step s w k (Swap p d leaf new) (Cut ns) = Same refl refl (λ x h. has_met_there k.known new x h)
+search_step s w k (Swap p d leaf new) (Lost e) = Same refl refl (still_read k p d e)
 search_step s w k (Join v) (Joined ls) = Same refl refl (cond_both (eqb w v) (resigned k) (inheriting k ls) (StillKnown k) (λ _ x h. h) (λ _ x h. h))
 search_step s w k e r = Same refl refl (λ x h. h)

@@ -10,7 +10,7 @@ use Rattle.std.proofs.lemmas.Option.{none-some, same_Some}
 use Rattle.nm_edge.specs.declared.node.NodeId.{NodeId}
 use Rattle.nm_model.specs.declared.event.Op.TheVariants.{Has}
 use Rattle.nm_model.specs.declared.event.Event.{Event}
-use Rattle.nm_model.specs.declared.event.Event.TheVariants.{Sight, SightFor, Leave, LeaveWith, Look, Link, Flag, Splice}
+use Rattle.nm_model.specs.declared.event.Event.TheVariants.{Sight, SightFor, Leave, LeaveWith, Look, Link, Flag, Splice, Swap}
 use Rattle.nm_model.specs.declared.event.Field.{Field}
 use Rattle.nm_model.specs.declared.reply.Reply.{Reply}
 use Rattle.nm_model.specs.declared.reply.Reply.TheVariants.{Pinned, Departed, Linked, Flagged, Cut}
@@ -93,6 +93,8 @@ adds s call (Flag p side leaf) (Flagged n) stands is = record {
 }
 adds s call (Link p side leaf new) (Linked n) stands is = adds_nothing s _ call (Link p side leaf new, Linked n) is refl refl refl (λ ws. refl) refl
 adds s call (Splice a side x p keep) (Cut ns) stands is = adds_nothing s _ call (Splice a side x p keep, Cut ns) is refl refl refl (λ ws. refl) refl
+adds s call (Swap p side leaf new) (Cut ns) stands is =
+    adds_nothing s _ call (Swap p side leaf new, Cut ns) is refl refl refl (λ ws. refl) refl
 adds s call e r stands is = adds_nothing s _ call (e, r) is refl refl refl (λ ws. refl) refl
 
 -- where a pin is confirmed or left, nothing is known

@@ -14,7 +14,7 @@ use Rattle.nm_model.specs.Knowledge.{Knowledge, knows, is_private, seen_of, read
 use Rattle.nm_model.specs.Learning.{learn, look_known, look_private, met, read_edge, with_read, flag_to, pinned, saw}
 use Rattle.nm_model.specs.Searches.{Search, idle, searched}
 use Rattle.nm_model.specs.Walks.{Entry, search_after}
-use Rattle.nm_laws.proofs.Learned.{learn_look, learn_link_lost, learn_flagged, learn_flag_lost, learn_was, learn_splice_lost, learn_sight_for, learn_pinned}
+use Rattle.nm_laws.proofs.Learned.{learn_look, learn_link_lost, learn_flagged, learn_flag_lost, learn_was, learn_splice_lost, learn_swap_lost, learn_sight_for, learn_pinned}
 use Rattle.nm_model.proofs.Tables.{has_put_there}
 use Rattle.nm_laws.proofs.Trees.{same_side, same_side-refl}
 use Rattle.nm_laws.proofs.Views.{read_after, read_birth, seen_put}
@@ -22,7 +22,7 @@ use Rattle.nm_order.specs.Logs.{known_by, IsLogOf}
 use Rattle.nm_order.specs.Facts.{Holds}
 use Rattle.nm_order.specs.Taught.{EdgeLearned, EdgesAreLearned, TagsAreLearned, TagsFreeze, FlagsAreLearned, BirthsAreLearned, PinsAreLearned}
 use Rattle.nm_order.specs.Told.{TellsEdge, OfEachEntry}
-use Rattle.nm_order.specs.Told.TellsEdge.{ByLook, ByLink, ByFlag, ByTag, BySplice}
+use Rattle.nm_order.specs.Told.TellsEdge.{ByLook, ByLink, ByFlag, ByTag, BySplice, BySwap}
 use Rattle.nm_order.proofs.LastEntries.{known_more, search_more, LastEntry, last_entry}
 use Rattle.nm_order.proofs.ToldLaws.{lawful_before, live_then, tags_lead}
 use Rattle.nm_order.proofs.OrderedSteps.{met_is_known}
@@ -72,6 +72,8 @@ read_so w k _ _ _ _ (ByLink x leaf new side e) shared leads = as_told k _ x side
 read_so w k _ _ _ _ (ByFlag x leaf side e) shared leads = as_told k _ x side e (learn_flag_lost w k x side leaf e)
 read_so w k _ _ _ _ (ByTag x side e) shared leads = record { edge = tagged e; becomes = learn_was w k x side e; slot = refl; tag = λ _. is_tagged e (leads refl); flag = λ h. h }
 read_so w k _ _ _ _ (BySplice x s p side keep e) shared leads = as_told k _ x side e (learn_splice_lost w k x side s p keep e)
+read_so w k _ _ _ _ (BySwap x leaf new side e) shared leads =
+    as_told k _ x side e (learn_swap_lost w k x side leaf new e)
 
 -- ---- logs
 

@@ -3,6 +3,7 @@
 use Rattle.std.proofs.Common.{◌≡◌, ℕ, ◌+◌, ◌<◌, ◌≤◌, ◌⊎◌, inl, inr, Bool, true, false, not, List, [], ◌∷◌, ◌++◌, append_assoc, append-nil, length, map, sym, ap, subst, ◌∙◌, arith, true≢false}
 use Rattle.std.specs.Prelude.{◌↔◌, Some, Ok, Contains}
 use Rattle.nm_model.specs.declared.reply.Reply.{Reply}
+use Rattle.nm_order.specs.Removals.{is_splice}
 use Rattle.nm_order.specs.Exchanges.{is_won_link}
 use Rattle.nm_order.proofs.OwnTurns.{own_search}
 use Rattle.nm_edge.specs.declared.node.NodeId.{NodeId}
@@ -84,8 +85,11 @@ AllAt m (a ∷ acts) = (a.moment ≡ m) × (changes a.op a.answer ≡ true) × A
 pub record TurnChanges (c : Configuration) (t : ℕ × Event) (m : ℕ) (acts : List Act) : Type 0 where
   pub at : AllAt m acts
   pub replays : Replays (InSet c.state.memory) acts (InSet (next_in c t).state.memory)
-  pub cut : (ns : List NodeId) → outcome_in c t ≡ Ok (Cut ns) → map (λ a. a.key) acts ≡ leaf_keys c.state.memory (slots_of ns)
-  pub owner : (ns : List NodeId) → outcome_in c t ≡ Ok (Cut ns) → (a : Act) → IsAmong acts a → (n : NodeId) × Contains ns n × ((own_search c a.worker).flagged ≡ Some n) × (key c.state.memory n.slot ≡ a.key) × (a.op ≡ Delete) × (a.answer ≡ true)
+  pub cut : (ns : List NodeId) → outcome_in c t ≡ Ok (Cut ns) → is_splice t.1 ≡ true
+      → map (λ a. a.key) acts ≡ leaf_keys c.state.memory (slots_of ns)
+  pub owner : (ns : List NodeId) → outcome_in c t ≡ Ok (Cut ns) → is_splice t.1 ≡ true → (a : Act) → IsAmong acts a
+      → (n : NodeId) × Contains ns n × ((own_search c a.worker).flagged ≡ Some n)
+      × (key c.state.memory n.slot ≡ a.key) × (a.op ≡ Delete) × (a.answer ≡ true)
   pub link : (k : ℕ) → (own_search c t.0).call ≡ Some (record { op = Insert; key = k }) → (q : Reply) → outcome_in c t ≡ Ok q → is_won_link (t.1, q) ≡ true
       → (a : Act) × (acts ≡ a ∷ []) × (a.key ≡ k) × (a.worker ≡ t.0) × (a.op ≡ Insert) × (a.answer ≡ true)
 

@@ -27,7 +27,7 @@ use Rattle.nm_order.specs.Logs.{known_by}
 use Rattle.nm_order.specs.Facts.{Fact, HoldsIn, Holds, IsTrueIn}
 use Rattle.nm_order.specs.Facts.Fact.{KnowsSlot, KnowsLeaf, IsTagged, IsFlagged}
 use Rattle.nm_order.specs.Told.{TellsEdge, OfEachEntry, TwinsAreToldFlagged, FlagsAreTold, FlaggedEdgesLeadHigh, EdgesStayInside, RootLeads, LeavesLeadNowhere, TagsLead, LowKeysStandHigh, FlaggedEdgesStandHigh}
-use Rattle.nm_order.specs.Told.TellsEdge.{ByLook, ByLink, ByFlag, ByTag, BySplice}
+use Rattle.nm_order.specs.Told.TellsEdge.{ByLook, ByLink, ByFlag, ByTag, BySplice, BySwap}
 use Rattle.nm_order.proofs.OrderedLaws.{law_of_state}
 use Rattle.nm_order.proofs.Sentinels.{sentinels_of, sentinel_is_high, flags_stand_high}
 use Rattle.nm_order.proofs.KnowledgeStays.{Answers, answers}
@@ -74,6 +74,7 @@ told_edge m _ _ _ _ is (ByLink x leaf new side e) = is
 told_edge m _ _ _ _ is (ByFlag x leaf side e) = is
 told_edge m _ _ _ _ is (ByTag x side e) = is.0
 told_edge m _ _ _ _ is (BySplice x s p side keep e) = is
+told_edge m _ _ _ _ is (BySwap x leaf new side e) = is
 
 pub live_then : (s : State) (h : ℕ → ℕ) (law : Lawful s h) (w x : ℕ) → knows (of s w) x ≡ true → IsLive (picture s h) x
 live_then s h law w x known = law.tree.guarded w x (record { from = x; known = known; path = []; ends = refl; is_slot = λ z. (let r = law.tree.known w x known in absurd (omega arith)) })

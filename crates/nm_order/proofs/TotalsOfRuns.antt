@@ -45,7 +45,8 @@ use Rattle.nm_order.proofs.EdgeOrigins.{EdgeOrigin}
 use Rattle.nm_order.proofs.EdgeOrigins.EdgeOrigin.{WasThere, IsFlaggedNow, LeadsToNew, LeadsNowhere}
 use Rattle.nm_order.proofs.TurnEdges.{LastEdge, last_edge, step_down, nothing_below, turn_origin}
 use Rattle.nm_order.proofs.CutTurns.{uncut_stays}
-use Rattle.nm_order.proofs.SetChanges.{turn_lasts, turn_was_reached, WinsNoLink}
+use Rattle.nm_order.proofs.SwapTurns.{swap_turn}
+use Rattle.nm_order.proofs.SetChanges.{is_won_swap, swap_entry, turn_lasts, turn_was_reached, WinsNoLink, WinsNoSwap}
 use Rattle.nm_order.proofs.OrderedMoments.{Lasting}
 use Rattle.nm_order.proofs.FlagFates.{one_more, first, has_key}
 use Rattle.nm_order.proofs.PendingLeaves.{each_flagged_leaf_is_pending, own_learns, flag_kept_so, flag_told}
@@ -100,12 +101,16 @@ module _ (L : Layout) (enough : 5 ≤ L.nodes) (ts : List (ℕ × Event)) (t : �
     o' = ordered_next L enough c t has o
 
     -- what is put in by no link was reached
-    back_unless : WinsNoLink L enough c t has o → StandsUnflagged c'.state.memory k → StandsUnflagged c.state.memory k
-    back_unless plain u = by (unflagged_was L enough c t has o k u)
+    back_unless : WinsNoLink L enough c t has o → WinsNoSwap L enough c t has o → StandsUnflagged c'.state.memory k
+        → StandsUnflagged c.state.memory k
+    back_unless plain unswapped u = by (unflagged_was L enough c t has o k u)
       where
         by : StandsUnflagged c.state.memory k ⊎ (is_private (of c.state t.0) (child c'.state.memory u.parent u.side) ≡ true) → StandsUnflagged c.state.memory k
         by (inl was) = was
-        by (inr held) = absurd (not_held L enough c t has o (child c'.state.memory u.parent u.side) (turn_was_reached L enough c t has o plain (child c'.state.memory u.parent u.side) (step_down c'.state.memory u.parent u.side u.reached u.is_slot)) held)
+        by (inr held) = absurd
+            (not_held L enough c t has o (child c'.state.memory u.parent u.side)
+            (turn_was_reached L enough c t has o plain unswapped (child c'.state.memory u.parent u.side)
+            (step_down c'.state.memory u.parent u.side u.reached u.is_slot)) held)
 
     module _ (r : Reply) (won : outcome_in c t ≡ Ok r) where
       differ_cut : (ns : List NodeId) → outcome_in c t ≡ Ok (Cut ns) → r ≡ Cut ns
@@ -287,7 +292,8 @@ module _ (L : Layout) (enough : 5 ≤ L.nodes) (ts : List (ℕ × Event)) (t : �
                 by : Agree links flags (StandsUnflagged c.state.memory k) → Next
                 by (inl x) = inr ((let e = x.0 in let a = no_link in let b = one_flag true is in omega (arith, e, a, b)), stands_flagged (eqb-true j k is))
                 by (inr x) = absurd (x.1 (stood (eqb-true j k is)))
-            go false is = same no_link (one_flag false is) (unflagged_stays L enough c t has o k none) (back_unless (no_link_won plain_link))
+            go false is = same no_link (one_flag false is) (unflagged_stays L enough c t has o k none)
+                (back_unless (no_link_won plain_link) (λ q told. ap (λ (e : Event). is_won_swap e q) l.is_event))
               where
                 none : FlagsNone L enough c t has o k
                 none p d leaf at why reached unmarked key_is = eqb-false j k is (sym marks.has_key ∙ (ap (key c.state.memory) (same_leaf (sym l.is_event ∙ at)) ∙ key_is))
@@ -298,13 +304,24 @@ module _ (L : Layout) (enough : 5 ≤ L.nodes) (ts : List (ℕ × Event)) (t : �
       -- ---- anything else
 
       of_neither : is_won_link (t.1, r) ≡ false → is_won_flag (t.1, r) ≡ false → Next
-      of_neither a b = same (once_none is_won_link k c t (is_of is_won_link false a)) (once_none is_won_flag k c t (is_of is_won_flag false b)) (unflagged_stays L enough c t has o k none) (back_unless (no_link_won a))
+      of_neither a b = go (is_won_swap t.1 r) refl
         where
           none : FlagsNone L enough c t has o k
           none p d leaf is why reached unmarked key_is = true≢false (sym (λ i. is_won_flag (is i, told i)) ∙ b)
             where
               told : r ≡ Flagged (named c.state.memory leaf)
               told = same_reply r (Flagged (named c.state.memory leaf)) (sym won ∙ (allowed_outcome c t why ∙ ap (λ (x : Reply). Ok x) (ap (reply_of c.state t.0) is ∙ flag_told c.state t.0 p leaf d unmarked)))
+
+          go : (x : Bool) → is_won_swap t.1 r ≡ x → Next
+          go true h =
+              let x = swap_entry t.1 r h in
+              let stays = (swap_turn L enough c t o x.0 x.1 x.2 x.3 x.5 x.4
+              (won ∙ ap (λ (q : Reply). Ok q) x.6)).unflagged k in
+              same (once_none is_won_link k c t (is_of is_won_link false a))
+              (once_none is_won_flag k c t (is_of is_won_flag false b)) stays.1 stays.0
+          go false h = same (once_none is_won_link k c t (is_of is_won_link false a))
+              (once_none is_won_flag k c t (is_of is_won_flag false b)) (unflagged_stays L enough c t has o k none)
+              (back_unless (no_link_won a) (λ q told. ap (is_won_swap t.1) (same_reply q r (sym told ∙ won)) ∙ h))
 
       of_reply : Next
       of_reply = go (is_won_link (t.1, r)) refl (is_won_flag (t.1, r)) refl

@@ -18,6 +18,9 @@ use Rattle.nm_laws.proofs.Views.{picture}
 use Rattle.nm_laws.proofs.Configurations.{refused_next}
 use Rattle.nm_order.specs.Intervals.{HasKey, key}
 use Rattle.nm_order.specs.Totals.{StandsUnflagged}
+use Rattle.nm_laws.proofs.Stays.{SpliceOrSwap}
+use Rattle.nm_order.specs.Removals.{is_splice}
+use Rattle.nm_order.proofs.SwapTurns.{swap_turn}
 use Rattle.nm_order.proofs.OrderedChanges.{off_root}
 use Rattle.nm_order.proofs.OrderedMoments.{Lasting}
 use Rattle.nm_order.proofs.OrderedLaws.{IsOrdered, ordered_next, law_of_state}
@@ -25,7 +28,7 @@ use Rattle.nm_order.proofs.FlaggedLeaves.{last_of}
 use Rattle.nm_order.proofs.EdgeOrigins.{EdgeOrigin}
 use Rattle.nm_order.proofs.EdgeOrigins.EdgeOrigin.{WasThere, IsFlaggedNow, LeadsToNew, LeadsNowhere}
 use Rattle.nm_order.proofs.TurnEdges.{LastEdge, last_edge, step_down, turn_origin, nothing_below}
-use Rattle.nm_order.proofs.CutTurns.{CutOrNot, cut_or_not}
+use Rattle.nm_order.proofs.CutTurns.{cut_is, CutOrNot, cut_or_not}
 use Rattle.nm_order.proofs.CutTurns.CutOrNot.{StaysReached, IsCutNow}
 use Rattle.nm_order.proofs.SetChanges.{turn_lasts}
 use Rattle.nm_order.proofs.PendingLeaves.{cut_leaf_hangs}
@@ -143,7 +146,14 @@ module _ (L : Layout) (enough : 5 ≤ L.nodes) (c : Configuration) (t : ℕ × E
         | inl root ↦ absurd (not_root root)
         | inr e ↦ on e (turn_origin L enough c t o e.parent e.reached e.side)
       ]
-      by (IsCutNow ns is among gone) =
-          let hangs = cut_leaf_hangs L enough c o t ns is (named c.state.memory (child c.state.memory u.parent u.side)) among u.leaf in
-          let one = one_edge u.parent hangs.0 u.side hangs.1 u.reached hangs.2 u.is_slot (sym hangs.4) in
-          absurd (true≢false (sym hangs.3 ∙ (ap (λ (y : ℕ). (edge c.state.memory y hangs.1).flag) (sym one.0) ∙ (ap (λ (f : Side). (edge c.state.memory u.parent f).flag) (sym one.1) ∙ u.unflagged))))
+      by (IsCutNow ns is among gone) = cut (cut_is L enough c t o ns is)
+        where
+          cut : SpliceOrSwap t.1 → StandsUnflagged (next_in c t).state.memory k
+          cut (inr e) = ((swap_turn L enough c t o e.0 e.1 e.2 e.3 e.4 ns is).unflagged k).1 u
+          cut (inl e) =
+              let hangs = cut_leaf_hangs L enough c o t ns is (ap is_splice e.5)
+              (named c.state.memory (child c.state.memory u.parent u.side)) among u.leaf in
+              let one = one_edge u.parent hangs.0 u.side hangs.1 u.reached hangs.2 u.is_slot (sym hangs.4) in
+              absurd (true≢false (sym hangs.3
+              ∙ (ap (λ (y : ℕ). (edge c.state.memory y hangs.1).flag) (sym one.0)
+              ∙ (ap (λ (f : Side). (edge c.state.memory u.parent f).flag) (sym one.1) ∙ u.unflagged))))

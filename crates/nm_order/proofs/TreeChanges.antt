@@ -8,7 +8,7 @@ use Rattle.nm_edge.specs.declared.edge.Side.TheVariants.{Left, Right}
 use Rattle.nm_model.specs.declared.memory.Node.{Node}
 use Rattle.nm_model.specs.declared.event.Field.{Field}
 use Rattle.nm_model.specs.declared.event.Event.{Event}
-use Rattle.nm_model.specs.declared.event.Event.TheVariants.{Fill, Link, Flag, Tag, Splice, Advance}
+use Rattle.nm_model.specs.declared.event.Event.TheVariants.{Fill, Link, Flag, Tag, Splice, Advance, Swap}
 use Rattle.nm_model.specs.Maps.{is_number}
 use Rattle.nm_model.specs.Memory.{Memory, blank, node, edge, child, put_edge, put_node}
 use Rattle.nm_model.specs.Knowledge.{is_private, read}
@@ -28,7 +28,8 @@ use Rattle.nm_laws.proofs.Views.{picture, edge_put}
 use Rattle.nm_laws.proofs.TreeSlots.{is_to-true}
 use Rattle.nm_laws.proofs.TreeLink.{Linkable, linkable, link_shown}
 use Rattle.nm_laws.proofs.TreeSteps.{Lawful, LinkChecked, link_checked, slot_inside, fill_checked}
-use Rattle.nm_laws.proofs.Cuts.{shown}
+use Rattle.nm_laws.proofs.Cuts.{shown, shown_swap}
+use Rattle.nm_laws.proofs.Swaps.{IsSwap}
 use Rattle.nm_laws.proofs.KnownBirths.{written_same}
 
 -- what the memory of a state becomes
@@ -37,11 +38,15 @@ pub data TreeChange (s : State) (h : ℕ → ℕ) (w : ℕ) (e : Event) (m : Mem
   Filled : (x : ℕ) → is_private (of s w) x ≡ true → Apart (child s.memory) (child m) (key s.memory) (key m) x → TreeChange s h w e m
   Linked : (p : ℕ) (d : Side) (leaf new : ℕ) → e ≡ Link p d leaf new → edge s.memory p d ≡ to leaf → (l : Linkable (of s w) new leaf) → IsLink s.layout.radix s.layout.nodes (picture s h) w p d leaf new l.far l.side
       → Exchanged (child s.memory) (child m) p d new → ((x : ℕ) → key m x ≡ key s.memory x) → TreeChange s h w e m
+  Swapped : (p : ℕ) (d : Side) (leaf new n : ℕ) → e ≡ Swap p d leaf new
+      → IsSwap s.layout.nodes (picture s h) w n p d leaf new
+      → Exchanged (child s.memory) (child m) p d new → ((x : ℕ) → key m x ≡ key s.memory x) → TreeChange s h w e m
   Spliced : (a : ℕ) (d : Side) (way : List Side) → Splicing (child s.memory) (child m) a d way → child s.memory a d ≢ 0
       → follow (child s.memory) (child s.memory a d) way ≢ 0 → ((x : ℕ) → key m x ≡ key s.memory x) → 6 ≤ child s.memory a d → TreeChange s h w e m
 
 -- an edge is exchanged
-exchanged_put : (m : Memory) (p : ℕ) (d : Side) (e : Edge) → p < length m.nodes → Exchanged (child m) (child (put_edge m p d e)) p d e.slot
+pub exchanged_put : (m : Memory) (p : ℕ) (d : Side) (e : Edge) → p < length m.nodes
+    → Exchanged (child m) (child (put_edge m p d e)) p d e.slot
 exchanged_put m p d e inside = record {
   here = ap (λ (y : Edge). y.slot) (edge_put m p d e inside p d ∙ with_edge-same (edge m) p d e);
   others = λ x g is. ap (λ (y : Edge). y.slot) (edge_put m p d e inside x g ∙ cond-false (eqb x p && same_side d g) e (edge m x g) is);
@@ -98,6 +103,21 @@ module _ (s : State) (h : ℕ → ℕ) (law : Lawful s h) (w : ℕ) where
       by true won keys = let k = won_link p d leaf new ok won in Linked p d leaf new refl k.unmarked k.drafts k.link k.exchanged keys
       by false lost keys = Kept (λ x g. refl) keys
 
+  swapping : (p : ℕ) (d : Side) (leaf new : ℕ) → Allowed s w (Swap p d leaf new)
+      → TreeChange s h w (Swap p d leaf new) (exchanged s.memory p d leaf (to new))
+  unfolding write
+  swapping p d leaf new ok = by (is_to (edge s.memory p d) leaf) refl same_keys'
+    where
+      same_keys' : (x : ℕ) → key (exchanged s.memory p d leaf (to new)) x ≡ key s.memory x
+      same_keys' x = same_keys (Swap p d leaf new) (λ y f v i. cc) x
+
+      by : (b : Bool) → is_to (edge s.memory p d) leaf ≡ b
+          → ((x : ℕ) → key (cond b (put_edge s.memory p d (to new)) s.memory) x ≡ key s.memory x)
+          → TreeChange s h w (Swap p d leaf new) (cond b (put_edge s.memory p d (to new)) s.memory)
+      by true won keys = let k = shown_swap s h law w p d leaf new ok won in
+          Swapped p d leaf new _ refl k.swap (exchanged_put s.memory p d (to new) k.inside) keys
+      by false lost keys = Kept (λ x g. refl) keys
+
   flagging : (p : ℕ) (d : Side) (leaf : ℕ) → Allowed s w (Flag p d leaf) → TreeChange s h w (Flag p d leaf) (exchanged s.memory p d leaf (flag_to leaf))
   unfolding refusal write
   flagging p d leaf ok = Kept (λ x g. by (is_to (edge s.memory p d) leaf) refl x g) same_keys'
@@ -142,4 +162,5 @@ module _ (s : State) (h : ℕ → ℕ) (law : Lawful s h) (w : ℕ) where
   tree_change (Flag p d leaf) ok = flagging p d leaf ok
   tree_change (Tag p d) ok = Kept (λ x g. marked s.memory p d (tagged (edge s.memory p d)) (slot_inside s h law p 1 (passed _ _ _ ok.event).0) refl x g) (same_keys (Tag p d) (λ y f v i. cc))
   tree_change (Splice a d x p keep) ok = splicing_off a d x p keep ok
+  tree_change (Swap p d leaf new) ok = swapping p d leaf new ok
   tree_change e ok = Kept (λ x d. refl) (λ x. refl)

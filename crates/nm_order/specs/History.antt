@@ -17,7 +17,7 @@ use Rattle.nm_model.specs.Ordered.{ordered, outcome_in, after_in, trace_in}
 use Rattle.nm_model.specs.Acts.{InSet, Act, Replays, nothing, IsAmong, leaf_keys, HasInARow}
 use Rattle.nm_order.specs.Intervals.{IsCalled}
 use Rattle.nm_order.specs.Exchanges.{MayAnswer, HasWonInsert, HasFlagged}
-use Rattle.nm_order.specs.Removals.{HasWonDelete}
+use Rattle.nm_order.specs.Removals.{is_splice, HasWonDelete}
 use Rattle.nm_order.specs.Legal.{changes}
 
 -- ---- lists of acts
@@ -120,6 +120,7 @@ pub record IsRunHistory (L : Layout) (turns : List (ℕ × Event)) (acts : List 
       (λ a. (a.worker ≡ w) × (a.op ≡ Insert) × (a.answer ≡ true))
   pub cuts : (before since : List (ℕ × Event)) (turn : ℕ × Event) (ns : List NodeId)
       → turns ≡ before ++ turn ∷ since → outcome_in (after_in (ordered L) before) turn ≡ Ok (Cut ns)
+      → is_splice turn.1 ≡ true
       → HasInARow acts (leaf_keys (after_in (ordered L) before).state.memory (slots_of ns))
       (length before + 1) (IsDeleteOf L before ns)
   pub moments : (before since : List (ℕ × Event)) → turns ≡ before ++ since

@@ -8,6 +8,7 @@ use Rattle.nm_model.specs.declared.reply.Reply.TheVariants.{Cut}
 use Rattle.nm_model.specs.Memory.{node, edge, child, is_leaf, named}
 use Rattle.nm_model.specs.Paths.{Reached}
 use Rattle.nm_model.specs.Ordered.{ordered, outcome_in, after_in}
+use Rattle.nm_order.specs.Removals.{is_splice}
 use Rattle.nm_order.specs.Exchanges.{HasFlagged}
 
 -- a leaf belongs to one delete: a call under its current pin has flagged it, and no call of another
@@ -27,10 +28,10 @@ FlaggedLeavesArePending L turns =
     → IsOfOneDelete L turns (named (after_in (ordered L) turns).state.memory
     (child (after_in (ordered L) turns).state.memory parent side))
 
--- each leaf of a cut is that of one delete, which is not answered yet
+-- each leaf of a cut by a splice is that of one delete, which is not answered yet
 abbrev pub CutLeavesAreOfOneDelete : Layout → List (ℕ × Event) → Type 0
 CutLeavesAreOfOneDelete L turns =
     (cut : ℕ × Event) (ns : List NodeId) → outcome_in (after_in (ordered L) turns) cut ≡ Ok (Cut ns)
-    → (n : NodeId) → Contains ns n
+    → is_splice cut.1 ≡ true → (n : NodeId) → Contains ns n
     → is_leaf (node (after_in (ordered L) turns).state.memory n.slot) ≡ true
     → IsOfOneDelete L turns n

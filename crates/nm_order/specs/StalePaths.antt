@@ -1,6 +1,6 @@
 -- Stale paths, for any key and under any pin: the slots to which the walks in a worker's log came
 -- after its pin was confirmed, with or without a call.
-use Rattle.std.specs.Prelude.{◌≡◌, ℕ, ◌<◌, false, List, [], ◌++◌, Some}
+use Rattle.std.specs.Prelude.{◌≡◌, ℕ, ◌<◌, false, List, [], ◌++◌, length, drop, Some}
 use Rattle.nm_edge.specs.Layouts.{Layout}
 use Rattle.nm_edge.specs.declared.edge.Side.{Side}
 use Rattle.nm_model.specs.declared.event.Event.{Event}
@@ -22,6 +22,11 @@ HasPin c u = (epoch : ℕ) × ((of c.state u).brief.pin ≡ Some epoch)
 abbrev pub log_under_pin : Layout → List (ℕ × Event) → ℕ → List Entry
 log_under_pin L turns u = since_pin [] (log_of u (trace_in (ordered L) turns))
 
+-- the same of the turns after the first turns of a run alone: what the worker looked at in them
+-- before it confirmed or left a pin is left out
+abbrev pub log_since : Layout → List (ℕ × Event) → List (ℕ × Event) → ℕ → List Entry
+log_since L past turns u = since_pin [] (log_of u (drop (length past) (trace_in (ordered L) turns)))
+
 -- at a moment of the run, under a pin that lasts from then on, the slot was reached and the search
 -- for k came to it. Its node at that moment is its node at the end: birth and key are the same, and
 -- it is a leaf at both or at neither (O'Hearn and others)
@@ -39,6 +44,11 @@ pub record WasReachedSince (c : Configuration) (turns : List (ℕ × Event)) (u 
       ≡ (node (after_in c turns).state.memory x).key
   pub same_kind : is_leaf (node (after_in c before).state.memory x)
       ≡ is_leaf (node (after_in c turns).state.memory x)
+
+-- at such a moment after the first turns of the run
+abbrev pub WasReachedLater : Layout → List (ℕ × Event) → List (ℕ × Event) → ℕ → ℕ → ℕ → Type 0
+WasReachedLater L past turns u k x =
+    (was : WasReachedSince (ordered L) turns u k x) × (length past < length was.before)
 
 -- in the shape of Natarajan and Mittal, each slot to which a walk for k came in a worker's log
 -- after its pin was reached after the pin, with k in its interval. The key may be any below the key

@@ -7,7 +7,7 @@ use Rattle.nm_edge.specs.declared.edge.Side.{Side}
 use Rattle.nm_edge.specs.declared.edge.Side.TheVariants.{Left}
 use Rattle.nm_edge.specs.declared.node.NodeId.{NodeId}
 use Rattle.nm_model.specs.declared.event.Field.TheVariants.{Key, Edge as EdgeOn}
-use Rattle.nm_model.specs.declared.event.Event.TheVariants.{Claim, Look, Link, Flag, Tag, Splice}
+use Rattle.nm_model.specs.declared.event.Event.TheVariants.{Claim, Look, Link, Flag, Tag, Splice, Swap}
 use Rattle.nm_model.specs.declared.reply.Reply.TheVariants.{Claimed, Flagged, Cut, KeyIs, EdgeIs, Was, Lost}
 use Rattle.nm_model.specs.declared.ledger.Queued.{Queued}
 use Rattle.nm_model.specs.Memory.{infinity_0}
@@ -34,6 +34,8 @@ pub data TellsEdge : Entry → ℕ → Side → Edge → Type 0 where
   ByTag : (x : ℕ) (side : Side) (e : Edge) → TellsEdge (Tag x side, Was e) x side e
   BySplice : (x s p : ℕ) (side keep : Side) (e : Edge)
       → TellsEdge (Splice x side s p keep, Lost e) x side e
+  BySwap : (x leaf new : ℕ) (side : Side) (e : Edge)
+      → TellsEdge (Swap x side leaf new, Lost e) x side e
 
 -- if an edge is known as tagged, its twin is returned as flagged
 abbrev pub TwinsAreToldFlagged : Layout → ℕ → List Entry → Entry → Type 0

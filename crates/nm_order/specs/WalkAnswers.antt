@@ -25,6 +25,11 @@ pub record WasSoUnderPin (L : Layout) (turns : List (ℕ × Event)) (w k : ℕ)
   pub stands : PinStands w (trace_in (after_in (ordered L) before) since)
   pub gives : Gives (InSet (after_in (ordered L) before).state.memory) Has k answer
 
+-- so it was at such a moment after the first turns of the run
+abbrev pub WasSoLater : Layout → List (ℕ × Event) → List (ℕ × Event) → ℕ → ℕ → Bool → Type 0
+WasSoLater L past turns w k answer =
+    (was : WasSoUnderPin L turns w k answer) × (length past < length was.before)
+
 -- the leaf at which a walk in a worker's log after its pin ended shows by its key whether the
 -- walk's key was in the set at a moment under the pin. The key may be any below the key of slot 2
 -- (O'Hearn and others)

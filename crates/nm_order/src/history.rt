@@ -9,16 +9,17 @@ ghost use Rattle.nm_order.specs.Legal.{OtherAnswersWereLegal};
 ghost use Rattle.nm_order.specs.Moments.{OfEachOrderedRun};
 ghost use Rattle.nm_order.specs.Pending.{CutLeavesAreOfOneDelete, FlaggedLeavesArePending};
 ghost use Rattle.nm_order.specs.RealTime.{HistoriesHaveOneActACall, HistoriesKeepRealTime};
-ghost use Rattle.nm_order.specs.Removals.{CutsTakeTheirKeys, TrueDeletesHaveDeleted};
+ghost use Rattle.nm_order.specs.Removals.{CutsTakeTheirKeys, SwapsTakeNoKey, TrueDeletesHaveDeleted};
 ghost use Rattle.nm_order.specs.Totals.{TotalsAgree, TotalsAreTheSet};
 
 /// Law: for every ordered run, a true delete is a cut: at a moment of the run, under its current
-/// pin, a splice of some worker cut the leaf that the call had flagged. A cut removes from the set
-/// exactly the keys of its leaves. Each leaf of a cut is that of one delete, which is not answered
-/// yet. (The cleanup of Natarajan and Mittal, section 3.2.)
+/// pin, a splice of some worker cut the leaf that the call had flagged. A splice removes from the set
+/// exactly the keys of its leaves, and a swap removes none. Each leaf of a splice is that of one
+/// delete, which is not answered yet. (The cleanup of Natarajan and Mittal, section 3.2.)
 pub fn deletes_are_cuts()
     ensures moments { OfEachOrderedRun TrueDeletesHaveDeleted }
     ensures takes { OfEachOrdered CutsTakeTheirKeys }
+    ensures swaps { OfEachOrdered SwapsTakeNoKey }
     ensures one { OfEachOrderedRun CutLeavesAreOfOneDelete }
 {}
 

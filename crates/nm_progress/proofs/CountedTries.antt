@@ -8,7 +8,7 @@ use Rattle.nm_edge.specs.Layouts.{Layout}
 use Rattle.nm_edge.specs.declared.edge.Side.{Side}
 use Rattle.nm_model.specs.declared.event.Field.TheVariants.{Edge as EdgeOn}
 use Rattle.nm_model.specs.declared.event.Event.{Event}
-use Rattle.nm_model.specs.declared.event.Event.TheVariants.{Look, Link, Flag, Tag, Splice, Join}
+use Rattle.nm_model.specs.declared.event.Event.TheVariants.{Look, Link, Flag, Tag, Splice, Swap, Join}
 use Rattle.nm_model.specs.declared.reply.Reply.{Reply}
 use Rattle.nm_model.specs.declared.reply.Reply.TheVariants.{EdgeIs, Linked, Flagged, Was, Cut, Lost}
 use Rattle.nm_model.specs.declared.reply.Refused.{Refused}
@@ -28,7 +28,7 @@ use Rattle.nm_order.proofs.OrderedLaws.{IsOrdered, ordered_next, each_ordered}
 use Rattle.nm_order.proofs.PartsOfRuns.{logs_tell}
 use Rattle.nm_order.proofs.RunExchanges.{first_keys}
 use Rattle.nm_progress.specs.Changes.{is_bare, is_at, changes, is_change, IsChangedByAnother, Expects}
-use Rattle.nm_progress.specs.Changes.Expects.{ToLink, ToFlag, ToCut}
+use Rattle.nm_progress.specs.Changes.Expects.{ToLink, ToFlag, ToCut, ToSwap}
 use Rattle.nm_progress.specs.Moves.{number_of}
 use Rattle.nm_progress.specs.Paid.{links_on, flags_on, cuts_on, tags_on, links_in, flags_in, cuts_in, tags_in}
 use Rattle.nm_progress.specs.Tries.{changes_edge, changes_of_others, interferes, own_flags, HindrancesArePaid, HindrancesAreByOthers, reading, losing, LosesTries, OfEachPart, TriesAreLostToChanges, TriesArePaid, TriesArePaidEver}
@@ -41,12 +41,13 @@ use Rattle.nm_progress.proofs.Covers.{one_if}
 
 -- ---- one change
 
--- a change of some edge is one of the four kinds
+-- a change of some edge is one of the kinds
 pub change_is : (x : ℕ) (d : Side) (e : Event) (o : Result Reply Refused) → changes x d e o ≡ true → changes_edge e o ≡ true
 change_is x d (Link p side leaf new) (Ok (Linked n)) is = refl
 change_is x d (Flag p side leaf) (Ok (Flagged n)) is = refl
 change_is x d (Tag p side) (Ok (Was e)) is = (and_parts (is_at x d p side) (is_bare e) is).1
 change_is x d (Splice a side s p keep) (Ok (Cut ns)) is = refl
+change_is x d (Swap p side leaf new) (Ok (Cut ns)) is = refl
 change_is x d e o is = absurd (true≢false (sym is))
 
 some_change : (w x v : ℕ) (d : Side) (c : Configuration) (ts : List (ℕ × Event)) → IsChangedByAnother c ts w x d v → 1 ≤ number_of (changes_of_others w) (trace_in c ts)
@@ -80,6 +81,7 @@ expects_no_join : (x : ℕ) (d : Side) (s : ℕ) (e : Event) → Expects x d s e
 expects_no_join x d s _ (ToLink new) v e = cc
 expects_no_join x d s _ ToFlag v e = cc
 expects_no_join x d s _ (ToCut p keep) v e = cc
+expects_no_join x d s _ (ToSwap new) v e = cc
 
 -- ---- over a part
 

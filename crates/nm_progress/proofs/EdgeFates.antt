@@ -11,7 +11,7 @@ use Rattle.nm_edge.specs.declared.edge.Side.TheVariants.{Left, Right}
 use Rattle.nm_edge.specs.declared.node.NodeId.{NodeId}
 use Rattle.nm_model.specs.declared.memory.Node.{Node}
 use Rattle.nm_model.specs.declared.event.Event.{Event}
-use Rattle.nm_model.specs.declared.event.Event.TheVariants.{Fill, Link, Flag, Tag, Splice, Advance}
+use Rattle.nm_model.specs.declared.event.Event.TheVariants.{Fill, Link, Flag, Tag, Splice, Swap, Advance}
 use Rattle.nm_model.specs.declared.event.Field.{Field}
 use Rattle.nm_model.specs.declared.reply.Reply.{Reply}
 use Rattle.nm_model.specs.declared.reply.Reply.TheVariants.{Linked, Flagged, Was, Cut, Lost}
@@ -28,7 +28,7 @@ use Rattle.nm_laws.proofs.Steps.{Allowed, allowed, passed}
 use Rattle.nm_laws.proofs.TreeSlots.{is_to-true}
 use Rattle.nm_laws.proofs.TreeSteps.{Lawful, slot_inside, fill_checked}
 use Rattle.nm_laws.proofs.Configurations.{refused_next, refused_outcome, allowed_next, allowed_outcome}
-use Rattle.nm_laws.proofs.Cuts.{shown}
+use Rattle.nm_laws.proofs.Cuts.{shown, shown_swap}
 use Rattle.nm_order.proofs.TreeChanges.{won_link}
 use Rattle.nm_order.proofs.FlaggedPaths.{Put, put_case}
 use Rattle.nm_order.proofs.FlaggedPaths.Put.{Here, There}
@@ -50,6 +50,8 @@ pub data EdgeFate (s : State) (w : ℕ) (e : Event) (m : Memory) (r : Reply) (x 
   IsFlagged : (leaf : ℕ) (n : NodeId) → e ≡ Flag x d leaf → r ≡ Flagged n → edge s.memory x d ≡ to leaf → edge m x d ≡ flag_to leaf → EdgeFate s w e m r x d
   IsTagged : e ≡ Tag x d → r ≡ Was (edge s.memory x d) → edge m x d ≡ tagged (edge s.memory x d) → EdgeFate s w e m r x d
   IsSpliced : (y p : ℕ) (keep : Side) (ns : List NodeId) → e ≡ Splice x d y p keep → r ≡ Cut ns → edge s.memory x d ≡ to y → edge m x d ≡ kept (read (of s w) p keep) → EdgeFate s w e m r x d
+  IsSwapped : (leaf new : ℕ) (ns : List NodeId) → e ≡ Swap x d leaf new → r ≡ Cut ns → edge s.memory x d ≡ to leaf
+      → edge m x d ≡ to new → EdgeFate s w e m r x d
 
 module _ (s : State) (h : ℕ → ℕ) (law : Lawful s h) (w x : ℕ) (d : Side) (shared : is_private (of s w) x ≡ false) where
   abbrev Fate : Event → Memory → Reply → Type 0
@@ -88,6 +90,17 @@ module _ (s : State) (h : ℕ → ℕ) (law : Lawful s h) (w x : ℕ) (d : Side)
       by (Here at side is) = IsSpliced y p keep (cut_nodes s.layout s.memory (of s w) y p keep) (λ i. Splice (sym at i) (side i) y p keep) told (ap (λ (z : ℕ). edge s.memory z d) at ∙ (ap (edge s.memory a) (sym side) ∙ is_to-true (edge s.memory a g) y won)) is
       by (There is) = Kept is
 
+  swapping : (p : ℕ) (g : Side) (leaf new : ℕ) (r : Reply) → p < length s.memory.nodes
+      → is_to (edge s.memory p g) leaf ≡ true → r ≡ Cut (named s.memory leaf ∷ [])
+      → Fate (Swap p g leaf new) (put_edge s.memory p g (to new)) r
+  swapping p g leaf new r inside won told = by (put_case s.memory p g (to new) inside x d)
+    where
+      by : Put s.memory p g (to new) x d → Fate (Swap p g leaf new) (put_edge s.memory p g (to new)) r
+      by (Here at side is) = IsSwapped leaf new (named s.memory leaf ∷ []) (λ i. Swap (sym at i) (side i) leaf new) told
+          (ap (λ (z : ℕ). edge s.memory z d) at
+          ∙ (ap (edge s.memory p) (sym side) ∙ is_to-true (edge s.memory p g) leaf won)) is
+      by (There is) = Kept is
+
   exchange : (e : Event) (b : Bool) (m : Memory) (won lost : Reply) → (b ≡ true → Fate e m won) → Fate e (cond b m s.memory) (cond b won lost)
   exchange e true m won lost f = f refl
   exchange e false m won lost f = Kept refl
@@ -100,6 +113,9 @@ module _ (s : State) (h : ℕ → ℕ) (law : Lawful s h) (w x : ℕ) (d : Side)
   edge_fates (Flag p g leaf) ok = exchange (Flag p g leaf) (is_to (edge s.memory p g) leaf) (put_edge s.memory p g (flag_to leaf)) (Flagged (named s.memory leaf)) (Lost (edge s.memory p g)) (λ won. flagging p g leaf _ (slot_inside s h law p 1 (or_parts (outside 1 s.layout.nodes p) (outside 6 s.layout.nodes leaf) (passed _ _ _ ok.event).0).0) won refl)
   edge_fates (Tag p g) ok = tagging p g _ (slot_inside s h law p 1 (passed _ _ _ ok.event).0) refl
   edge_fates (Splice a g y p keep) ok = exchange (Splice a g y p keep) (is_to (edge s.memory a g) y) (put_edge s.memory a g (kept (read (of s w) p keep))) (Cut (cut_nodes s.layout s.memory (of s w) y p keep)) (Lost (edge s.memory a g)) (λ won. splicing a g y p keep _ (shown s h law w a g y p keep ok won).inside won refl)
+  edge_fates (Swap p g leaf new) ok = exchange (Swap p g leaf new) (is_to (edge s.memory p g) leaf)
+      (put_edge s.memory p g (to new)) (Cut (named s.memory leaf ∷ [])) (Lost (edge s.memory p g))
+      (λ won. swapping p g leaf new _ (shown_swap s h law w p g leaf new ok won).inside won refl)
   edge_fates e ok = Kept refl
 
 -- ---- one turn

@@ -12,7 +12,7 @@ use Rattle.nm_edge.specs.declared.edge.Side.{Side}
 use Rattle.nm_edge.specs.declared.edge.Side.TheVariants.{Left, Right}
 use Rattle.nm_edge.specs.declared.node.NodeId.{NodeId}
 use Rattle.nm_model.specs.declared.event.Event.{Event}
-use Rattle.nm_model.specs.declared.event.Event.TheVariants.{Sight, Link, Look, Flag, Tag, Splice}
+use Rattle.nm_model.specs.declared.event.Event.TheVariants.{Sight, Link, Look, Flag, Tag, Splice, Swap}
 use Rattle.nm_model.specs.declared.event.Field.TheVariants.{Key as KeyOf, Edge as EdgeOn}
 use Rattle.nm_model.specs.declared.reply.Refused.{Refused}
 use Rattle.nm_model.specs.declared.reply.Reply.{Reply}
@@ -77,6 +77,7 @@ none_refused (Link a b f g) x = refl
 none_refused (Flag a b f) x = refl
 none_refused (Tag a b) x = refl
 none_refused (Splice a b f g h) x = refl
+none_refused (Swap a b f g) x = refl
 none_refused e x = refl
 
 -- fewer turns interfere a worker than change an edge

@@ -9,7 +9,7 @@ use Rattle.nm_edge.specs.Layouts.{Layout}
 use Rattle.nm_edge.specs.declared.edge.Side.{Side}
 use Rattle.nm_model.specs.declared.event.Field.TheVariants.{Edge as EdgeOn}
 use Rattle.nm_model.specs.declared.event.Event.{Event}
-use Rattle.nm_model.specs.declared.event.Event.TheVariants.{Look, Link, Flag, Tag, Splice}
+use Rattle.nm_model.specs.declared.event.Event.TheVariants.{Look, Link, Flag, Tag, Splice, Swap}
 use Rattle.nm_model.specs.declared.reply.Reply.{Reply}
 use Rattle.nm_model.specs.declared.reply.Reply.TheVariants.{EdgeIs, Linked, Flagged, Was, Cut, Lost}
 use Rattle.nm_model.specs.declared.reply.Refused.{Refused}
@@ -29,9 +29,9 @@ use Rattle.nm_order.proofs.OwnTurns.{stands_parts}
 use Rattle.nm_order.proofs.RunMoments.{entries, allowed_entries}
 use Rattle.nm_order.proofs.RunExchanges.{first_keys}
 use Rattle.nm_progress.specs.Changes.{is_at, changes, is_change, IsChangedByAnother, Expects, behind_look, LostTriesAreToOthers}
-use Rattle.nm_progress.specs.Changes.Expects.{ToLink, ToFlag, ToCut}
+use Rattle.nm_progress.specs.Changes.Expects.{ToLink, ToFlag, ToCut, ToSwap}
 use Rattle.nm_progress.proofs.EdgeFates.{same_place, EdgeFate, TurnFate, turn_fates, known_still}
-use Rattle.nm_progress.proofs.EdgeFates.EdgeFate.{Kept, IsLinked, IsFlagged, IsTagged, IsSpliced}
+use Rattle.nm_progress.proofs.EdgeFates.EdgeFate.{Kept, IsLinked, IsFlagged, IsTagged, IsSpliced, IsSwapped}
 use Rattle.nm_progress.proofs.EdgeFates.TurnFate.{Refuses, Makes}
 
 -- ---- lists
@@ -76,6 +76,13 @@ never_lost s w x d v _ found (ToCut p keep) is lost = by (is_to (edge s.memory x
     by : (b : Bool) → b ≡ true → cond b (Cut (cut_nodes s.layout s.memory (of s w) v p keep)) (Lost (edge s.memory x d)) ≡ Lost found → ⊥
     by true t e = cc
     by false t e = true≢false (sym t)
+never_lost s w x d v _ found (ToSwap new) is lost =
+    by (is_to (edge s.memory x d) v) (ap (λ (e : Edge). is_to e v) is
+    ∙ and_from (v == v) true (eq-eqb v v refl) refl) lost
+  where
+    by : (b : Bool) → b ≡ true → cond b (Cut (named s.memory v ∷ [])) (Lost (edge s.memory x d)) ≡ Lost found → ⊥
+    by true t e = cc
+    by false t e = true≢false (sym t)
 
 -- ---- over turns
 
@@ -93,6 +100,9 @@ module _ (L : Layout) (enough : 5 ≤ L.nodes) (w x : ℕ) (d : Side) (v : ℕ) 
       on r told (IsFlagged leaf n event reply was now) = inl ((λ i. changes x d (event i) (told i)) ∙ (ap (λ (r : Reply). changes x d (Flag x d leaf) (Ok r)) reply ∙ same_place x d))
       on r told (IsTagged event reply now) = inl ((λ i. changes x d (event i) (told i)) ∙ (ap (λ (r : Reply). changes x d (Tag x d) (Ok r)) (reply ∙ ap (λ (e : Edge). Was e) is) ∙ and_from (is_at x d x d) true (same_place x d) refl))
       on r told (IsSpliced y p keep ns event reply was now) = inl ((λ i. changes x d (event i) (told i)) ∙ (ap (λ (r : Reply). changes x d (Splice x d y p keep) (Ok r)) reply ∙ same_place x d))
+      on r told (IsSwapped leaf new ns event reply was now) =
+          inl ((λ i. changes x d (event i) (told i))
+          ∙ (ap (λ (r : Reply). changes x d (Swap x d leaf new) (Ok r)) reply ∙ same_place x d))
 
       by : TurnFate c t x d → (changes x d t.1 (outcome_in c t) ≡ true) ⊎ (edge (next_in c t).state.memory x d ≡ to v)
       by (Refuses q told same) = inr (ap (λ (d' : Configuration). edge d'.state.memory x d) same ∙ is)
@@ -107,6 +117,7 @@ module _ (L : Layout) (enough : 5 ≤ L.nodes) (w x : ℕ) (d : Side) (v : ℕ) 
       refused_changes (Flag a b f) q is = true≢false (sym is)
       refused_changes (Tag a b) q is = true≢false (sym is)
       refused_changes (Splice a b f g h) q is = true≢false (sym is)
+      refused_changes (Swap a b f g) q is = true≢false (sym is)
       refused_changes e q is = true≢false (sym is)
 
       by : (o : Result Reply Refused) → outcome_in c t ≡ o → changes x d t.1 o ≡ true → ⊥
@@ -173,6 +184,10 @@ look_leaves L enough c o w x d v known read = (known_still L enough c look o w x
     on r (IsSpliced y p keep ns event reply was now) = absurd (differ event)
       where
         differ : Look x (EdgeOn d) ≡ Splice x d y p keep → ⊥
+        differ e = cc
+    on r (IsSwapped leaf new ns event reply was now) = absurd (differ event)
+      where
+        differ : Look x (EdgeOn d) ≡ Swap x d leaf new → ⊥
         differ e = cc
 
     by : TurnFate c (w, Look x (EdgeOn d)) x d → edge (next_in c (w, Look x (EdgeOn d))).state.memory x d ≡ to v

@@ -4,7 +4,7 @@ use Rattle.std.specs.Prelude.{Option, Some, None, Result, Ok, Err, unwrap_or}
 use Rattle.std.proofs.lemmas.Bool.{cond_both, eqb-false}
 use Rattle.nm_edge.specs.Edges.{to, is_to}
 use Rattle.nm_model.specs.declared.event.Event.{Event}
-use Rattle.nm_model.specs.declared.event.Event.TheVariants.{Sight, SightFor, Announce, Advance, Link, Flag, Splice, Join}
+use Rattle.nm_model.specs.declared.event.Event.TheVariants.{Sight, SightFor, Announce, Advance, Link, Flag, Splice, Swap, Join}
 use Rattle.nm_model.specs.declared.reply.Reply.{Reply}
 use Rattle.nm_model.specs.declared.reply.Reply.TheVariants.{Saw, Labelled, Pinned, Announced, Missed, Moved, Behind}
 use Rattle.nm_model.specs.declared.reply.Refused.{Refused}
@@ -35,6 +35,8 @@ epoch_step s w Advance = by (is_number (of s w).brief.seen s.memory.epoch)
 epoch_step s w (Link p d leaf new) = cond_both (is_to (edge s.memory p d) leaf) (put_edge s.memory p d (to new)) s.memory (λ m. m.epoch ≡ s.memory.epoch + 0) (λ _. omega arith) (λ _. omega arith)
 epoch_step s w (Flag p d leaf) = cond_both (is_to (edge s.memory p d) leaf) (put_edge s.memory p d (flag_to leaf)) s.memory (λ m. m.epoch ≡ s.memory.epoch + 0) (λ _. omega arith) (λ _. omega arith)
 epoch_step s w (Splice a d x p keep) = cond_both (is_to (edge s.memory a d) x) (put_edge s.memory a d (kept (read (of s w) p keep))) s.memory (λ m. m.epoch ≡ s.memory.epoch + 0) (λ _. omega arith) (λ _. omega arith)
+epoch_step s w (Swap p d leaf new) = cond_both (is_to (edge s.memory p d) leaf)
+    (put_edge s.memory p d (to new)) s.memory (λ m. m.epoch ≡ s.memory.epoch + 0) (λ _. omega arith) (λ _. omega arith)
 epoch_step s w e = omega arith
 
 refused_moves : (e : Event) (q : Refused) → moves_on e (Err q) ≡ false

@@ -5,7 +5,7 @@ use Rattle.nm_edge.specs.Layouts.{Layout}
 use Rattle.nm_edge.specs.declared.node.NodeId.{NodeId}
 use Rattle.nm_model.specs.declared.arrivals.Call.{Call}
 use Rattle.nm_model.specs.declared.event.Event.{Event}
-use Rattle.nm_model.specs.declared.event.Event.TheVariants.{Sight, SightFor, Leave, LeaveWith, Look, Link, Flag, Splice}
+use Rattle.nm_model.specs.declared.event.Event.TheVariants.{Sight, SightFor, Leave, LeaveWith, Look, Link, Flag, Splice, Swap}
 use Rattle.nm_model.specs.declared.event.Field.{Field}
 use Rattle.nm_model.specs.declared.reply.Reply.{Reply}
 use Rattle.nm_model.specs.declared.reply.Reply.TheVariants.{Pinned, Departed, Linked, Flagged, Cut}
@@ -36,6 +36,7 @@ leaf_own s (Look slot field) r = sym (looked_for s s.call slot field r)
 leaf_own s (Link p side leaf new) (Linked n) = refl
 leaf_own s (Flag p side leaf) (Flagged n) = refl
 leaf_own s (Splice a side x p keep) (Cut ns) = refl
+leaf_own s (Swap p side leaf new) (Cut ns) = refl
 leaf_own s e r = refl
 
 leaf_refused : (so : Option NodeId) (e : Event) (x : Refused) → leaf_by so e (Err x) ≡ so

@@ -1,6 +1,6 @@
 -- While nothing is linked or cut off, each reached node stays, with its key and the slots to which
 -- its edges lead; and no path is longer than there are slots.
-use Rattle.std.proofs.Common.{◌≡◌, ◌≢◌, ℕ, suc, ◌+◌, ◌≤◌, eqb, ◌==◌, Bool, true, false, cond, not, ◌&&◌, List, length, [], ◌∷◌, ◌++◌, append_assoc, refl, sym, ap, subst, ◌∙◌, arith, true≢false}
+use Rattle.std.proofs.Common.{◌≡◌, inl, inr, ◌≢◌, ℕ, suc, ◌+◌, ◌≤◌, eqb, ◌==◌, Bool, true, false, cond, not, ◌&&◌, List, length, [], ◌∷◌, ◌++◌, append_assoc, refl, sym, ap, subst, ◌∙◌, arith, true≢false}
 use Rattle.std.specs.Prelude.{Result, Ok, Err, All}
 use Rattle.std.specs.List.{list_any}
 use Rattle.std.proofs.lemmas.Bool.{or_parts, ne_eqb}
@@ -11,7 +11,7 @@ use Rattle.nm_edge.specs.declared.edge.Side.{Side}
 use Rattle.nm_edge.specs.declared.node.NodeId.{NodeId}
 use Rattle.nm_model.specs.declared.event.Field.TheVariants.{Key as KeyOf, Edge as EdgeOn}
 use Rattle.nm_model.specs.declared.event.Event.{Event}
-use Rattle.nm_model.specs.declared.event.Event.TheVariants.{Look, Link, Splice}
+use Rattle.nm_model.specs.declared.event.Event.TheVariants.{Look, Link, Splice, Swap}
 use Rattle.nm_model.specs.declared.reply.Reply.{Reply}
 use Rattle.nm_model.specs.declared.reply.Reply.TheVariants.{KeyIs, EdgeIs, Cut}
 use Rattle.nm_model.specs.declared.reply.Refused.{Refused}
@@ -31,7 +31,8 @@ use Rattle.nm_order.specs.Logs.{part_of}
 use Rattle.nm_order.proofs.OrderedLaws.{IsOrdered, ordered_next, law_of_state}
 use Rattle.nm_order.proofs.RunExchanges.{first_keys}
 use Rattle.nm_order.proofs.WalksOfRuns.{trace_in-append}
-use Rattle.nm_order.proofs.CutTurns.{uncut_stays, cut_is_splice}
+use Rattle.nm_order.proofs.CutTurns.{uncut_stays, cut_is}
+use Rattle.nm_laws.proofs.Stays.{SpliceOrSwap}
 use Rattle.nm_order.proofs.OrderedMoments.{Lasting}
 use Rattle.nm_order.proofs.SetChanges.{turn_lasts}
 use Rattle.nm_order.proofs.ToldLaws.{key_told}
@@ -40,7 +41,7 @@ use Rattle.nm_progress.specs.Moves.{number_of}
 use Rattle.nm_progress.specs.Paid.{links_on, cuts_on}
 use Rattle.nm_progress.specs.Tries.{reshapes, reshapes_of_others}
 use Rattle.nm_progress.proofs.EdgeFates.{EdgeFate, TurnFate, turn_fates}
-use Rattle.nm_progress.proofs.EdgeFates.EdgeFate.{Kept, IsLinked, IsFlagged, IsTagged, IsSpliced}
+use Rattle.nm_progress.proofs.EdgeFates.EdgeFate.{Kept, IsLinked, IsFlagged, IsTagged, IsSpliced, IsSwapped}
 use Rattle.nm_progress.proofs.EdgeFates.TurnFate.{Refuses, Makes}
 use Rattle.nm_progress.proofs.LostTries.{later_keys}
 use Rattle.nm_progress.proofs.SplitTurns.{SplitTurn, split_turn, number_split, number-append, ordered_after}
@@ -72,10 +73,11 @@ module _ (L : Layout) (enough : 5 ≤ L.nodes) where
       none = or_parts (links_on t.1 (outcome_in c t)) (cuts_on t.1 (outcome_in c t)) calm
 
       uncut : (ns : List NodeId) → outcome_in c t ≡ Ok (Cut ns) → ⊥
-      uncut ns is = by (cut_is_splice L enough c t o ns is)
+      uncut ns is = by (cut_is L enough c t o ns is)
         where
-          by : (a : ℕ) × (side : Side) × (x : ℕ) × (p : ℕ) × (keep : Side) × (t.1 ≡ Splice a side x p keep) → ⊥
-          by s = true≢false ((λ i. cuts_on (sym s.5 i) (sym is i)) ∙ none.1)
+          by : SpliceOrSwap t.1 → ⊥
+          by (inl s) = true≢false ((λ i. cuts_on (sym s.5 i) (sym is i)) ∙ none.1)
+          by (inr s) = true≢false ((λ i. links_on (sym s.4 i) (sym is i)) ∙ none.0)
 
       on : (g : Side) (q : Reply) → outcome_in c t ≡ Ok q → EdgeFate c.state t.0 t.1 (next_in c t).state.memory q y g → child (next_in c t).state.memory y g ≡ child c.state.memory y g
       on g q told (Kept same) = ap (λ (e : Edge). e.slot) same
@@ -83,6 +85,9 @@ module _ (L : Layout) (enough : 5 ≤ L.nodes) where
       on g q told (IsFlagged l n e answer was now) = ap (λ (e : Edge). e.slot) now ∙ sym (ap (λ (e : Edge). e.slot) was)
       on g q told (IsTagged e answer now) = ap (λ (e : Edge). e.slot) now
       on g q told (IsSpliced a b n ns e answer was now) = absurd (true≢false ((λ i. cuts_on (sym e i) ((ap (λ (q : Reply). Ok q) (sym answer) ∙ sym told) i)) ∙ none.1))
+      on g q told (IsSwapped l m ns e answer was now) =
+          absurd (true≢false ((λ i. links_on (sym e i) ((ap (λ (q : Reply). Ok q) (sym answer) ∙ sym told) i))
+          ∙ none.0))
 
       tag_on : (g : Side) (q : Reply) → outcome_in c t ≡ Ok q → child c.state.memory y g ≢ 0 → (edge c.state.memory y g).tag ≡ true → EdgeFate c.state t.0 t.1 (next_in c t).state.memory q y g → (edge (next_in c t).state.memory y g).tag ≡ true
       tag_on g q told some tag (Kept same) = ap (λ (e : Edge). e.tag) same ∙ tag
@@ -90,6 +95,9 @@ module _ (L : Layout) (enough : 5 ≤ L.nodes) where
       tag_on g q told some tag (IsFlagged l n e answer was now) = absurd (true≢false (sym tag ∙ ap (λ (e : Edge). e.tag) was))
       tag_on g q told some tag (IsTagged e answer now) = ap (λ (e : Edge). e.tag) now ∙ ap not (ne_eqb (child c.state.memory y g) 0 some)
       tag_on g q told some tag (IsSpliced a b n ns e answer was now) = absurd (true≢false ((λ i. cuts_on (sym e i) ((ap (λ (q : Reply). Ok q) (sym answer) ∙ sym told) i)) ∙ none.1))
+      tag_on g q told some tag (IsSwapped l m ns e answer was now) =
+          absurd (true≢false ((λ i. links_on (sym e i) ((ap (λ (q : Reply). Ok q) (sym answer) ∙ sym told) i))
+          ∙ none.0))
 
       marked : (g : Side) → child c.state.memory y g ≢ 0 → (edge c.state.memory y g).tag ≡ true → TurnFate c t y g → (edge (next_in c t).state.memory y g).tag ≡ true
       marked g some tag (Refuses q e same) = ap (λ (d : Configuration). (edge d.state.memory y g).tag) same ∙ tag
@@ -168,6 +176,7 @@ module _ (L : Layout) (enough : 5 ≤ L.nodes) where
 none_reshapes : (e : Event) (x : Refused) → reshapes e (Err x) ≡ false
 none_reshapes (Link a b f g) x = refl
 none_reshapes (Splice a b f g h) x = refl
+none_reshapes (Swap a b f g) x = refl
 none_reshapes e x = refl
 
 -- where a worker's own log links and cuts nothing, and no other does, nobody does

@@ -31,7 +31,8 @@ use Rattle.nm_order.specs.Moments.{OfEachOrderedRun}
 use Rattle.nm_order.proofs.OrderedLaws.{IsOrdered, ordered_next, each_ordered}
 use Rattle.nm_order.proofs.OwnTurns.{own_search}
 use Rattle.nm_order.proofs.RunExchanges.{first_keys}
-use Rattle.nm_order.proofs.CutTurns.{layout_is, cut_shows, cut_goes_down, cut_is_splice}
+use Rattle.nm_order.proofs.CutTurns.{layout_is, cut_shows, cut_goes_down}
+use Rattle.nm_laws.proofs.Stays.{IsSplice}
 use Rattle.nm_order.proofs.TurnEdges.{turn_origin, step_down}
 use Rattle.nm_order.proofs.EdgeOrigins.EdgeOrigin.{WasThere, IsFlaggedNow, LeadsToNew, LeadsNowhere}
 use Rattle.nm_order.proofs.EdgeOrigins.{EdgeOrigin}
@@ -66,7 +67,8 @@ cut_some s w a x p d keep ns told none = by (is_to (edge s.memory a d) x) told
         differ e = cc
 
 cuts_shown : (e : Event) (o : Result Reply Refused) → cuts_on e o ≡ true → (ns : List NodeId) × (o ≡ Ok (Cut ns))
-cuts_shown (Splice a d x p keep) (Ok (Cut ns)) is = (ns, refl)
+    × IsSplice e
+cuts_shown (Splice a d x p keep) (Ok (Cut ns)) is = (ns, refl, (a, d, x, p, keep, refl))
 cuts_shown e o is = absurd (true≢false (sym is))
 
 pub flags_shown : (e : Event) (o : Result Reply Refused) → flags_on e o ≡ true → (p : ℕ) × (d : Side) × (leaf : ℕ) × (n : NodeId) × (e ≡ Flag p d leaf) × (o ≡ Ok (Flagged n))
@@ -92,12 +94,10 @@ module _ (L : Layout) (enough : 5 ≤ L.nodes) (c : Configuration) (t : ℕ × E
   contains_at : (xs : List ℕ) (i x : ℕ) → slice_get xs i ≡ Some x → Contains xs x
   contains_at xs i x at = (i, slice_get_within xs i x at, get_or_from_slice_get xs i x x at)
 
-  takes_leaf : (ns : List NodeId) → outcome_in c t ≡ Ok (Cut ns) → TakesLeaf
-  takes_leaf ns is = by (slots_of ns) refl (cut_goes_down L enough c t o ns is) (cut_shows L enough c t o ns is).0
+  takes_leaf : IsSplice t.1 → (ns : List NodeId) → outcome_in c t ≡ Ok (Cut ns) → TakesLeaf
+  takes_leaf splice ns is = by (slots_of ns) refl (cut_goes_down L enough c t o ns splice is)
+      (cut_shows L enough c t o ns is).0
     where
-      splice : (a : ℕ) × (d : Side) × (x : ℕ) × (p : ℕ) × (keep : Side) × (t.1 ≡ Splice a d x p keep)
-      splice = cut_is_splice L enough c t o ns is
-
       no_slots : (ns : List NodeId) → slots_of ns ≡ [] → ns ≡ []
       no_slots [] e = refl
       no_slots (n ∷ ns) e = absurd (differ e)
@@ -174,7 +174,7 @@ module _ (L : Layout) (enough : 5 ≤ L.nodes) (c : Configuration) (t : ℕ × E
       takes flags cuts = (k.leaf, (k.parent, k.side, k.reached, k.flagged, k.leads), λ x is. (apart x is, stays flags x is))
         where
           k : TakesLeaf
-          k = takes_leaf (cuts_shown t.1 (outcome_in c t) cuts).0 (cuts_shown t.1 (outcome_in c t) cuts).1
+          k = let shown = cuts_shown t.1 (outcome_in c t) cuts in takes_leaf shown.2 shown.0 shown.1
 
           apart : (x : ℕ) → IsFlaggedLeaf (next_in c t) x → x ≢ k.leaf
           apart x is at = k.gone (subst (Reached (next_in c t).state.memory) (is.4 ∙ at) (step_down (next_in c t).state.memory is.0 is.1 is.2 (λ z. let high = flag_leads_high L enough (next_in c t) after is.0 is.1 is.2 is.3 in absurd (omega (arith, high, z)))))

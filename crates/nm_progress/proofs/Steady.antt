@@ -46,7 +46,10 @@ SameCall s t = (t.call ≡ s.call) × (t.flagged ≡ s.flagged)
 
 searched_same : (s : Search) (e : Event) (r : Reply) → is_turning (e, r) ≡ false → SameCall s (searched s e r)
 searched_same s e r steady = search_goes (λ e r t. is_turning (e, r) ≡ false → SameCall s t) s (λ slot f r steady. let is = look_beside s s.call slot f r in (ap (λ (t : Search). t.call) is, ap (λ (t : Search). t.flagged) is))
-    (λ p side leaf new n steady. (refl, refl)) (λ p side leaf n steady. absurd (true≢false steady)) (λ a side x p keep ns steady. (refl, refl)) (λ e r steady. (refl, refl)) e r (or_parts (begins_anew (e, r)) (flags_on e (Ok r)) steady).0 steady
+    (λ p side leaf new n steady. (refl, refl)) (λ p side leaf n steady. absurd (true≢false steady))
+    (λ a side x p keep ns steady. (refl, refl))
+    (λ p side leaf new ns steady. (refl, refl)) (λ e r steady. (refl, refl)) e r
+    (or_parts (begins_anew (e, r)) (flags_on e (Ok r)) steady).0 steady
 
 search_same : (s : Search) (es : List Entry) → list_any is_turning es ≡ false → SameCall s (search_after s es)
 search_same s [] steady = (refl, refl)

@@ -1,17 +1,17 @@
 -- Each tag of an edge without a mark is paid by the flag of the leaf beside it.
-use Rattle.std.proofs.Common.{◌≡◌, ◌≢◌, ℕ, ◌≤◌, ◌<◌, inl, inr, ◌⊎◌, eqb, ◌==◌, Bool, true, false, cond, not, ◌&&◌, List, [], ◌∷◌, ◌++◌, length, refl, sym, ap, subst, ◌∙◌, arith, true≢false}
-use Rattle.std.specs.Prelude.{Option, Some, None, Result, Ok, Err, All}
+use Rattle.std.proofs.Common.{◌≡◌, ◌≢◌, ℕ, zero, suc, ◌≤◌, ◌<◌, inl, inr, ◌⊎◌, eqb, ◌==◌, Bool, true, false, cond, not, ◌&&◌, List, [], ◌∷◌, ◌++◌, length, refl, sym, ap, subst, ◌∙◌, arith, true≢false}
+use Rattle.std.specs.Prelude.{Option, Some, None, Result, Ok, Err, All, Contains}
 use Rattle.std.proofs.lemmas.Bool.{cond-true, and_parts, and_from, eqb-true, eq-eqb, false_from_ne_true}
 use Rattle.nm_edge.specs.Edges.{Edge, to, other, is_to, tagged, untagged}
 use Rattle.nm_edge.specs.Layouts.{Layout}
 use Rattle.nm_edge.specs.declared.edge.Side.{Side}
 use Rattle.nm_edge.specs.declared.node.NodeId.{NodeId}
 use Rattle.nm_model.specs.declared.event.Event.{Event}
-use Rattle.nm_model.specs.declared.event.Event.TheVariants.{Link, Flag, Tag, Splice}
+use Rattle.nm_model.specs.declared.event.Event.TheVariants.{Link, Flag, Tag, Splice, Swap}
 use Rattle.nm_model.specs.declared.reply.Reply.{Reply}
 use Rattle.nm_model.specs.declared.reply.Reply.TheVariants.{Linked, Flagged, Was, Cut, Lost}
 use Rattle.nm_model.specs.declared.reply.Refused.{Refused}
-use Rattle.nm_model.specs.Memory.{Memory, edge, child, put_edge}
+use Rattle.nm_model.specs.Memory.{Memory, edge, child, named, put_edge}
 use Rattle.nm_model.specs.Knowledge.{knows, is_private, read, is_tagged, is_flagged, slot_read}
 use Rattle.nm_model.specs.Paths.{follow, Reached}
 use Rattle.nm_model.specs.Step.{cut_nodes, kept, reply, write}
@@ -23,7 +23,7 @@ use Rattle.nm_laws.proofs.ListOrders.{In}
 use Rattle.nm_laws.proofs.Steps.{Allowed, allowed}
 use Rattle.nm_laws.proofs.Trees.{same_side, same_side-refl, follow-append}
 use Rattle.nm_laws.proofs.TreeSteps.{Lawful, tag_checked, tag_not_null}
-use Rattle.nm_laws.proofs.Cuts.{Shown, shown}
+use Rattle.nm_laws.proofs.Cuts.{Shown, ShownSwap, shown, shown_swap}
 use Rattle.nm_laws.proofs.Pictures.{IsLive, IsOnPath, reached_live}
 use Rattle.nm_laws.proofs.Splices.{live_on_path, unmarked_not_queued}
 use Rattle.nm_laws.proofs.Views.{picture, edge_put}
@@ -35,8 +35,9 @@ use Rattle.nm_order.proofs.OrderedChanges.{off_root}
 use Rattle.nm_order.proofs.OrderedLaws.{IsOrdered, ordered_next, each_ordered, law_of_state}
 use Rattle.nm_order.proofs.FlaggedPaths.{On, way_ends}
 use Rattle.nm_order.proofs.RunExchanges.{first_keys}
-use Rattle.nm_order.proofs.CutTurns.{uncut_stays}
-use Rattle.nm_order.proofs.SetChanges.{turn_was_reached}
+use Rattle.nm_order.proofs.CutTurns.{CutOrNot, cut_or_not, uncut_stays}
+use Rattle.nm_order.proofs.CutTurns.CutOrNot.{StaysReached, IsCutNow}
+use Rattle.nm_order.proofs.SetChanges.{is_won_swap, swap_entry, turn_was_reached}
 use Rattle.nm_order.proofs.ToldLaws.{live_then, twice_other}
 use Rattle.nm_order.proofs.TurnEdges.{turn_origin, turn_reached, nothing_below}
 use Rattle.nm_order.proofs.EdgeOrigins.EdgeOrigin.{WasThere, IsFlaggedNow, LeadsToNew, LeadsNowhere}
@@ -49,7 +50,7 @@ use Rattle.nm_progress.proofs.OneParents.{one_parent}
 use Rattle.nm_progress.proofs.LostTries.{later_keys, answered_so}
 use Rattle.nm_progress.proofs.SplicesPaid.{flags_shown, paid_over, no_flags, pending, few_pending, covered}
 use Rattle.nm_progress.proofs.EdgeFates.{EdgeFate, TurnFate, turn_fates}
-use Rattle.nm_progress.proofs.EdgeFates.EdgeFate.{Kept, IsLinked, IsFlagged, IsTagged, IsSpliced}
+use Rattle.nm_progress.proofs.EdgeFates.EdgeFate.{Kept, IsLinked, IsFlagged, IsTagged, IsSpliced, IsSwapped}
 use Rattle.nm_progress.proofs.EdgeFates.TurnFate.{Refuses, Makes}
 
 -- ---- edges that are tagged and not flagged
@@ -105,6 +106,23 @@ splice_wins s w a x p d keep ns told = by (is_to (edge s.memory a d) x) refl tol
         differ : Lost (edge s.memory a d) ≡ Cut ns → ⊥
         differ e = cc
 
+swap_wins : (s : State) (w p leaf new : ℕ) (d : Side) (ns : List NodeId) → reply_of s w (Swap p d leaf new) ≡ Cut ns
+    → (is_to (edge s.memory p d) leaf ≡ true) × (ns ≡ named s.memory leaf ∷ [])
+unfolding reply
+swap_wins s w p leaf new d ns told = by (is_to (edge s.memory p d) leaf) refl told
+  where
+    same : (xs : List NodeId) → Cut xs ≡ Cut ns → ns ≡ xs
+    same xs e = cc
+
+    by : (b : Bool) → is_to (edge s.memory p d) leaf ≡ b
+        → cond b (Cut (named s.memory leaf ∷ [])) (Lost (edge s.memory p d)) ≡ Cut ns
+        → (is_to (edge s.memory p d) leaf ≡ true) × (ns ≡ named s.memory leaf ∷ [])
+    by true is e = (is, same (named s.memory leaf ∷ []) e)
+    by false is e = absurd (differ e)
+      where
+        differ : Lost (edge s.memory p d) ≡ Cut ns → ⊥
+        differ e = cc
+
 -- ---- one turn
 
 module _ (L : Layout) (enough : 5 ≤ L.nodes) (c : Configuration) (t : ℕ × Event) (has : HasKey t.1) (o : IsOrdered L c) where
@@ -125,20 +143,16 @@ module _ (L : Layout) (enough : 5 ≤ L.nodes) (c : Configuration) (t : ℕ × E
   was_reached : (y : ℕ) (g : Side) → Reached (next_in c t).state.memory y → (edge (next_in c t).state.memory y g).flag ≡ true → Reached c.state.memory y
   was_reached y g r flag = by (outcome_in c t) refl
     where
-      Won : Type 0
-      Won = (n : NodeId) (p leaf new : ℕ) (d : Side) → t.1 ≡ Link p d leaf new → outcome_in c t ≡ Ok (Linked n) → Reached c.state.memory y
-
-      linked : Won
-      linked n p leaf new d event told = or_held (turn_reached L enough c t o (nothing_below L enough (next_in c t) t after) y r)
+      -- if the turn leaves reached each node with a flagged edge
+      as_was : ((p' : ℕ) (d' : Side) → Reached c.state.memory p' → (edge c.state.memory p' d').flag ≡ true
+          → Reached (next_in c t).state.memory p') → Reached c.state.memory y
+      as_was stays = or_held (turn_reached L enough c t o (nothing_below L enough (next_in c t) t after) y r)
         where
-          uncut : (ns : List NodeId) → outcome_in c t ≡ Ok (Cut ns) → ⊥
-          uncut ns is = differ (same_reply (Linked n) (Cut ns) (sym told ∙ is))
-            where
-              differ : Linked n ≡ Cut ns → ⊥
-              differ e = cc
-
           two : (p' : ℕ) (d' : Side) → Reached c.state.memory p' → (edge c.state.memory p' d').flag ≡ true → child c.state.memory p' d' ≡ child (next_in c t).state.memory y g → Reached c.state.memory y
-          two p' d' reached flag' leads = subst (Reached c.state.memory) (one_parent L enough (next_in c t) after p' y d' g (uncut_stays L enough c t o uncut p' reached) r (λ z. some (sym now ∙ z)) (now ∙ leads)).0 reached
+          two p' d' reached flag' leads =
+              subst (Reached c.state.memory)
+              (one_parent L enough (next_in c t) after p' y d' g (stays p' d' reached flag') r
+              (λ z. some (sym now ∙ z)) (now ∙ leads)).0 reached
             where
               some : child c.state.memory p' d' ≢ 0
               some z = let high = flag_leads_high L enough c o p' d' reached flag' in absurd (omega (arith, high, z))
@@ -149,6 +163,7 @@ module _ (L : Layout) (enough : 5 ≤ L.nodes) (c : Configuration) (t : ℕ × E
               on q (IsFlagged l k e reply was now) = absurd (true≢false (sym flag' ∙ ap (λ (e : Edge). e.flag) was))
               on q (IsTagged e reply now) = ap (λ (e : Edge). e.slot) now
               on q (IsSpliced a b k ns e reply was now) = absurd (true≢false (sym flag' ∙ ap (λ (e : Edge). e.flag) was))
+              on q (IsSwapped l m ns e reply was now) = absurd (true≢false (sym flag' ∙ ap (λ (e : Edge). e.flag) was))
 
               now : child (next_in c t).state.memory p' d' ≡ child c.state.memory p' d'
               now = fate (turn_fates L enough c t o p' d' (unheld p' reached))
@@ -167,17 +182,63 @@ module _ (L : Layout) (enough : 5 ≤ L.nodes) (c : Configuration) (t : ℕ × E
           or_held (inl was) = was
           or_held (inr held) = origin (turn_origin L enough c t o y r g)
 
-      links : (e : Event) (q : Reply) → is_won_link (e, q) ≡ true → (p : ℕ) × (leaf : ℕ) × (new : ℕ) × (d : Side) × (n : NodeId) × (e ≡ Link p d leaf new) × (q ≡ Linked n)
-      links (Link p d leaf new) (Linked n) is = (p, leaf, new, d, n, refl, refl)
+      linked : (n : NodeId) → outcome_in c t ≡ Ok (Linked n) → Reached c.state.memory y
+      linked n told = as_was (λ p' d' reached flag'. uncut_stays L enough c t o uncut p' reached)
+        where
+          uncut : (ns : List NodeId) → outcome_in c t ≡ Ok (Cut ns) → ⊥
+          uncut ns is = differ (same_reply (Linked n) (Cut ns) (sym told ∙ is))
+            where
+              differ : Linked n ≡ Cut ns → ⊥
+              differ e = cc
+
+      -- a swap cuts a leaf, which has no edge
+      swapped : (p leaf new : ℕ) (d : Side) (ns : List NodeId) → t.1 ≡ Swap p d leaf new
+          → outcome_in c t ≡ Ok (Cut ns) → Reached c.state.memory y
+      swapped p leaf new d ns event told =
+          as_was (λ p' d' reached flag'. stays p' d' reached flag' (cut_or_not L enough c t has o p' reached))
+        where
+          won : (is_to (edge c.state.memory p d) leaf ≡ true) × (ns ≡ named c.state.memory leaf ∷ [])
+          won = swap_wins c.state t.0 p leaf new d ns (ap (reply_of c.state t.0) (sym event)
+              ∙ (answered_so c t.0 t.1 (Cut ns) told).1)
+
+          k : ShownSwap c.state law.0 t.0 p d leaf new
+          k = shown_swap c.state law.0 law.1 t.0 p d leaf new
+              (subst (Allowed c.state t.0) event (may (Cut ns) told)) won.0
+
+          stays : (p' : ℕ) (d' : Side) → Reached c.state.memory p' → (edge c.state.memory p' d').flag ≡ true
+              → CutOrNot L enough c t p' → Reached (next_in c t).state.memory p'
+          stays p' d' reached flag' (StaysReached still) = still
+          stays p' d' reached flag' (IsCutNow ms is among gone) =
+              let is_leaf : p' ≡ leaf =
+              same_slot p' (subst (λ (ks : List NodeId). Contains ks (named c.state.memory p'))
+              (same_nodes ms ns (same_reply (Cut ms) (Cut ns) (sym is ∙ told)) ∙ won.1) among) in
+              let none = ap (λ (z : ℕ). child c.state.memory z d') is_leaf ∙ k.swap.is_leaf d' in
+              absurd (let high = flag_leads_high L enough c o p' d' reached flag' in omega (arith, high, none))
+            where
+              same_nodes : (xs ys : List NodeId) → Cut xs ≡ Cut ys → xs ≡ ys
+              same_nodes xs ys e = cc
+
+              same_slot : (z : ℕ) → Contains (named c.state.memory leaf ∷ []) (named c.state.memory z) → z ≡ leaf
+              same_slot z (zero, below, at) = sym (ap (λ (n : NodeId). n.slot) at)
+              same_slot z (suc i, below, at) = absurd (omega (arith, below))
+
+      links : (e : Event) (q : Reply) → is_won_link (e, q) ≡ true → (n : NodeId) × (q ≡ Linked n)
+      links (Link p d leaf new) (Linked n) is = (n, refl)
       links e q is = absurd (true≢false (sym is))
 
       by : (q : Result Reply Refused) → outcome_in c t ≡ q → Reached c.state.memory y
-      by (Err q) told = turn_was_reached L enough c t has o (λ k is. absurd (no_reply q k (sym told ∙ is))) y r
-      by (Ok q) told = on (is_won_link (t.1, q)) refl
+      by (Err q) told = turn_was_reached L enough c t has o (λ k is. absurd (no_reply q k (sym told ∙ is)))
+          (λ k is. absurd (no_reply q k (sym told ∙ is))) y r
+      by (Ok q) told = on (is_won_link (t.1, q)) refl (is_won_swap t.1 q) refl
         where
-          on : (b : Bool) → is_won_link (t.1, q) ≡ b → Reached c.state.memory y
-          on false none = turn_was_reached L enough c t has o (λ k is. ap (λ (q : Reply). is_won_link (t.1, q)) (same_reply k q (sym is ∙ told)) ∙ none) y r
-          on true won = let k = links t.1 q won in linked k.4 k.0 k.1 k.2 k.3 k.5 (told ∙ ap (λ (q : Reply). Ok q) k.6)
+          on : (b : Bool) → is_won_link (t.1, q) ≡ b → (b' : Bool) → is_won_swap t.1 q ≡ b' → Reached c.state.memory y
+          on false none false plain =
+              turn_was_reached L enough c t has o
+              (λ k is. ap (λ (q : Reply). is_won_link (t.1, q)) (same_reply k q (sym is ∙ told)) ∙ none)
+              (λ k is. ap (is_won_swap t.1) (same_reply k q (sym is ∙ told)) ∙ plain) y r
+          on false none true won = let k = swap_entry t.1 q won in
+              swapped k.0 k.2 k.3 k.1 k.4 k.5 (told ∙ ap (λ (q : Reply). Ok q) k.6)
+          on true won b' is = let k = links t.1 q won in linked k.0 (told ∙ ap (λ (q : Reply). Ok q) k.1)
 
   -- where a flagged edge of a reached node comes from, beside which is no edge that is tagged alone
   data UncutOrigin (y : ℕ) (g : Side) : Type 0 where
@@ -218,6 +279,7 @@ module _ (L : Layout) (enough : 5 ≤ L.nodes) (c : Configuration) (t : ℕ × E
         on q (IsFlagged l k e reply was now) = ap is_pure was
         on q (IsTagged e reply now) = retagged (edge c.state.memory y (other g)) some (ap is_pure (sym now) ∙ uncut)
         on q (IsSpliced a b k ns e reply was now) = ap is_pure was
+        on q (IsSwapped l m ns e reply was now) = ap is_pure was
 
         fate : TurnFate c t y (other g) → is_pure (edge c.state.memory y (other g)) ≡ false
         fate (Refuses q e same) = ap (λ (d : Configuration). is_pure (edge d.state.memory y (other g))) (sym same) ∙ uncut
@@ -273,6 +335,7 @@ module _ (L : Layout) (enough : 5 ≤ L.nodes) (c : Configuration) (t : ℕ × E
         on : (q : Reply) → outcome_in c t ≡ Ok q → EdgeFate c.state t.0 t.1 (next_in c t).state.memory q y g → UncutOrigin y g
         on q told (Kept same) = still (sym (ap (λ (e : Edge). e.flag) same) ∙ flag) (sym (ap (λ (e : Edge). e.slot) same))
         on q told (IsLinked l m k e reply was now) = absurd (true≢false (sym flag ∙ ap (λ (e : Edge). e.flag) now))
+        on q told (IsSwapped l m ns e reply was now) = absurd (true≢false (sym flag ∙ ap (λ (e : Edge). e.flag) now))
         on q told (IsFlagged l k e reply was now) = Now l e (ap (λ (e : Edge). e.slot) now) (λ i. flags_on (e i) ((told ∙ ap (λ (q : Reply). Ok q) reply) i))
         on q told (IsTagged e reply now) = still (sym (ap (λ (e : Edge). e.flag) now) ∙ flag) (sym (ap (λ (e : Edge). e.slot) now))
         on q told (IsSpliced x p keep ns e reply was now) = spliced q told x p keep ns e reply now
@@ -381,6 +444,7 @@ module _ (L : Layout) (enough : 5 ≤ L.nodes) (c : Configuration) (t : ℕ × E
               on (IsFlagged l n e reply was now) = absurd (true≢false (sym flagged ∙ ap (λ (e : Edge). e.flag) was))
               on (IsTagged e reply now) = ap (λ (e : Edge). e.slot) now
               on (IsSpliced a b n ns e reply was now) = absurd (true≢false (sym flagged ∙ ap (λ (e : Edge). e.flag) was))
+              on (IsSwapped l m ns e reply was now) = absurd (true≢false (sym flagged ∙ ap (λ (e : Edge). e.flag) was))
 
   -- ---- a list behind the turn
 

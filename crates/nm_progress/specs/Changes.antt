@@ -6,7 +6,7 @@ use Rattle.nm_edge.specs.Layouts.{Layout}
 use Rattle.nm_edge.specs.declared.edge.Side.{Side}
 use Rattle.nm_model.specs.declared.event.Field.TheVariants.{Edge as EdgeOn}
 use Rattle.nm_model.specs.declared.event.Event.{Event}
-use Rattle.nm_model.specs.declared.event.Event.TheVariants.{Look, Link, Flag, Tag, Splice}
+use Rattle.nm_model.specs.declared.event.Event.TheVariants.{Look, Link, Flag, Tag, Splice, Swap}
 use Rattle.nm_model.specs.declared.reply.Reply.{Reply}
 use Rattle.nm_model.specs.declared.reply.Reply.TheVariants.{EdgeIs, Linked, Flagged, Was, Cut, Lost}
 use Rattle.nm_model.specs.declared.reply.Refused.{Refused}
@@ -28,13 +28,15 @@ is_bare e = not e.flag && not e.tag
 abbrev pub is_at : ℕ → Side → ℕ → Side → Bool
 is_at x d p side = (p == x) && is_side side d
 
--- an event with its outcome changes the edge of x on a side, which had no mark: a link, a flag or a
--- splice that is won there, or a tag that found it unmarked (Natarajan and Mittal, section 3.2)
+-- an event with its outcome changes the edge of x on a side, which had no mark: a link, a flag, a
+-- splice or a swap that is won there, or a tag that found it unmarked (Natarajan and Mittal, section
+-- 3.2)
 abbrev pub changes : ℕ → Side → Event → Result Reply Refused → Bool
 changes x d (Link p side leaf new) (Ok (Linked n)) = is_at x d p side
 changes x d (Flag p side leaf) (Ok (Flagged n)) = is_at x d p side
 changes x d (Tag p side) (Ok (Was e)) = is_at x d p side && is_bare e
 changes x d (Splice a side s p keep) (Ok (Cut ns)) = is_at x d a side
+changes x d (Swap p side leaf new) (Ok (Cut ns)) = is_at x d p side
 changes x d _ _ = false
 
 -- an entry of a log is such a change
@@ -60,6 +62,7 @@ pub data Expects (x : ℕ) (d : Side) (s : ℕ) : Event → Type 0 where
   ToLink : (new : ℕ) → Expects x d s (Link x d s new)
   ToFlag : Expects x d s (Flag x d s)
   ToCut : (p : ℕ) (keep : Side) → Expects x d s (Splice x d s p keep)
+  ToSwap : (new : ℕ) → Expects x d s (Swap x d s new)
 
 -- the configuration after a look of w at the edge of x on side d
 abbrev pub behind_look : Layout → List (ℕ × Event) → ℕ → ℕ → Side → Configuration

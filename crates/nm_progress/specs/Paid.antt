@@ -2,7 +2,7 @@
 use Rattle.std.specs.Prelude.{ℕ, ◌+◌, ◌≤◌, Bool, true, false, List, ◌++◌, Result, Ok, All}
 use Rattle.nm_edge.specs.Layouts.{Layout}
 use Rattle.nm_model.specs.declared.event.Event.{Event}
-use Rattle.nm_model.specs.declared.event.Event.TheVariants.{Link, Flag, Tag, Splice}
+use Rattle.nm_model.specs.declared.event.Event.TheVariants.{Link, Flag, Tag, Splice, Swap}
 use Rattle.nm_model.specs.declared.reply.Reply.{Reply}
 use Rattle.nm_model.specs.declared.reply.Reply.TheVariants.{Linked, Flagged, Was, Cut}
 use Rattle.nm_model.specs.declared.reply.Refused.{Refused}
@@ -14,9 +14,10 @@ use Rattle.nm_progress.specs.Moves.{number_of}
 
 -- ---- the four kinds of change, of an event with its outcome
 
--- a link, a flag and a splice that is won (Natarajan and Mittal, section 3.2)
+-- a link or a swap, a flag, and a splice that is won (Natarajan and Mittal, section 3.2; a swap is ours)
 abbrev pub links_on : Event → Result Reply Refused → Bool
 links_on (Link p side leaf new) (Ok (Linked n)) = true
+links_on (Swap p side leaf new) (Ok (Cut ns)) = true
 links_on _ _ = false
 
 abbrev pub flags_on : Event → Result Reply Refused → Bool
@@ -34,7 +35,8 @@ tags_on _ _ = false
 
 -- ---- the number of each kind
 
--- `links_in`, `flags_in`, `cuts_in`, `tags_in`: the number of such turns among these
+-- `links_in`, `flags_in`, `cuts_in`, `tags_in`: the number of such turns among these; a swap counts as
+-- a link
 abbrev pub links_in : List Turn → ℕ
 links_in turns = number_of (λ t. links_on t.event t.outcome) turns
 

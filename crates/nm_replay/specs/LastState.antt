@@ -19,4 +19,4 @@ keys_line_in false s = []
 -- the summary of the last state, for a file with that header
 unfoldable pub last_lines : Header → State → List ℕ
 last_lines header s = workers_lines s header.layout.workers
-    ++ (epoch_line s.memory.epoch ++ (places_line (counts s) ++ keys_line_in header.is_extended s))
+    ++ (epoch_line s.memory.epoch ++ (places_line (counts s) ++ keys_line_in header.forms.is_extended s))

@@ -9,6 +9,7 @@ use Rattle.nm_model.specs.Runs.{State, start, after, trace}
 use Rattle.nm_model.specs.Reports.{counts}
 use Rattle.nm_model.specs.Ordered.{Configuration, opening_of, after_in, trace_in}
 use Rattle.nm_files.specs.declared.read.header.Header.{Header}
+use Rattle.nm_files.specs.Headers.{without_swaps}
 use Rattle.nm_files.specs.Lines.{parts}
 use Rattle.nm_files.specs.Files.{Fault}
 use Rattle.nm_files.specs.Entries.{Schedule, schedule_of}
@@ -25,7 +26,7 @@ lines_with (line ∷ lines) (turn ∷ turns) =
 
 -- the core that runs a file with that header, at its opening
 abbrev pub opening_core : Header → Configuration
-opening_core header = opening_of header.layout header.is_extended
+opening_core header = opening_of header.layout header.forms.is_extended
 
 -- the output for a schedule whose lines from the second on are these
 abbrev pub text_of : Schedule → List (List ℕ) → List ℕ
@@ -40,7 +41,7 @@ plain_lines workers s = workers_lines s workers
 -- the output for a file that is not ordered shows a run of states, without a line of keys
 abbrev pub PlainFilesAreRuns : Type 0
 PlainFilesAreRuns = (L : Layout) (ts : List (ℕ × Event)) (lines : List (List ℕ))
-    → text_of (record { header = record { layout = L; tries = 1; is_extended = false }; entries = ts }) lines
+    → text_of (record { header = record { layout = L; tries = 1; forms = without_swaps false }; entries = ts }) lines
     ≡ lines_with lines (trace (start L) ts) ++ plain_lines L.workers (after (start L) ts)
 
 -- the output for a file, or its first faulty line with the least reason

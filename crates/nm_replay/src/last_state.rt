@@ -46,7 +46,7 @@ pub fn put_last_lines(out: &mut Vec<u8>, header: &Header, core: &Core) -> Result
     put_ledgers(out, header.layout.workers(), core)?;
     put_epoch(out, core.epoch())?;
     put_places(out, core.places())?;
-    put_keys_in(out, header.is_extended, core)
+    put_keys_in(out, header.forms.is_extended, core)
 }
 
 /// Law: for every run of an ordered or of a plain core, each worker of the tree has a ledger. So

@@ -17,7 +17,7 @@ fn core_of(alloc: Global, header: &Header) -> Result<Core, RunFault>
     ensures opening { IfOk result (λ core. core ≡ opening_core header.now) }
     ensures err { IfErr result (λ e. e ≡ RunFault.NoMemory) }
 {
-    match Core::of(alloc, header.layout, header.is_extended) {
+    match Core::of(alloc, header.layout, header.forms.is_extended) {
         Ok(core) => Ok(core),
         Err(_) => Err(RunFault::NoMemory),
     }

@@ -1,5 +1,5 @@
 -- A crew, and what becomes of it at one place.
-use Rattle.std.proofs.Common.{◌≡◌, ◌≢◌, ◌<◌, ◌+◌, ◌++◌, ◌∙◌, ℕ, suc, List, [], ◌∷◌, length, map, slice_set, slice_index_or, All, Option, Some, None, IfSome, refl, sym, ap, append_assoc, arith}
+use Rattle.std.proofs.Common.{◌≡◌, ◌≢◌, ◌⊎◌, inr, ◌<◌, ◌+◌, ◌++◌, ◌∙◌, ℕ, suc, List, [], ◌∷◌, length, map, slice_set, slice_index_or, All, Option, Some, None, IfSome, refl, sym, ap, append_assoc, arith}
 use Rattle.std.specs.Prelude.{sum_by}
 use Rattle.std.proofs.lemmas.List.{length-map, append-nil, length-set, set-set, set_comm, get_or-set_other}
 use Rattle.std.proofs.lemmas.List.Elements.{All-nil, All-cons, All-head, All-tail, All-set, at_read}
@@ -14,7 +14,7 @@ use Rattle.nm_tree.specs.Closing.{given_in}
 use Rattle.nm_tree.specs.Resigning.{merged}
 use Rattle.nm_tree.specs.Workers.{WorkerView, AreNew, KeepsOtherQueues}
 use Rattle.nm_tree.proofs.Merging.{length-merged}
-use Rattle.nm_serial.specs.Crews.{AreCrewOf, HasAsked, HasDoneAt, HasResignedOrStayed, PlaysAll, PlaysLine, present, stands_for, worker_at}
+use Rattle.nm_serial.specs.Crews.{AreCrewOf, HasAsked, HasDoneAt, HasResignedOrStayed, IsGone, PlaysAll, PlaysLine, present, stands_for, worker_at}
 use Rattle.nm_serial.specs.Makes.{IsOwnCall}
 
 -- a place is written
@@ -126,6 +126,14 @@ module _ (crew : List (Option WorkerView)) (leaver heir : ℕ) (taking leaving t
 
   pub has_asked : (a : Answer) → HasResignedOrStayed taking leaving taken still a → HasAsked leaver heir crew a (slice_set (slice_set (slice_set (slice_set crew heir e) leaver f) heir (Some taken)) leaver still)
   has_asked a did = record { two = two; taking = taking; leaving = leaving; taken = taken; still = still; heir_is = heir_is; leaver_is = leaver_is; did = did; places = written crew heir leaver (Some taken) still e f two }
+
+  abbrev after : List (Option WorkerView)
+  after = slice_set (slice_set (slice_set (slice_set crew heir e) leaver f) heir (Some taken)) leaver still
+
+  pub has_asked_if : (r : Option Answer) → IfSome r (HasResignedOrStayed taking leaving taken still)
+      → IfSome r (λ a. IsGone leaver heir crew a after ⊎ HasAsked leaver heir crew a after)
+  has_asked_if None did = tt
+  has_asked_if (Some a) did = inr (has_asked a did)
 
   pub resigning_keeps_whole : heir < length crew → leaver < length crew → stands_for (Some taken) + stands_for still ≡ stands_for (Some taking) + stands_for (Some leaving)
       → sum_by stands_for (slice_set (slice_set (slice_set (slice_set crew heir e) leaver f) heir (Some taken)) leaver still) ≡ sum_by stands_for crew

@@ -29,23 +29,28 @@ pub(crate) fn make_at(
 }
 
 /// Lets a worker resign to its heir. Returns the heir, and also the leaver if it has not resigned,
-/// with the answer.
+/// with the answer; `None` in place of an answer if memory was refused.
 #[tactic(auto, using(crate::proofs::CrewLemmas::merged_many))]
-pub(crate) fn leave(tree: &Tree, heir: Worker, leaver: Worker) -> (Worker, Option<Worker>, Answer)
+pub(crate) fn leave(
+    tree: &Tree,
+    heir: Worker,
+    leaver: Worker,
+) -> (Worker, Option<Worker>, Option<Answer>)
     requires heir { IsOf tree.now heir.pass }
     requires leaver { IsOf tree.now leaver.pass }
     ensures heir { IsOf tree.now result.0.pass }
     ensures leaver { IfSome result.1 (λ w. IsOf tree.now w.pass) }
     ensures whole { stands_for (Some result.0) + stands_for result.1
         ≡ stands_for (Some heir) + stands_for (Some leaver) }
-    ensures did { HasResignedOrStayed heir leaver result.0 result.1 result.2 }
+    ensures did { IfSome result.2 (HasResignedOrStayed heir leaver result.0 result.1) }
 {
     match tree.resign(heir, leaver) {
-        Ok(heir) => (heir, None, Answer::Resigned),
+        Ok(heir) => (heir, None, Some(Answer::Resigned)),
         Err(fault) => {
             let answer = match fault.reason {
-                ResignReason::Held => Answer::Refused(Refusal::Held),
-                ResignReason::Pending => Answer::Pending,
+                ResignReason::Held => Some(Answer::Refused(Refusal::Held)),
+                ResignReason::Pending => Some(Answer::Pending),
+                ResignReason::NoMemory => None,
                 ResignReason::Number | ResignReason::Attached => unreachable!(),
             };
             (fault.heir, Some(fault.leaver), answer)

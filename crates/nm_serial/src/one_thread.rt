@@ -62,19 +62,19 @@ fn left_of(alloc: Global, crew: Vec<Option<Worker>>) -> Result<Vec<Worker>, Allo
 }
 
 /// Lets the worker at a place resign to the one at another place. It does nothing if either has
-/// resigned, or if they are the same.
-fn resign(tree: &Tree, crew: &mut Vec<Option<Worker>>, leaver: usize, heir: usize) -> Answer
+/// resigned, or if they are the same. Returns `None` if memory was refused.
+fn resign(tree: &Tree, crew: &mut Vec<Option<Worker>>, leaver: usize, heir: usize) -> Option<Answer>
     requires own { AreCrewOf tree.now crew.old.items }
     requires leaver { leaver < length crew.old.items }
     requires heir { heir < length crew.old.items }
     ensures own { AreCrewOf tree.now crew.new.items }
     ensures count { length crew.new.items ≡ length crew.old.items }
     ensures whole { sum_by stands_for crew.new.items ≡ sum_by stands_for crew.old.items }
-    ensures did { IsGone leaver heir crew.old.items result crew.new.items
-        ⊎ HasAsked leaver heir crew.old.items result crew.new.items }
+    ensures did { IfSome result (λ a. IsGone leaver heir crew.old.items a crew.new.items
+        ⊎ HasAsked leaver heir crew.old.items a crew.new.items) }
 {
     if leaver == heir || crew[leaver].is_none() || crew[heir].is_none() {
-        return Answer::Refused(Refusal::Gone);
+        return Some(Answer::Refused(Refusal::Gone));
     }
     let Some(taking) = crew[heir].take() else {
         unreachable!()
@@ -106,7 +106,7 @@ fn play_line(
         (λ a. PlaysLine tree.now header.now.tries worker call.now crew.old.items a crew.new.items) }
 {
     match call {
-        ScriptCall::Resign(heir) => Some(resign(tree, crew, worker as usize, *heir as usize)),
+        ScriptCall::Resign(heir) => resign(tree, crew, worker as usize, *heir as usize),
         _ => make_at(tree, &mut crew[worker as usize], *call, header.tries),
     }
 }

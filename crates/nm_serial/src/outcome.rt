@@ -80,8 +80,8 @@ pub(crate) fn put_end(out: &mut Vec<u8>, tree: Tree, workers: Vec<Worker>) -> Re
         ((text : _) × IsEnding tree workers.items text × (out.new.items ≡ out.old.items ++ text)) }
     ensures err { IfErr result (λ e. e ≡ RunFault.NoMemory) }
 {
-    let mut report = match tree.close(workers) {
-        Ok(report) => report,
+    let mut report = match tree.end(workers) {
+        Ok(ended) => ended.into_report(),
         Err(
             CloseError {
                 reason: CloseReason::NoMemory,

@@ -38,7 +38,7 @@ use Rattle.nm_tree.proofs.AnswersInRuns.{AnsweredBy, answered_by}
 use Rattle.nm_set.proofs.Counting.{flagged_once, linked_once}
 use Rattle.nm_set.proofs.Managing.{follows_then, is_no_fault}
 use Rattle.nm_set.proofs.Rests.{at_most, rests_below}
-use Rattle.nm_set.proofs.RunSums.{KeysOf, by_workers, flag_keys, link_keys, one_if, own_many, so_many, taken_out, times}
+use Rattle.nm_tree.proofs.RunSums.{KeysOf, by_workers, flag_keys, link_keys, one_if, own_many, so_many, taken_out, times}
 
 -- ---- numbers that ascend
 

@@ -1,5 +1,5 @@
 -- Workers that go home: what of them stays as it was, and why one that is there does not resign.
-use Rattle.std.proofs.Common.{◌≡◌, ◌∙◌, ◌+◌, ℕ, cond, true≢false, [], ◌∷◌, inl, inr, refl, sym, ap, subst, arith}
+use Rattle.std.proofs.Common.{◌≡◌, ◌∙◌, ◌+◌, ◌<◌, ℕ, cond, true≢false, [], ◌∷◌, inl, inr, refl, sym, ap, subst, arith}
 use Rattle.std.specs.Prelude.{Option, None, Some, IsSome, is_some}
 use Rattle.nm_edge.specs.declared.node.NodeId.{NodeId}
 use Rattle.nm_model.specs.declared.event.Event.TheVariants.{Leave}
@@ -17,7 +17,7 @@ use Rattle.nm_tree.specs.declared.resigning.ResignReason.{ResignReason as Reason
 use Rattle.nm_tree.specs.declared.resigning.ResignReason.TheVariants as tree
 use Rattle.nm_set.specs.declared.posting.Stamp.{Stamp}
 use Rattle.nm_set.specs.Posts.{IsTallyOf, pending_by}
-use Rattle.nm_set.specs.Seats.{IsLetGo}
+use Rattle.nm_set.specs.Seats.{IsLetGo, IsResident, IsStaying, MemberView, Stays}
 
 -- a worker of which no delete is pending has done as much as it has won
 rests : (w : WorkerView) → HasSeen w.pass.view → IsBetweenCalls w → w.pending ≡ None → pending_by w.pass.view.number w.pass.view.past ≡ 0
@@ -46,9 +46,19 @@ done_before p w z seen sees between stands (inr (held, left)) t =
       removed = ap (λ (n : ℕ). p.removed + n) (sym pending) ∙ (t.removed ∙ ap capped flags);
     }
 
--- a worker that is not held does not resign for one reason alone
-pub has_pending : (w : WorkerView) (why : Reason) → w.held ≡ None → IsReason w why → IsSome w.pending
-has_pending w tree.Held free held = absurd (true≢false (sym (subst IsSome free held)))
-has_pending w tree.Pending free is = is.1
-has_pending w tree.Number free is = absurd is
-has_pending w tree.Attached free is = absurd is
+-- a worker that is not held does not resign for two reasons alone
+pub stays_free : (w : WorkerView) (why : Reason) → w.held ≡ None → IsReason w why → Stays w why
+stays_free w tree.Held free held = absurd (true≢false (sym (subst IsSome free held)))
+stays_free w tree.Pending free is = is.1
+stays_free w tree.Number free is = absurd is
+stays_free w tree.Attached free is = absurd is
+stays_free w tree.NoMemory free is = is.1
+
+-- and then its number is that of a worker
+pub staying : (m : MemberView) (i : ℕ) (w : WorkerView) (why : Reason) → i < m.tree.layout.workers
+    → IsResident m.tree m.worker.fit i w → Stays w why → IsStaying m i why
+staying m i w tree.Held below is stays = absurd stays
+staying m i w tree.Pending below is stays = (below, w, is, stays)
+staying m i w tree.Number below is stays = absurd stays
+staying m i w tree.Attached below is stays = absurd stays
+staying m i w tree.NoMemory below is stays = (below, w, is, stays)

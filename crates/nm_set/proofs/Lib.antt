@@ -13,7 +13,6 @@ pub mod MapManaging
 pub mod Emptied
 pub mod PopRounds
 pub mod Counting
-pub mod RunSums
 pub mod Rests
 pub mod FirstLooks
 pub mod Filled

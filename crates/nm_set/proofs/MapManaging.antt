@@ -1,5 +1,5 @@
 -- What managed calls of a map leave, by what each part of them leaves.
-use Rattle.std.proofs.Common.{◌≡◌, ◌≢◌, ◌≤◌, inl, inr, ℕ, ◌+◌, ◌*◌, Bool, true, false, List, [], ◌∷◌, length, refl, sym, ap, subst, ◌∙◌, arith}
+use Rattle.std.proofs.Common.{◌≡◌, ◌≢◌, ◌≤◌, inl, inr, ℕ, ◌+◌, ◌*◌, Bool, true, false, List, [], ◌∷◌, ◌++◌, append_assoc, length, refl, sym, ap, subst, ◌∙◌, arith}
 use Rattle.std.specs.Prelude.{Option, Some, None, IsSome, Result, Ok, Err, IfOk, IfErr}
 use Rattle.std.proofs.Math.Nat.{add-mul, mul-add, zero-mul, mul-le-mul_right}
 use Rattle.std.proofs.lemmas.List.{length-append}
@@ -11,15 +11,18 @@ use Rattle.nm_model.specs.declared.trace.Turn.{Turn}
 use Rattle.nm_progress.specs.Alone.{IsAlone}
 use Rattle.nm_progress.specs.Walked.{ManyWereBusy}
 use Rattle.nm_progress.proofs.RunningAlone.{alone_later}
-use Rattle.nm_steps.specs.Steps.{TreeView, PassView, HasSeen, HasSeenAllOf, IsSamePass}
+use Rattle.nm_steps.specs.declared.view.Stored.{Stored}
+use Rattle.nm_steps.specs.Rules.{Extends}
+use Rattle.nm_steps.specs.Steps.{TreeView, PassView, HasSeenAllOf, IsSamePass}
 use Rattle.nm_steps.proofs.Seeing.{seen_itself, stores_same, stores_through}
 use Rattle.nm_walks.specs.Bounds.{reach}
 use Rattle.nm_calls.specs.InTurns.{GiveUp as GiveUpInTurns}
-use Rattle.nm_calls.specs.Maps.{HasTaken, MapGave}
+use Rattle.nm_calls.specs.Maps.{HasTaken, MapGave, WasTaken}
 use Rattle.nm_calls.specs.PlainWalks.{most_looks}
 use Rattle.nm_calls.specs.declared.fault.CallFault.{CallFault}
 use Rattle.nm_calls.specs.declared.fault.CallFault.TheVariants as fault
 use Rattle.nm_calls.proofs.MadeLeaves.{put_earlier}
+use Rattle.nm_calls.proofs.MapMoments.{holds_longer}
 use Rattle.nm_tree.specs.Answers.{FailsAlone, FreesNone, IfTaken, freed_in}
 use Rattle.nm_tree.proofs.Unfreed.{in_turns_unfreed, seen_frees_none}
 use Rattle.nm_tree.specs.Calls.{LeavesGet}
@@ -50,19 +53,40 @@ gave_earlier o p q k answer seen gave = record {
   stored = gave.stored;
 }
 
-pub taken_earlier : (o p q : PassView) (k v : ℕ) → HasSeenAllOf p o → HasTaken p q k v → HasTaken o q k v
-taken_earlier o p q k v seen taken = record {
+taken_since : (L : Layout) (first was now : List Turn) (stores : List Stored) (w k v : ℕ) → length first ≤ length was → WasTaken L was now stores w k v → WasTaken L first now stores w k v
+taken_since L first was now stores w k v few taken = record {
   so_far = taken.so_far;
+  flag = taken.flag;
   rest = taken.rest;
   are = taken.are;
-  later = (let later = taken.later in let few = shorter o p seen in omega (arith, later, few));
+  pin = taken.pin;
+  later = (let later = taken.later in omega (arith, later, few));
+  call = taken.call;
   first = taken.first;
   extends = taken.extends;
   is = taken.is;
   stored = taken.stored;
-  leaf = taken.leaf;
-  slot = taken.slot;
-  flagged = taken.flagged;
+  won = taken.won;
+}
+
+taken_earlier : (o p q : PassView) (k v : ℕ) → HasSeenAllOf p o → HasTaken p q k v → HasTaken o q k v
+taken_earlier o p q k v seen = taken_since q.view.layout o.view.past p.view.past q.view.past q.view.stores q.view.number k v (shorter o p seen)
+
+-- it was taken by what is seen later, too
+taken_later : (L : Layout) (was now later : List Turn) (stores : List Stored) (w k v : ℕ) → Extends later now → WasTaken L was now stores w k v → WasTaken L was later stores w k v
+taken_later L was now later stores w k v more taken = record {
+  so_far = taken.so_far;
+  flag = taken.flag;
+  rest = taken.rest ++ more.more;
+  are = more.is ∙ (ap (λ (ts : List Turn). ts ++ more.more) taken.are ∙ append_assoc taken.so_far (taken.flag ∷ taken.rest) more.more);
+  pin = taken.pin;
+  later = taken.later;
+  call = taken.call;
+  first = taken.first;
+  extends = taken.extends;
+  is = taken.is;
+  stored = holds_longer L taken.so_far now later taken.first more taken.stored;
+  won = taken.won;
 }
 
 gave_if : (o p q : PassView) (k : ℕ) (r : Result (Option ℕ) CallFault) → HasSeenAllOf p o → IfOk r (MapGave p q k) → IfOk r (MapGave o q k)
@@ -96,11 +120,15 @@ moves_earlier Insert k v t o p q r seen (puts, finds) = (λ is. put_earlier o p 
 moves_earlier Delete k v t o p q r seen moves = if_each r (taken_earlier o p q k t seen) moves
 
 -- a call that is busy has moved no value
-pub took_now : (o p q : PassView) (k t : ℕ) (r : Result Bool CallFault) → HasSeenAllOf p o → HasSeen q.view → IfTaken r (HasTaken p q k t) → IfTaken r (TookMeanwhile o q k t)
-took_now o p q k t r seen known taken = if_each r (λ had. record { then = q; taken = taken_earlier o p q k t seen had; seen = known; until = seen_itself q; same = refl }) taken
+pub took_now : (o p q : PassView) (k t : ℕ) (r : Result Bool CallFault) → HasSeenAllOf p o → IfTaken r (HasTaken p q k t) → IfTaken r (TookMeanwhile o q k t)
+took_now o p q k t r seen taken = if_each r (λ had. record { stores = q.view.stores; taken = taken_earlier o p q k t seen had }) taken
 
-pub took_before : (o p x q : PassView) (k t : ℕ) (r : Result Bool CallFault) → HasSeenAllOf p o → HasSeen x.view → HasTaken p x k t → HasSeenAllOf q x → IsSamePass x q → IfTaken r (TookMeanwhile o q k t)
-took_before o p x q k t r seen known had until same = if_any r (record { then = x; taken = taken_earlier o p x k t seen had; seen = known; until = until; same = same })
+pub took_before : (o p x q : PassView) (k t : ℕ) (r : Result Bool CallFault) → HasSeenAllOf p o → HasTaken p x k t → HasSeenAllOf q x → IsSamePass x q → IfTaken r (TookMeanwhile o q k t)
+took_before o p x q k t r seen had until same = if_any r (record {
+  stores = x.view.stores;
+  taken = subst (λ (s : PassView). WasTaken s.view.layout o.view.past q.view.past x.view.stores s.view.number k t) (sym same)
+      (taken_later x.view.layout o.view.past x.view.past q.view.past x.view.stores x.view.number k t until.goes_on (taken_earlier o p x k t seen had));
+})
 
 -- ---- pops
 
@@ -120,7 +148,7 @@ change_frees_none b h k w z r (inr did) = did.1.frees refl
 
 -- a pop took a value after all that had been seen earlier, too
 pub pops_earlier : (o p q : PassView) (v : ℕ) (r : Result (Option ℕ) CallFault) → HasSeenAllOf p o → PopsValue p q v r → PopsValue o q v r
-pops_earlier o p q v (Ok (Some k)) seen took = record { then = took.then; taken = taken_earlier o p took.then k v seen took.taken; seen = took.seen; until = took.until; same = took.same }
+pops_earlier o p q v (Ok (Some k)) seen took = record { stores = took.stores; taken = taken_since q.view.layout o.view.past p.view.past q.view.past took.stores q.view.number k v (shorter o p seen) took.taken }
 pops_earlier o p q v (Ok None) seen took = tt
 pops_earlier o p q v (Err f) seen took = tt
 

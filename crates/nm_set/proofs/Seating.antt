@@ -1,14 +1,13 @@
--- Workers that are on their seats, that were taken from one, and that come back.
-use Rattle.std.proofs.Common.{◌≡◌, ◌∙◌, ◌+◌, ℕ, suc, List, [], ◌∷◌, ◌++◌, length, sym, ap, subst, arith}
+-- Workers that are on their seats.
+use Rattle.std.proofs.Common.{◌≡◌, ◌+◌, ℕ, suc, List, [], ◌∷◌, ◌++◌, length, ap, subst, arith}
 use Rattle.std.specs.Prelude.{Option, Some, None}
 use Rattle.nm_edge.specs.declared.placement.Fit.{Fit}
-use Rattle.nm_seats.specs.Sittings.{AreResident}
-use Rattle.nm_seats.specs.Views.{IsUp, SeatsView, WayBackView}
+use Rattle.nm_lending.specs.Visits.{AreResident}
 use Rattle.nm_steps.specs.Steps.{TreeView}
 use Rattle.nm_steps.specs.declared.view.View.{View}
 use Rattle.nm_tree.specs.Workers.{WorkerView, AreNew}
 use Rattle.nm_set.specs.declared.home.Site.{Site}
-use Rattle.nm_set.specs.Seats.{AreOnSeats, AreOwn, HomeView, IsResident, MayReturn, never_left, seats_in, sits}
+use Rattle.nm_set.specs.Seats.{AreOnSeats, AreOwn, IsResident, sits}
 
 -- a new worker may sit on its seat
 pub new_resident : (b : TreeView) (f : Fit) (i : ℕ) (w : WorkerView) (ws : List WorkerView) → AreNew b i (w ∷ ws) → w.fit ≡ f → IsResident b f i w
@@ -21,23 +20,16 @@ new_resident b f i w ws new fit = record {
 }
 
 -- one more at the end
-pub seated_and : (b : Site) (i : ℕ) (ws : List (Option WorkerView)) (n : ℕ) (w : WorkerView) → n ≡ i + length ws → AreOnSeats b i ws → sits b n w → never_left b n w → AreOnSeats b i (ws ++ Some w ∷ [])
-seated_and b i [] n w e are here new = let at : n ≡ i = omega (arith, e) in (subst (λ (k : ℕ). sits b k w) at here, subst (λ (k : ℕ). never_left b k w) at new, tt)
-seated_and b i (None ∷ ws) n w e are here new = absurd are
-seated_and b i (Some x ∷ ws) n w e are here new = (are.0, are.1, seated_and b (suc i) ws n w (omega (arith, e)) are.2 here new)
-
--- the seats that a home has are those that it is seen to have
-pub same_seats : (s : SeatsView Site) (b : Site) (h : HomeView) → s.site ≡ b → record { tree = b.tree; fit = b.fit; seats = s.table } ≡ h → s ≡ seats_in h
-same_seats s b h site seen = ap (λ (x : Site). record { table = s.table; site = x }) site ∙ ap seats_in seen
-
--- who was taken from its seat may come back there
-pub may_return : (s : SeatsView Site) (i : ℕ) (w : WorkerView) (back : WayBackView Site) → IsUp sits never_left s i w back → MayReturn s w back
-may_return s i w back up = record { table = up.table; site = up.site; seat = up.seat ∙ sym up.here.number }
+pub seated_and : (b : Site) (i : ℕ) (ws : List (Option WorkerView)) (n : ℕ) (w : WorkerView) → n ≡ i + length ws → AreOnSeats b i ws → sits b n 0 w
+    → AreOnSeats b i (ws ++ Some w ∷ [])
+seated_and b i [] n w e are here = let at : n ≡ i = omega (arith, e) in (subst (λ (k : ℕ). sits b k 0 w) at here, tt)
+seated_and b i (None ∷ ws) n w e are here = absurd are
+seated_and b i (Some x ∷ ws) n w e are here = (are.0, seated_and b (suc i) ws n w (omega (arith, e)) are.1 here)
 
 -- those that were on their seats are the tree's
 pub own_residents : (b : Site) (ws : List WorkerView) → AreResident sits b ws → AreOwn b.tree ws
 own_residents b [] are = tt
-own_residents b (w ∷ ws) are = (record { own = are.0.1.own; alive = are.0.1.alive }, own_residents b ws are.1)
+own_residents b (w ∷ ws) are = (record { own = are.0.2.resident.own; alive = are.0.2.resident.alive }, own_residents b ws are.1)
 
 pub own_both : (b : TreeView) (vs ws : List WorkerView) → AreOwn b vs → AreOwn b ws → AreOwn b (vs ++ ws)
 own_both b [] ws are own = own

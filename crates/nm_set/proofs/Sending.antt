@@ -1,4 +1,4 @@
--- Members, sets and maps may go from thread to thread, and a reference to a set may be shared.
+-- Members, sets and maps may go from thread to thread.
 use denote.Param.Send.{IsSend, IsSync, part_keyless, sendable}
 use denote.RattleType.{RattleType}
 use Rattle.std.proofs.Crossing.{crosses}
@@ -12,16 +12,15 @@ use Rattle.nm_epoch.proofs.collecting.HeldQueue.TheSendSync as queue
 use Rattle.nm_tree.specs.contracts.worker.Worker as worker
 use Rattle.nm_tree.proofs.worker.Worker.TheSendSync as worker_crosses
 use Rattle.nm_tree.proofs.tree.Tree.TheSendSync as tree
-use Rattle.nm_seats.proofs.sitting.Seats.TheSendSync as seats
-use Rattle.nm_seats.proofs.sitting.WayBack.TheSendSync as way_back
+use Rattle.nm_lending.proofs.lending.Lending.TheSendSync as seats
+use Rattle.nm_lending.proofs.lending.Loan.TheSendSync as way_back
 use Rattle.nm_set.specs.contracts.posting.Letter as letter
 use Rattle.nm_set.proofs.posting.Letter.TheSendSync as letter_crosses
 use Rattle.nm_set.specs.contracts.home.Home as home
 use Rattle.nm_set.proofs.home.Home.TheSendSync as home_crosses
 use Rattle.nm_set.specs.contracts.member.Member as member
 use Rattle.nm_set.specs.contracts.set.Set as set
-use Rattle.nm_set.specs.contracts.map_member.MapMember as map_member
-use Rattle.nm_set.specs.contracts.map.Map as whole_map
+use Rattle.nm_set.specs.declared.contents.Contents as contents
 
 -- what a reference to a table's seat gives is a part of the seat
 seat_sync : (S V : RattleType) → IsSend S → IsSync (seat.the_row S V)
@@ -42,14 +41,8 @@ letter_sync = search (sendable, crosses, note_sync) depth 20
 home_sync : IsSync home.the_row
 home_sync = search (sendable, crosses, tree.the_sync, counted.the_sync, seats.the_sync, worker_crosses.the_send, letter_crosses.the_send, letter_sync, worker_sync) depth 60
 
-pub member_send : IsSend member.the_row
-member_send = search (sendable, crosses, home_crosses.the_send, home_sync, worker_crosses.the_send, way_back.the_send) depth 60
+pub member_send : (V : RattleType) (g : contents.Ghosts V.Denot) → IsSend (member.the_row V g)
+member_send V g = search (sendable, crosses, home_crosses.the_send, home_sync, worker_crosses.the_send, way_back.the_send) depth 60
 
-pub set_send : IsSend set.the_row
-set_send = search (sendable, crosses, home_crosses.the_send, home_sync, tree.the_send, worker_crosses.the_send) depth 80
-
-pub map_member_send : IsSend map_member.the_row
-map_member_send = search (sendable, crosses, member_send) depth 20
-
-pub map_send : IsSend whole_map.the_row
-map_send = search (sendable, crosses, set_send) depth 20
+pub set_send : (V : RattleType) (g : contents.Ghosts V.Denot) → IsSend (set.the_row V g)
+set_send V g = search (sendable, crosses, home_crosses.the_send, home_sync, tree.the_send, worker_crosses.the_send) depth 80

@@ -9,8 +9,8 @@ use Rattle.nm_tree.specs.declared.closing.CloseReason.TheVariants as because
 use Rattle.nm_tree.specs.declared.closing.Ended.{Ended}
 use Rattle.nm_tree.specs.declared.closing.Report.{Report}
 use Rattle.nm_tree.specs.declared.map_closing.MapReport.{MapReport}
-use Rattle.nm_tree.specs.Closing.{AreAllOf, IsClosed, IsCloseReason}
-use Rattle.nm_tree.specs.MapReports.{EndsMap, value_in}
+use Rattle.nm_tree.specs.Closing.{AreAllOf, IsCloseReason, SaysClosed}
+use Rattle.nm_tree.specs.MapReports.{EndsMap, bare_of, is_bare_in, value_in}
 use Rattle.nm_tree.specs.Workers.{WorkerView}
 use Rattle.nm_tree.proofs.ClosedMaps.{map_said}
 use Rattle.nm_set.specs.declared.home.Site.{Site}
@@ -18,7 +18,7 @@ use Rattle.nm_set.specs.declared.set.CloseError.{CloseError}
 use Rattle.nm_set.specs.declared.set.State.{State}
 use Rattle.nm_set.specs.declared.set.State.TheVariants.{Open, Closing}
 use Rattle.nm_set.specs.Seats.{AreOwn, BeginsWith, IsOwn, MemberView, SetView}
-use Rattle.nm_set.specs.Ends.{EndsMapSet, EndsSet, HasGathered, IsLeftOpen, SaysEnded, SaysMapEnded, set_of}
+use Rattle.nm_set.specs.Ends.{EndsMapSet, HasGathered, IsLeftOpen, SaysEnded, SaysMapEnded, set_of}
 use Rattle.nm_set.specs.States.{MayGather, closing_set, open_set, room_for_one, site_of, standing_of}
 
 -- ---- workers of a tree
@@ -53,28 +53,34 @@ pub record Gathers (s : SetView) (site : Site) (all : List WorkerView) : Type 0 
   pub none : s.closing ≡ true → home ≡ []
   pub own : AreOwn site.tree all
 
-pub ended : (s : SetView) (site : Site) (all : List WorkerView) → Gathers s site all → (r : Report) → IsClosed site.tree all r.queues.items r.keys.items r.free r.reached → EndsSet s r
-ended s site all g r closed =
-    let O : List WorkerView → Type 0 = λ ws. AreOwn site.tree ws in
-    let B : TreeView → Type 0 = λ b. AreOwn b (s.kept ++ g.home) in
-    let C : List WorkerView → Type 0 = λ ws. IsClosed site.tree ws r.queues.items r.keys.items r.free r.reached in
-    let D : TreeView → Type 0 = λ b. IsClosed b (s.kept ++ g.home) r.queues.items r.keys.items r.free r.reached in
-    record { home = g.home; own = subst B (sym g.tree) (subst O g.are g.own); none = g.none; closed = subst D (sym g.tree) (subst C g.are closed) }
+pub ended : (s : SetView) (site : Site) (all : List WorkerView) → Gathers s site all → (r : Report)
+    → SaysClosed site.tree all r.queues.items r.keys.items r.free r.reached → SaysEnded s r
+ended s site all g r says =
+    let C : List WorkerView → Type 0 = λ ws. SaysClosed site.tree ws r.queues.items r.keys.items r.free r.reached in
+    let D : TreeView → Type 0 = λ b. SaysClosed b (s.kept ++ g.home) r.queues.items r.keys.items r.free r.reached in
+    record { home = g.home; none = g.none; says = subst D (sym g.tree) (subst C g.are says) }
 
 -- the same of a map
 pub map_ended : (s : SetView) (site : Site) (all : List WorkerView) → Gathers s site all → (e : Ended)
-    → EndsMap site.tree all e.report.queues.items e.report.keys.items e.leaves.items e.words.values e.nodes e.report.free e.report.reached → EndsMapSet s e
+    → EndsMap site.tree all e.report.queues.items e.report.keys.items e.leaves.items e.words e.layout e.report.free
+    e.report.reached → EndsMapSet s e
 map_ended s site all g e ends =
-    let C : List WorkerView → Type 0 = λ ws. EndsMap site.tree ws e.report.queues.items e.report.keys.items e.leaves.items e.words.values e.nodes e.report.free e.report.reached in
-    let D : TreeView → Type 0 = λ b. EndsMap b (s.kept ++ g.home) e.report.queues.items e.report.keys.items e.leaves.items e.words.values e.nodes e.report.free e.report.reached in
+    let C : List WorkerView → Type 0 = λ ws. EndsMap site.tree ws e.report.queues.items e.report.keys.items
+    e.leaves.items e.words e.layout e.report.free e.report.reached in
+    let D : TreeView → Type 0 = λ b. EndsMap b (s.kept ++ g.home) e.report.queues.items e.report.keys.items
+    e.leaves.items e.words e.layout e.report.free e.report.reached in
     record { home = g.home; none = g.none; ends = subst D (sym g.tree) (subst C g.are ends) }
 
 -- the report of a map
-pub map_said_ended : (s : SetView) (e : Ended) (r : MapReport) → r.report ≡ e.report → r.values.keyed ≡ map (value_in e.words.values) e.leaves.items → r.values.slots ≡ e.words.values → EndsMapSet s e → SaysMapEnded s r
-map_said_ended s e r report keyed slots ends = record { home = ends.home; none = ends.none; says = map_said s.tree (s.kept ++ ends.home) e r report keyed slots ends.ends }
-
-pub says_ended : (s : SetView) (r : Report) → EndsSet s r → SaysEnded s r
-says_ended s r e = record { home = e.home; none = e.none; says = e.closed.says }
+pub map_said_ended : (s : SetView) (e : Ended) (r : MapReport) → r.report ≡ e.report
+    → r.values.keyed ≡ map (value_in e.words.values) e.leaves.items → r.values.slots ≡ e.words.values
+    → bare_of r.values ≡ is_bare_in e.layout e.words.core → EndsMapSet s e → SaysMapEnded s r
+map_said_ended s e r report keyed slots bare ends = record {
+  home = ends.home;
+  none = ends.none;
+  says = map_said s.tree
+      (s.kept ++ ends.home) e r report keyed slots bare ends.ends;
+}
 
 -- it keeps them, where its tree was not closed
 pub kept_all : (s : SetView) (site : Site) (all : List WorkerView) → Gathers s site all → (t : SetView) → t ≡ closing_set site all → (x : CloseReason) → IsCloseReason site.tree all x → HasGathered s x t
@@ -150,17 +156,24 @@ if_err P Q R (Ok x) p q f = tt
 if_err P Q R (Err e) p q f = f e p q
 
 -- a close that has such workers
-module _ (s : SetView) (site : Site) (all : List WorkerView) (g : Gathers s site all) (told : Result Ended CloseError) where
-  pub closes : IfOk told (λ r. IsClosed site.tree all r.report.queues.items r.report.keys.items r.report.free r.report.reached) → IfOk told (λ r. EndsSet s r.report)
-  closes closed =
-      if_ok (λ (r : Ended). IsClosed site.tree all r.report.queues.items r.report.keys.items r.report.free r.report.reached) (λ (r : Ended). EndsSet s r.report) told closed (λ r is. ended s site all g r.report is)
+module _ (s : SetView) (site : Site) (all : List WorkerView) (g : Gathers s site all) (told : Result Ended (CloseError SetView)) where
+  pub closes : IfOk told
+      (λ r. SaysClosed site.tree all r.report.queues.items r.report.keys.items r.report.free r.report.reached)
+      → IfOk told (λ r. SaysEnded s r.report)
+  closes says =
+      if_ok (λ (r : Ended). SaysClosed site.tree all r.report.queues.items r.report.keys.items r.report.free
+      r.report.reached) (λ (r : Ended). SaysEnded s r.report) told says (λ r is. ended s site all g r.report is)
 
   -- with the values of a map
-  pub hands_out : (HasValues site.tree → IfOk told (λ r. EndsMap site.tree all r.report.queues.items r.report.keys.items r.leaves.items r.words.values r.nodes r.report.free r.report.reached)) → HasValues s.tree → IfOk told (EndsMapSet s)
+  pub hands_out : (HasValues site.tree → IfOk told
+      (λ r. EndsMap site.tree all r.report.queues.items r.report.keys.items r.leaves.items r.words r.layout
+      r.report.free r.report.reached)) → HasValues s.tree → IfOk told (EndsMapSet s)
   hands_out values has =
-      if_ok (λ (r : Ended). EndsMap site.tree all r.report.queues.items r.report.keys.items r.leaves.items r.words.values r.nodes r.report.free r.report.reached) (EndsMapSet s) told (values (subst HasValues g.tree has)) (map_ended s site all g)
+      if_ok (λ (r : Ended). EndsMap site.tree all r.report.queues.items r.report.keys.items r.leaves.items r.words
+      r.layout r.report.free r.report.reached) (EndsMapSet s) told (values (subst HasValues g.tree has))
+      (map_ended s site all g)
 
   pub refuses : IfErr told (λ e. e.set ≡ closing_set site all) → IfErr told (λ e. IsCloseReason site.tree all e.reason) → IfErr told (λ e. IsLeftOpen s e.reason e.set)
   refuses refused reason =
-      if_err (λ (e : CloseError). e.set ≡ closing_set site all) (λ (e : CloseError). IsCloseReason site.tree all e.reason) (λ (e : CloseError). IsLeftOpen s e.reason e.set) told refused reason
+      if_err (λ (e : CloseError SetView). e.set ≡ closing_set site all) (λ (e : CloseError SetView). IsCloseReason site.tree all e.reason) (λ (e : CloseError SetView). IsLeftOpen s e.reason e.set) told refused reason
       (λ e is why. left s site all g e.set is e.reason why)

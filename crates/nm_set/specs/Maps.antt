@@ -1,14 +1,14 @@
--- Maps: what managed calls and collections of a map leave, and what is left of a map, of its members,
--- and of workers that were returned, if a call is refused.
+-- Maps: what managed calls and collections of a map leave.
 use Rattle.std.specs.Prelude.{◌≡◌, ◌≢◌, ◌≤◌, ◌+◌, ◌*◌, ℕ, nat_lt, Bool, true, List, length, take, Option, Some, None, Result, Ok, Err, IfOk, IfErr, IfSome}
 use Rattle.nm_edge.specs.Layouts.{Layout}
 use Rattle.nm_model.specs.declared.event.Op.{Op}
 use Rattle.nm_model.specs.declared.event.Op.TheVariants.{Has}
 use Rattle.nm_progress.specs.Alone.{IsAlone}
+use Rattle.nm_steps.specs.declared.view.Stored.{Stored}
 use Rattle.nm_steps.specs.Rules.{ExtendsStores}
-use Rattle.nm_steps.specs.Steps.{HasSeen, HasSeenAllOf, IsSamePass, PassView, TreeView}
+use Rattle.nm_steps.specs.Steps.{PassView, TreeView}
 use Rattle.nm_walks.specs.Bounds.{reach}
-use Rattle.nm_calls.specs.Maps.{HasTaken, MapGave}
+use Rattle.nm_calls.specs.Maps.{MapGave, WasTaken}
 use Rattle.nm_calls.specs.PlainWalks.{most_looks}
 use Rattle.nm_calls.specs.Won.{HasWon}
 use Rattle.nm_calls.specs.declared.many.Query.{Query}
@@ -22,17 +22,10 @@ use Rattle.nm_tree.specs.Handing.{LeavesCollectValues}
 use Rattle.nm_tree.specs.Workers.{WorkerView}
 use Rattle.nm_set.specs.declared.fault.PinnedGetFault.{PinnedGetFault}
 use Rattle.nm_set.specs.declared.fault.PinnedGetFault.TheVariants as getting
-use Rattle.nm_set.specs.declared.map.MapEndError.{MapEndError}
-use Rattle.nm_set.specs.declared.map.MapEndError.TheVariants.{Attached, Gathered}
-use Rattle.nm_set.specs.declared.map.MapKeepReturnedError.{MapKeepReturnedError}
-use Rattle.nm_set.specs.declared.map.MapKeepReturnedError.TheVariants.{Taken, NoMemory}
 use Rattle.nm_set.specs.declared.managed.Options.{Options}
 use Rattle.nm_set.specs.Asked.{UnlessPinned}
-use Rattle.nm_set.specs.Ends.{HasGathered, set_of}
 use Rattle.nm_set.specs.Managed.{FinishesFirst, GoesOn, IsLeft, ManagesIn, MetInterference, round_bound}
-use Rattle.nm_set.specs.Posts.{ReturnedView}
 use Rattle.nm_set.specs.Rounds.{found_behind}
-use Rattle.nm_set.specs.Seats.{MemberView}
 
 -- the values that came back are the first `result.values` ones of the slice, which is as long as
 -- before. If it is not full, no ripe node is left at the front of a queue
@@ -41,18 +34,6 @@ pub record HandsInto (nodes : ℕ) (old new : List ℕ) (w z : WorkerView) (resu
       (take result.values new) result
   pub long : length new ≡ length old
   pub few : result.values ≤ length new
-
--- what was returned is unchanged; or a member of its map has the worker as it was returned
-abbrev pub IsNotKeptByMap : ReturnedView → MapKeepReturnedError → Type 0
-IsNotKeptByMap r (Taken s) = s ≡ r
-IsNotKeptByMap r (NoMemory m) = (m.tree ≡ r.tree) × (r.worker ≡ Some m.worker)
-
--- what is left of a member that has not closed its map: the member is unchanged; or the workers
--- were gathered, and a map keeps the member's worker, and then those that had been returned, and
--- its tree was not closed for that reason
-abbrev pub IsMapNotEnded : MemberView → MapEndError → Type 0
-IsMapNotEnded m (Attached n) = n ≡ m
-IsMapNotEnded m (Gathered e) = HasGathered (set_of m) e.reason e.map
 
 -- the result of a look-up under the caller's pin, which can fail for one reason alone
 abbrev pub of_pinned : {A : Type 0} → Result A CallFault → Result A PinnedGetFault
@@ -115,13 +96,10 @@ SaysGet b h k w z r = UnlessPinned (ManagesGet b h k w z r) w z r
 abbrev pub SaysChange : Op → TreeView → Options → ℕ → WorkerView → WorkerView → Result Bool CallFault → Type 0
 SaysChange op b h k w z r = UnlessPinned (ManagesIn true b h op k w z r) w z r
 
--- the worker took the key with this value at a moment of the call, by what it had seen then
+-- the worker took the key with this value in the call, by the stores that it had seen then
 pub record TookMeanwhile (p q : PassView) (k v : ℕ) : Type 0 where
-  pub then : PassView
-  pub taken : HasTaken p then k v
-  pub seen : HasSeen then.view
-  pub until : HasSeenAllOf q then
-  pub same : IsSamePass then q
+  pub stores : List Stored
+  pub taken : WasTaken q.view.layout p.view.past q.view.past stores q.view.number k v
 
 -- the map had the key that was found with this value at a moment of the call
 abbrev pub FindsValue : PassView → PassView → ℕ → Result (Option ℕ) CallFault → Type 0

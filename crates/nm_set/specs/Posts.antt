@@ -1,5 +1,5 @@
 -- Stamps that workers publish in their mailboxes, for the other workers of their set.
-use Rattle.std.specs.Prelude.{◌≡◌, ◌⊎◌, ◌<◌, ◌≤◌, ◌+◌, ℕ, List, ◌++◌, Option, Some, None, IsSome, Result, Ok, Err, is_some, if◌then◌else◌}
+use Rattle.std.specs.Prelude.{◌≡◌, ◌⊎◌, ◌<◌, ◌≤◌, ◌+◌, ℕ, List, ◌++◌, Option, Some, None, Result, Ok, Err, is_some, if◌then◌else◌}
 use Rattle.nm_model.specs.declared.trace.Turn.{Turn}
 use Rattle.nm_order.specs.Logs.{part_of}
 use Rattle.nm_steps.specs.Rules.{Extends, ExtendsStores}
@@ -9,13 +9,12 @@ use Rattle.nm_walks.specs.WonCounts.{won_links, won_flags}
 use Rattle.nm_epoch.specs.Collecting.{capped}
 use Rattle.nm_tree.specs.Workers.{WorkerView}
 use Rattle.nm_tree.specs.declared.resigning.ResignReason.{ResignReason}
-use Rattle.nm_tree.specs.declared.resigning.ResignReason.TheVariants as because
 use Rattle.nm_set.specs.declared.fault.ObserveFault.{ObserveFault}
 use Rattle.nm_set.specs.declared.fault.ObserveFault.TheVariants as posting
 use Rattle.nm_set.specs.declared.home.Site.{Site}
 use Rattle.nm_set.specs.declared.posting.Stamp.{Stamp}
-use Rattle.nm_set.specs.Seats.{IsResident, IsTicketOf, MemberView}
-use Rattle.nm_seats.specs.Views.{SeatsView, TicketView}
+use Rattle.nm_set.specs.Seats.{IsAbsence, IsResident, IsTicketOf, MemberView, Stays}
+use Rattle.nm_lending.specs.Views.{CallerView, LendingView}
 
 -- 1 if a delete of worker i is pending by these turns, else 0
 abbrev pub pending_by : ℕ → List Turn → ℕ
@@ -47,17 +46,17 @@ pub record IsReturned (w : WorkerView) (r : ReturnedView) : Type 0 where
   pub note : IsNoteOf w.pass r.note
   pub own : part_of w.pass.view.number r.note.past ≡ w.pass.view.log
 
--- after `Pending`, the worker of number i was returned as it was found, with its key still pending;
--- after any other reason no worker was found
+-- no worker was found; or the worker of number i was found on its seat, stays for that reason, and was
+-- returned as it was found
 abbrev pub IsSentBack : MemberView → ℕ → ResignReason → Option ReturnedView → Type 0
-IsSentBack m i because.Pending (Some r) = (r.tree ≡ m.tree) × (w : WorkerView)
-    × IsResident m.tree m.worker.fit i w × IsSome w.pending × IsReturned w r
-IsSentBack m i because.Pending None = ⊥
-IsSentBack m i _ r = r ≡ None
+IsSentBack m i why None = IsAbsence why
+IsSentBack m i why (Some r) = (r.tree ≡ m.tree) × (w : WorkerView)
+    × IsResident m.tree m.worker.fit i w × Stays w why × IsReturned w r
 
 -- the worker sat down on one of these seats, and left this ticket, with what it has done and a note
 -- of what it has seen
-pub record HasSat (s : SeatsView Site) (w : WorkerView) (done : Stamp) (note : Notice) (t : TicketView WorkerView Site) : Type 0 where
+pub record HasSat (s : LendingView Site) (w : WorkerView) (done : Stamp) (note : Notice)
+    (t : CallerView WorkerView Site) : Type 0 where
   pub tally : IsTallyOf w done
   pub noted : IsNoteOf w.pass note
   pub own : part_of w.pass.view.number note.past ≡ w.pass.view.log

@@ -12,8 +12,8 @@ use Rattle.nm_set.specs.declared.home.Absence.{Absence}
 use Rattle.nm_set.specs.declared.home.Absence.TheVariants as absence
 use Rattle.nm_set.specs.declared.home.Site.{Site}
 use Rattle.atomic_table.specs.Seated.{TableId}
-use Rattle.nm_seats.specs.Sittings.{AreSeated}
-use Rattle.nm_seats.specs.Views.{SeatsView, TicketView, WayBackView}
+use Rattle.nm_lending.specs.Visits.{AreSeated}
+use Rattle.nm_lending.specs.Views.{CallerView, LendingView, LoanView}
 
 -- what clauses see of a member: the tree on which it works, its worker, and how often that worker
 -- had been returned to its seat before this member got it
@@ -69,31 +69,34 @@ pub record IsAnyResident (b : TreeView) (f : Fit) (w : WorkerView) : Type 0 wher
   pub free : w.held ≡ None
 
 -- the seats of a home
-abbrev pub seats_in : HomeView → SeatsView Site
+abbrev pub seats_in : HomeView → LendingView Site
 seats_in h = record { table = h.seats; site = site_in h }
 
--- `sits`, `never_left`: what holds of the worker on a seat, and of one that was never taken from it
-abbrev pub sits : Site → ℕ → WorkerView → Type 0
-sits b i w = IsResident b.tree b.fit i w
+-- the worker of seat i sits there in sitting n; in sitting 0, in which it was never taken from there,
+-- it is new
+pub record sits (b : Site) (i n : ℕ) (w : WorkerView) : Type 0 where
+  pub resident : IsResident b.tree b.fit i w
+  pub first : n ≡ 0 → AreNew b.tree i (w ∷ [])
 
-abbrev pub never_left : Site → ℕ → WorkerView → Type 0
-never_left b i w = AreNew b.tree i (w ∷ [])
+-- how a worker may change while it is not on its seat: in any way
+abbrev pub changes : Site → WorkerView → WorkerView → Type 0
+changes b w z = Unit {0}
 
 -- on seat i of that site, on seat i + 1, and so on, sit workers that were never taken from them
 abbrev pub AreOnSeats : Site → ℕ → List (Option WorkerView) → Type 0
-AreOnSeats b i ws = AreSeated sits never_left b i ws
+AreOnSeats b i ws = AreSeated sits b i ws
 
 -- the worker may come back to its own one of these seats
-pub record MayReturn (s : SeatsView Site) (w : WorkerView) (back : WayBackView Site) : Type 0 where
+pub record MayReturn (s : LendingView Site) (w : WorkerView) (back : LoanView WorkerView Site) : Type 0 where
   pub table : back.table ≡ s.table
-  pub site : back.site ≡ s.site
+  pub site : back.site ≡ Some s.site
   pub seat : back.seat ≡ w.pass.view.number
 
--- the ticket shows that this very worker sat on one of these seats
-pub record IsTicketOf (s : SeatsView Site) (w : WorkerView) (t : TicketView WorkerView Site) : Type 0 where
+-- the ticket shows that this very worker sat down on one of these seats
+pub record IsTicketOf (s : LendingView Site) (w : WorkerView) (t : CallerView WorkerView Site) : Type 0 where
   pub table : t.table ≡ s.table
-  pub site : t.site ≡ s.site
-  pub value : t.value ≡ Some w
+  pub site : t.site ≡ Some s.site
+  pub value : t.left ≡ Some w
 
 -- the worker is not pinned by its caller: it is unchanged, or was unpinned
 abbrev pub IsLetGo : WorkerView → WorkerView → Type 0
@@ -128,14 +131,25 @@ abbrev pub told_absence : Absence → ResignReason
 told_absence absence.Number = because.Number
 told_absence absence.Attached = because.Attached
 
+-- `IsAbsence`: the reason is that no worker was found on its seat. `Stays`: the worker was found there,
+-- and does not resign for this reason: it has a pending key, or it has none, and memory was refused
+abbrev pub IsAbsence : ResignReason → Type 0
+IsAbsence because.Number = Unit {0}
+IsAbsence because.Attached = Unit {0}
+IsAbsence _ = ⊥
+
+abbrev pub Stays : WorkerView → ResignReason → Type 0
+Stays w because.Pending = IsSome w.pending
+Stays w because.NoMemory = w.pending ≡ None
+Stays w _ = ⊥
+
 -- why the worker of that number has not resigned to a member: `Number`: the tree has none of that
--- number; `Attached`: the tree has one; `Pending`: the tree has one, and it has a pending key
+-- number; `Attached`: the tree has one; otherwise the tree has one, which stays for that reason
 abbrev pub IsStaying : MemberView → ℕ → ResignReason → Type 0
 IsStaying m i because.Number = m.tree.layout.workers ≤ i
 IsStaying m i because.Attached = i < m.tree.layout.workers
-IsStaying m i because.Pending = (i < m.tree.layout.workers) × (w : WorkerView)
-    × IsResident m.tree m.worker.fit i w × IsSome w.pending
-IsStaying m i because.Held = ⊥
+IsStaying m i why = (i < m.tree.layout.workers) × (w : WorkerView)
+    × IsResident m.tree m.worker.fit i w × Stays w why
 
 -- which answers `is_attached` gives: a boolean only for an open set and a number of its tree, else
 -- an error; no clause says that the boolean is right

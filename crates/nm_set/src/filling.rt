@@ -1,18 +1,19 @@
 //! Sets that are made of keys: one member inserts them before any other member can act.
-ghost use Rattle.std.specs.Prelude.{◌≡◌, ◌+◌, ◌<◌, ℕ, [], true, length, None, IfOk, IfSome, Ok};
+ghost use Rattle.std.specs.Prelude.{◌≡◌, ◌+◌, ◌<◌, ℕ, [], ◌∷◌, true, false, length, None, IfErr, IfOk, IfSome, Ok};
 ghost use Rattle.nm_edge.specs.Layouts.{in_radix, spaced};
 ghost use Rattle.nm_model.specs.declared.event.Op.TheVariants.{Insert};
 ghost use Rattle.nm_order.specs.Logs.{part_of};
-ghost use Rattle.nm_set.specs.Filling.{HasFilled, HasInserted, HasWatched, HaveWatched, RiseFrom};
+ghost use Rattle.nm_set.specs.Filling.{HasFilled, HasInserted, HasWatched, HaveWatched, IsNotMade, RiseFrom, StopsFilling};
 ghost use Rattle.nm_set.specs.Managed.{SaysManaged};
 ghost use Rattle.nm_set.specs.Seats.{AreNewMembers, IsNewMember};
 ghost use Rattle.nm_set.specs.States.{IsNewSet};
 
+use crate::contents::Keys;
 use crate::fault::InsertFault;
 use crate::managed::Options;
 use crate::member::Member;
 use crate::set::Set;
-use nm_edge::Key;
+use nm_edge::{Key, MOST_SPACED_NODES};
 use nm_tree::{CallFault, Fit, NewError};
 use std::alloc::Global;
 use thiserror::Error;
@@ -44,15 +45,17 @@ pub struct SetOfKeys {
     pub filler: Member,
 }
 
-impl Set {
+impl Set<Keys> {
     /// Makes the set of ascending keys, in a radix tree as `new` does, with all its members. The
     /// last member inserts the keys, in their order, before any other member can act. Proved: after
     /// what it has seen then, the set has exactly these keys. The other members have made no
     /// transition (turn), and have seen all that it has seen: so each call that they make comes
     /// after the inserts.
     ///
-    /// Errors: `New`: as of `with_members`. `Order`: the keys do not ascend. `Full`: n keys take
-    /// 2 n + 5 nodes. `Busy`: an insert reached the bounds of the options. Nothing is kept.
+    /// Errors: `New`: as of `with_members`, or an insert lacked memory. `Order`: the keys do not
+    /// ascend. `Full`: n keys take 2 n + 5 nodes. `Busy`: an insert reached the bounds of the options.
+    /// Nothing is kept. Proved (`not_made`): each error has its reason; after `Full` and `Busy` it is
+    /// what the insert of one of the keys returned.
     /// Cost: an insert for each key.
     pub fn of_keys(
         alloc: Global,
@@ -69,6 +72,8 @@ impl Set {
             (λ r. HasFilled r.set.tree r.set.fit (length r.others.items) keys.now r.filler) }
         ensures others { IfOk result
             (λ r. HaveWatched r.set.tree r.set.fit r.filler.worker.pass 0 r.others.items) }
+        ensures not_made { IfErr result (IsNotMade MOST_SPACED_NODES nodes workers
+            options.now keys.now) }
     {
         if !ascend(keys) {
             return Err(OfKeysError::Order);
@@ -97,7 +102,8 @@ impl Set {
 
 /// Returns whether each key is above the one before it.
 fn ascend(keys: &[Key]) -> bool
-    ensures { result ≡ true → RiseFrom 0 keys.now }
+    ensures yes { result ≡ true → RiseFrom 0 keys.now }
+    ensures no { result ≡ false → RiseFrom 0 keys.now → ⊥ }
 {
     let mut least = 0;
     for key in keys {
@@ -118,6 +124,7 @@ fn fill(member: &mut Member, keys: &[Key], options: &Options) -> Result<(), OfKe
     ensures free { IfOk result (λ _. member.new.worker.held ≡ None) }
     ensures settled { IfOk result (λ _. member.new.worker.pending ≡ None) }
     ensures did { IfOk result (λ _. HasInserted keys.now member.old.worker member.new.worker) }
+    ensures stopped { IfErr result (StopsFilling options.now keys.now) }
 {
     for key in keys {
         if let Err(error) = add(member, *key, options) {
@@ -132,11 +139,12 @@ fn add(member: &mut Member, key: Key, options: &Options) -> Result<(), OfKeysErr
     ensures tree { member.new.tree ≡ member.old.tree }
     ensures did { IfOk result (λ _. SaysManaged Insert member.old.tree options.now key
         member.old.worker member.new.worker (Ok true)) }
+    ensures stopped { IfErr result (StopsFilling options.now (key ∷ [])) }
 {
     match member.insert(key, options) {
         Ok(true) => Ok(()),
         Ok(false) => Err(OfKeysError::Busy),
-        Err(InsertFault::Full(_)) => Err(OfKeysError::Full),
+        Err(InsertFault::Full(_) | InsertFault::Other(CallFault::Full)) => Err(OfKeysError::Full),
         Err(InsertFault::Other(CallFault::NoMemory)) => Err(OfKeysError::New(NewError::NoMemory)),
         Err(InsertFault::Other(_)) => Err(OfKeysError::Busy),
     }

@@ -1,13 +1,14 @@
 //! A tree together with the workers that were gathered for its end.
 ghost use Rattle.std.specs.Prelude.{◌≡◌, IfErr, IfOk};
 ghost use Rattle.nm_steps.specs.Values.{HasValues};
-ghost use Rattle.nm_tree.specs.Closing.{IsClosed, IsCloseReason};
+ghost use Rattle.nm_tree.specs.Closing.{SaysClosed, IsCloseReason};
 ghost use Rattle.nm_tree.specs.MapReports.{EndsMap};
 ghost use Rattle.nm_set.specs.Seats.{AreOwn};
 ghost use Rattle.nm_set.specs.States.{closing_set};
 
+use crate::contents::Contents;
 use crate::home::Site;
-use crate::set::{CloseError, end};
+use crate::set::{CloseError, Set, end};
 use nm_tree::{Ended, Worker};
 use std::marker::Model;
 
@@ -38,12 +39,13 @@ impl Gathered {
     }
 
     /// Closes the tree. If that fails, a set that is closing keeps both.
-    pub(crate) fn close(self) -> Result<Ended, CloseError>
+    pub(crate) fn close<V: Contents>(self) -> Result<Ended, CloseError<Set<V>>>
+        requires { V.fits self.tree }
         ensures own { AreOwn self.tree self.kept }
-        ensures closed { IfOk result (λ r. IsClosed self.tree self.kept r.report.queues.items
+        ensures says { IfOk result (λ r. SaysClosed self.tree self.kept r.report.queues.items
             r.report.keys.items r.report.free r.report.reached) }
         ensures values { HasValues self.tree → IfOk result (λ r. EndsMap self.tree self.kept
-            r.report.queues.items r.report.keys.items r.leaves.items r.words.values r.nodes r.report.free
+            r.report.queues.items r.report.keys.items r.leaves.items r.words r.layout r.report.free
             r.report.reached) }
         ensures refused { IfErr result (λ e. e.set ≡ self) }
         ensures reason { IfErr result (λ e. IsCloseReason self.tree self.kept e.reason) }

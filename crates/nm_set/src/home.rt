@@ -1,5 +1,6 @@
 //! The home of a tree's workers: one seat for each worker, which keeps it while no member has it.
 ghost use Rattle.std.specs.Prelude.{◌≡◌, ◌<◌, ◌≤◌, ◌+◌, ◌^◌, ◌↔◌, ◌∷◌, [], length, None, IfNone, IfOk, IfErr, IfSome, IsErrOf, Some, vec_capacity};
+ghost use Rattle.nm_lending.specs.Views.{IsNotThere};
 ghost use Rattle.nm_tree.specs.Workers.{AreNew, HaveFit};
 ghost use Rattle.nm_set.specs.Posts.{HasSat};
 ghost use Rattle.nm_set.specs.Seats.{AreOnSeats, AreOwn, ArePlaces, BeginsWith, HasRoom, IsOwn, IsResident, IsTicketOf, MayReturn, seats_in, site_in};
@@ -122,9 +123,9 @@ impl Home {
         if self.seats.len() <= number as usize {
             return Err(Absence::Number);
         }
-        match self.seats.stand_up(number) {
-            Some((worker, way_back)) => Ok((SealedWorker::of(worker), way_back)),
-            None => Err(Absence::Attached),
+        match self.seats.lend(self.seats.caller(), number) {
+            Ok((worker, way_back)) => Ok((SealedWorker::of(worker), way_back)),
+            Err(_) => Err(Absence::Attached),
         }
     }
 
@@ -137,19 +138,21 @@ impl Home {
         if self.seats.len() <= number as usize {
             return None;
         }
-        let (worker, way_back) = self.seats.stand_up_first(number)?;
-        Some((SealedWorker::of(worker), way_back))
+        match self.seats.lend_first(self.seats.caller(), number) {
+            Ok((worker, way_back)) => Some((SealedWorker::of(worker), way_back)),
+            Err(_) => None,
+        }
     }
 
     /// Takes the very worker of a ticket, if nobody has taken it since it sat down.
     pub(crate) fn take_again(&self, ticket: Ticket) -> Result<(SealedWorker, WayBack), Ticket>
-        requires { (ticket.table ≡ self.now.seats) × (ticket.site ≡ site_in self.now) }
-        ensures same { IfOk result (λ g. ticket.value ≡ Some g.0.worker) }
+        requires { (ticket.table ≡ self.now.seats) × (ticket.site ≡ Some (site_in self.now)) }
+        ensures same { IfOk result (λ g. ticket.left ≡ Some g.0.worker) }
         ensures taken { IfOk result (λ g. IsResident self.now.tree self.now.fit ticket.seat g.0.worker) }
         ensures back { IfOk result (λ g. MayReturn (seats_in self.now) g.0.worker g.1) }
-        ensures refused { IfErr result (λ t. t ≡ ticket) }
+        ensures refused { IfErr result (IsNotThere ticket) }
     {
-        match self.seats.stand_up_again(ticket) {
+        match self.seats.lend_again(ticket) {
             Ok((worker, way_back)) => Ok((SealedWorker::of(worker), way_back)),
             Err(ticket) => Err(ticket),
         }
@@ -170,7 +173,7 @@ impl Home {
     pub(crate) fn retire(&self, way_back: WayBack)
         requires { way_back.table ≡ self.now.seats }
     {
-        self.seats.retire(way_back);
+        let _caller = self.seats.retire(way_back);
     }
 
     /// Returns whether a member has the worker; `None` if there is no worker of that number.
@@ -181,7 +184,8 @@ impl Home {
         if self.seats.len() <= number as usize {
             return None;
         }
-        Some(self.seats.is_away(number))
+        let mut caller = self.seats.caller();
+        Some(self.seats.is_away(&mut caller, number))
     }
 
     /// Returns the mailbox of a worker; `None` if there is no worker of that number.

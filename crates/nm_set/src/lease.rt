@@ -1,6 +1,7 @@
 //! What a member has of its home: the tree for its calls, and the way back to its seat.
 ghost use Rattle.std.specs.Prelude.{◌≡◌, ◌<◌, ◌≤◌, ◌↔◌, List, ◌∷◌, [], Some, None, IfErr, IfNone, IfOk, IfSome, IsErrOf};
 ghost use Rattle.std.specs.Arc.{arc_value};
+ghost use Rattle.nm_lending.specs.Views.{IsNotThere};
 ghost use Rattle.nm_set.specs.Posts.{HasSat};
 ghost use Rattle.nm_set.specs.Seats.{BeginsWith, IsOwn, IsResident, MayReturn, seats_in, site_in};
 ghost use Rattle.nm_set.specs.States.{closing_set};
@@ -80,12 +81,12 @@ impl Lease {
         self,
         ticket: Ticket,
     ) -> (Lease, Result<(SealedWorker, WayBack), Ticket>)
-        requires { (ticket.table ≡ self.seats) × (ticket.site ≡ site_in self) }
+        requires { (ticket.table ≡ self.seats) × (ticket.site ≡ Some (site_in self)) }
         ensures lease { result.0 ≡ self }
-        ensures same { IfOk result.1 (λ g. ticket.value ≡ Some g.0.worker) }
+        ensures same { IfOk result.1 (λ g. ticket.left ≡ Some g.0.worker) }
         ensures taken { IfOk result.1 (λ g. IsResident self.tree self.fit ticket.seat g.0.worker) }
         ensures back { IfOk result.1 (λ g. MayReturn (seats_in self) g.0.worker g.1) }
-        ensures refused { IfErr result.1 (λ t. t ≡ ticket) }
+        ensures refused { IfErr result.1 (IsNotThere ticket) }
     {
         let found = self.home.take_again(ticket);
         (self, found)

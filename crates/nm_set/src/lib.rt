@@ -7,6 +7,7 @@
 #![tactic(auto)]
 
 mod attach;
+mod contents;
 mod ending;
 mod fault;
 mod filling;
@@ -14,10 +15,8 @@ mod gathering;
 mod home;
 mod lease;
 mod managed;
-mod map;
 mod map_calls;
 mod map_managed;
-mod map_member;
 mod map_popping;
 mod map_scanning;
 mod member;
@@ -29,13 +28,13 @@ mod scanning;
 mod seat;
 mod set;
 
+pub use contents::{Contents, Keys, Values};
 pub use ending::EndError;
 pub use fault::{Fullness, InsertFault, MemberFault, NotPinned, ObserveFault, PinnedGetFault};
 pub use filling::{OfKeysError, SetOfKeys};
 pub use managed::Options;
-pub use map::{Map, MapCloseError, MapEndError, MapKeepError, MapKeepReturnedError};
+pub use map_calls::MapMember;
 pub use map_managed::Reclaimed;
-pub use map_member::{MapMember, MapResignError, ReturnedMapWorker};
 pub use member::{Member, ResignError};
 pub use nm_tree::{
     Advance, Behind, CallFault, CloseReason, Collected, Counts, Entry, Fit, HandedOut, HeldQueue,
@@ -43,5 +42,5 @@ pub use nm_tree::{
     Tally,
 };
 pub use posting::{Stamp, letters_are_in_order};
-pub use returning::ReturnedWorker;
-pub use set::{CloseError, KeepError, KeepReturnedError, Set};
+pub use returning::{ReturnedMapWorker, ReturnedWorker};
+pub use set::{CloseError, KeepError, KeepReturnedError, Map, Set};

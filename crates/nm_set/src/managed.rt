@@ -4,7 +4,7 @@ ghost use Rattle.std.specs.Prelude.{◌≡◌, ◌≢◌, ◌≤◌, ◌<◌, �
 ghost use Rattle.nm_model.specs.declared.event.Op.TheVariants.{Has, Insert, Delete};
 ghost use Rattle.nm_calls.specs.declared.fault.CallFault.TheVariants as call;
 ghost use Rattle.nm_tree.specs.Answers.{FreesNone};
-ghost use Rattle.nm_tree.specs.Calls.{LeavesHas, LeavesInsert, LeavesDelete};
+ghost use Rattle.nm_tree.specs.Calls.{LeavesCollect, LeavesHas, LeavesInsert, LeavesDelete};
 ghost use Rattle.nm_steps.specs.Values.{HasValues};
 ghost use Rattle.nm_tree.specs.Workers.{IsIdle, WorkerView, waiting_in};
 ghost use Rattle.nm_set.specs.declared.fault.Fullness.{Fullness};
@@ -12,11 +12,12 @@ ghost use Rattle.nm_set.specs.Managed.{Answers, Manages, SaysManaged, WasFull, o
 ghost use Rattle.nm_set.specs.MapRounds.{MovesValue};
 ghost use Rattle.nm_set.specs.Rounds.{AnswersIn, FinishesIn, Inserts, IsKnown, IsReady, IsRelieved, ManagesInsert, Removes, found_behind, plain, with_fullness};
 
+use crate::contents::{Contents, Keys};
 use crate::fault::{Fullness, InsertFault};
 use crate::member::Member;
 use nm_edge::Key;
 use nm_model::Op;
-use nm_tree::{Advance, CallFault};
+use nm_tree::{Advance, CallFault, Collected};
 
 /// What a managed call may spend, and when it collects. Cost: at most 3 `rounds` + 5 rounds, each
 /// of at most `tries` * (4 `reach` + 512) + 7 `nodes` + 2 `workers` + 12 steps. A walk's reach is
@@ -125,40 +126,7 @@ pub(crate) fn without_one(options: &Options) -> Options
     }
 }
 
-impl Member {
-    /// Returns whether the set has the key.
-    ///
-    /// It retries a look-up that lost each of its tries, at most `rounds` times. If the remove of
-    /// an earlier call is pending, it finishes that one first, by at most `rounds` and one calls of
-    /// `finish`. So nothing is pending after an answer, and after `Busy`. Proved (`frees`): it
-    /// frees no node.
-    ///
-    /// Errors: `Pinned`: the caller has pinned the worker; nothing has changed. `Pending`: the
-    /// earlier remove is not finished, and this call has done nothing else. `Busy`: each look-up
-    /// lost each of its tries, or the options allow none; other workers have advanced the epoch, or
-    /// linked or cut off nodes, at least that often meanwhile. Proved (`alone`, `pending`): a call
-    /// with at least one try is answered if no other worker has a remove pending before it or makes
-    /// a transition during it. The exception is that the room for the earlier remove is refused.
-    #[inline(always)]
-    pub fn contains(&mut self, key: Key, options: &Options) -> Result<bool, CallFault>
-        ensures tree { self.new.tree ≡ self.old.tree }
-        ensures says { SaysManaged Has self.old.tree options.now key self.old.worker
-            self.new.worker result }
-        ensures frees { FreesNone self.old.worker self.new.worker }
-    {
-        if self.pinned().is_some() {
-            return Err(CallFault::Pinned);
-        }
-        match self
-            .home
-            .tree()
-            .has(&mut self.sealed.worker, key, options.tries)
-        {
-            Ok(answer) => Ok(answer),
-            Err(fault) => self.contains_after(key, options, fault),
-        }
-    }
-
+impl Member<Keys> {
     /// Inserts `key`; returns true if it was absent.
     ///
     /// Like `contains`, it finishes the remove of an earlier call first, and retries an insert that
@@ -215,6 +183,51 @@ impl Member {
     /// makes a transition during it. The exception is that the room of a try is refused later.
     #[inline(always)]
     pub fn remove(&mut self, key: Key, options: &Options) -> Result<bool, CallFault>
+        ensures tree { self.new.tree ≡ self.old.tree }
+        ensures says { SaysManaged Delete self.old.tree options.now key self.old.worker
+            self.new.worker result }
+    {
+        self.remove_freeing(key, options)
+    }
+}
+
+impl<V: Contents> Member<V> {
+    /// Returns whether the set has the key.
+    ///
+    /// It retries a look-up that lost each of its tries, at most `rounds` times. If the remove of
+    /// an earlier call is pending, it finishes that one first, by at most `rounds` and one calls of
+    /// `finish`. So nothing is pending after an answer, and after `Busy`. Proved (`frees`): it
+    /// frees no node.
+    ///
+    /// Errors: `Pinned`: the caller has pinned the worker; nothing has changed. `Pending`: the
+    /// earlier remove is not finished, and this call has done nothing else. `Busy`: each look-up
+    /// lost each of its tries, or the options allow none; other workers have advanced the epoch, or
+    /// linked or cut off nodes, at least that often meanwhile. Proved (`alone`, `pending`): a call
+    /// with at least one try is answered if no other worker has a remove pending before it or makes
+    /// a transition during it. The exception is that the room for the earlier remove is refused.
+    #[inline(always)]
+    pub fn contains(&mut self, key: Key, options: &Options) -> Result<bool, CallFault>
+        ensures tree { self.new.tree ≡ self.old.tree }
+        ensures says { SaysManaged Has self.old.tree options.now key self.old.worker
+            self.new.worker result }
+        ensures frees { FreesNone self.old.worker self.new.worker }
+    {
+        if self.pinned().is_some() {
+            return Err(CallFault::Pinned);
+        }
+        match self
+            .home
+            .tree()
+            .has(&mut self.sealed.worker, key, options.tries)
+        {
+            Ok(answer) => Ok(answer),
+            Err(fault) => self.contains_after(key, options, fault),
+        }
+    }
+
+    /// Does `remove` of a set.
+    #[inline(always)]
+    pub(crate) fn remove_freeing(&mut self, key: Key, options: &Options) -> Result<bool, CallFault>
         ensures tree { self.new.tree ≡ self.old.tree }
         ensures says { SaysManaged Delete self.old.tree options.now key self.old.worker
             self.new.worker result }
@@ -452,9 +465,17 @@ impl Member {
         self.know_run();
         let second = self.advance();
         self.know_run();
-        self.collect();
+        self.free();
         self.know_run();
         behind_of(&first, &second)
+    }
+
+    /// Frees what has waited long enough, in a set: `Tree::collect` of `nm_tree`.
+    pub(crate) fn free(&mut self) -> Collected
+        ensures tree { self.new.tree ≡ self.old.tree }
+        ensures says { LeavesCollect self.old.tree.layout.nodes self.old.worker self.new.worker result }
+    {
+        self.home.tree().collect(&mut self.sealed.worker)
     }
 
     /// Retries a call after a first one that failed with this error. It makes what

@@ -12,8 +12,8 @@ ghost use Rattle.nm_set.specs.Asked.{Asked};
 ghost use Rattle.nm_set.specs.MapRounds.{GetsIn};
 ghost use Rattle.nm_set.specs.Maps.{LeavesReclaim, ManagesGet, SaysChange, SaysGet, TookMeanwhile};
 
+use crate::contents::{Contents, Values};
 use crate::managed::{Options, behind_of, is_pending, is_unfinished, without_one};
-use crate::map_member::MapMember;
 use crate::member::Member;
 use nm_edge::Key;
 use nm_model::Op;
@@ -38,7 +38,7 @@ fn is_busy(told: &Result<Option<u64>, CallFault>) -> bool
     matches!(told, Err(CallFault::Busy))
 }
 
-impl MapMember {
+impl Member<Values> {
     /// Returns the value that the map has under `key`, or `None` if it does not have the key.
     ///
     /// Like `Member::contains`, it finishes the remove of an earlier call first, and retries a
@@ -56,7 +56,17 @@ impl MapMember {
         ensures tree { self.new.tree ≡ self.old.tree }
         ensures says { SaysGet self.old.tree options.now key self.old.worker self.new.worker result }
     {
-        self.member.get_managed(key, options)
+        if self.pinned().is_some() {
+            return Err(CallFault::Pinned);
+        }
+        match self
+            .home
+            .tree()
+            .get(&mut self.sealed.worker, key, options.tries)
+        {
+            Ok(found) => Ok(found),
+            Err(fault) => self.get_after(key, options, fault),
+        }
     }
 
     /// Inserts `key` with `value`; returns true if the key was absent. Otherwise the key keeps its
@@ -89,14 +99,22 @@ impl MapMember {
         ensures finds { result ≡ Ok false → MapGave self.old.worker.pass self.new.worker.pass key
             (Some found.new) }
     {
-        self.member.insert_managed(key, value, found, options)
+        self.know_run();
+        if self.pinned().is_some() {
+            return Err(CallFault::Pinned);
+        }
+        let Ok(_done) = self.finish_with_retries(options) else {
+            return Err(CallFault::Pending);
+        };
+        self.ask_value_with_retries(Op::Insert, key, value, found, options)
     }
 
     /// Removes `key`; returns true if it was present, after the leaf with the key was cut off.
     /// Then, and after `Unfinished`, it has written the value that the key had to `taken`. Proved
-    /// (`takes`): the map had the key with this value at a moment of the call, in the slot of a
-    /// leaf that the worker has flagged. The value comes back by `reclaim` too, once nobody can
-    /// read it.
+    /// (`takes`): this call has flagged a leaf, and right before that the map had the key with this
+    /// value in this very leaf. So it is the value of this remove in each history of the map
+    /// (`taken_values_are_of_their_acts` of `nm_calls`). The value comes back by `reclaim` too, once
+    /// nobody can read it.
     ///
     /// Like `get`, it finishes the remove of an earlier call first, and retries a remove that lost
     /// each of its tries. One that has flagged its leaf goes on by at most `rounds` and one calls
@@ -117,13 +135,14 @@ impl MapMember {
         ensures takes { IfTaken result (TookMeanwhile self.old.worker.pass self.new.worker.pass key
             taken.new) }
     {
-        self.member.remove_managed(key, taken, options)
+        self.know_run();
+        self.remove_managed(key, taken, options)
     }
 
     /// Tries twice to advance the epoch, and then collects: `advance` and `collect`. It writes the
-    /// value of each freed leaf to `out`, and stops before a leaf if `out` is full: if as many
+    /// value of each freed leaf to `out`, and stops if `out` is full: if as many
     /// values were written as `out` has room for, call again. It may be called at any time. Cost:
-    /// at most `nodes` + 2 `workers` + 2 steps, and a look for each value.
+    /// at most `nodes` + 2 `workers` + 2 steps, a look for each freed node, and one for each value.
     pub fn reclaim(&mut self, out: &mut [u64]) -> Reclaimed
         ensures tree { self.new.tree ≡ self.old.tree }
         ensures says { LeavesReclaim self.old.tree.layout out.old out.new self.old.worker
@@ -137,32 +156,6 @@ impl MapMember {
             behind: behind_of(&first, &second),
         }
     }
-}
-
-impl Member {
-    /// Does `MapMember::get`.
-    #[inline(always)]
-    pub(crate) fn get_managed(
-        &mut self,
-        key: Key,
-        options: &Options,
-    ) -> Result<Option<u64>, CallFault>
-        requires values { HasValues self.old.tree }
-        ensures tree { self.new.tree ≡ self.old.tree }
-        ensures says { SaysGet self.old.tree options.now key self.old.worker self.new.worker result }
-    {
-        if self.pinned().is_some() {
-            return Err(CallFault::Pinned);
-        }
-        match self
-            .home
-            .tree()
-            .get(&mut self.sealed.worker, key, options.tries)
-        {
-            Ok(found) => Ok(found),
-            Err(fault) => self.get_after(key, options, fault),
-        }
-    }
 
     /// Goes on after a look-up that failed with this error. If the remove of an earlier call is
     /// pending, it finishes that one, and then looks up. It makes what the cold calls keep in
@@ -174,7 +167,6 @@ impl Member {
         options: &Options,
         fault: CallFault,
     ) -> Result<Option<u64>, CallFault>
-        requires values { HasValues self.old.tree }
         requires begun { (w : WorkerView) × LeavesGet self.old.tree.layout options.now.tries key w
             self.old.worker (Err fault) }
         ensures tree { self.new.tree ≡ self.old.tree }
@@ -195,7 +187,6 @@ impl Member {
     #[cold]
     #[inline(never)]
     fn finish_and_get(&mut self, key: Key, options: &Options) -> Result<Option<u64>, CallFault>
-        requires values { HasValues self.old.tree }
         requires free { self.old.worker.held ≡ None }
         ensures tree { self.new.tree ≡ self.old.tree }
         ensures says { ManagesGet self.old.tree options.now key self.old.worker self.new.worker
@@ -212,7 +203,6 @@ impl Member {
     #[cold]
     #[inline(never)]
     fn get_again(&mut self, key: Key, options: &Options) -> Result<Option<u64>, CallFault>
-        requires values { HasValues self.old.tree }
         requires free { self.old.worker.held ≡ None }
         requires none { self.old.worker.pending ≡ None }
         ensures tree { self.new.tree ≡ self.old.tree }
@@ -232,42 +222,16 @@ impl Member {
     #[cold]
     #[inline(never)]
     fn get_apart(&mut self, key: Key, tries: u32) -> Result<Option<u64>, CallFault>
-        requires values { HasValues self.old.tree }
         ensures tree { self.new.tree ≡ self.old.tree }
         ensures says { Asked (LeavesGet self.old.tree.layout tries key) self.old.worker
             self.new.worker result }
     {
-        self.try_get_value(key, tries)
+        self.try_get(key, tries)
     }
+}
 
-    /// Does `MapMember::insert`.
-    #[inline(always)]
-    pub(crate) fn insert_managed(
-        &mut self,
-        key: Key,
-        value: u64,
-        found: &mut u64,
-        options: &Options,
-    ) -> Result<bool, CallFault>
-        requires values { HasValues self.old.tree }
-        ensures tree { self.new.tree ≡ self.old.tree }
-        ensures says { SaysChange Insert self.old.tree options.now key self.old.worker
-            self.new.worker result }
-        ensures puts { result ≡ Ok true → HasPut self.old.worker.pass self.new.worker.pass key
-            value }
-        ensures finds { result ≡ Ok false → MapGave self.old.worker.pass self.new.worker.pass key
-            (Some found.new) }
-    {
-        if self.pinned().is_some() {
-            return Err(CallFault::Pinned);
-        }
-        let Ok(_done) = self.finish_with_retries(options) else {
-            return Err(CallFault::Pending);
-        };
-        self.ask_value_with_retries(Op::Insert, key, value, found, options)
-    }
-
-    /// Does `MapMember::remove`.
+impl<V: Contents> Member<V> {
+    /// Does `remove` of a map.
     #[inline(always)]
     pub(crate) fn remove_managed(
         &mut self,
@@ -290,7 +254,6 @@ impl Member {
         };
         self.know_run();
         let told = self.ask_value_with_retries(Op::Delete, key, 0, taken, options);
-        self.know_run();
         if !is_unfinished(&told) {
             return told;
         }

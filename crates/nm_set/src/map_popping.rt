@@ -5,12 +5,13 @@ ghost use Rattle.nm_tree.specs.Answers.{FreesNone};
 ghost use Rattle.nm_set.specs.Maps.{PopsValue};
 ghost use Rattle.nm_set.specs.Popping.{SaysManagedPop, SaysManagedPopOf};
 
+use crate::contents::Values;
 use crate::managed::Options;
-use crate::map_member::MapMember;
+use crate::member::Member;
 use nm_edge::Key;
 use nm_tree::{CallFault, End};
 
-impl MapMember {
+impl Member<Values> {
     /// Removes the least key of the map, and returns it; `None` if the map is empty. It is
     /// `Member::pop_first`, and writes the value that the key had to `taken`. Proved (`takes`): the
     /// map had the key with this value at a moment of the call. The value comes back by `reclaim`
@@ -28,7 +29,8 @@ impl MapMember {
         ensures takes { PopsValue self.old.worker.pass self.new.worker.pass taken.new result }
         ensures frees { FreesNone self.old.worker self.new.worker }
     {
-        self.member.pop(End::First, true, taken, options)
+        self.know_run();
+        self.pop(End::First, true, taken, options)
     }
 
     /// Removes the greatest key of the map, like `pop_first`.
@@ -39,7 +41,8 @@ impl MapMember {
         ensures takes { PopsValue self.old.worker.pass self.new.worker.pass taken.new result }
         ensures frees { FreesNone self.old.worker self.new.worker }
     {
-        self.member.pop(End::Last, true, taken, options)
+        self.know_run();
+        self.pop(End::Last, true, taken, options)
     }
 
     /// Removes the least key of the map, if it is below `below`, like `Member::pop_first_below`,
@@ -56,8 +59,8 @@ impl MapMember {
         ensures takes { PopsValue self.old.worker.pass self.new.worker.pass taken.new result }
         ensures frees { FreesNone self.old.worker self.new.worker }
     {
-        self.member
-            .pop(End::FirstBelow(below), true, taken, options)
+        self.know_run();
+        self.pop(End::FirstBelow(below), true, taken, options)
     }
 
     /// Removes the greatest key of the map, if it is not below `from`, like
@@ -74,6 +77,7 @@ impl MapMember {
         ensures takes { PopsValue self.old.worker.pass self.new.worker.pass taken.new result }
         ensures frees { FreesNone self.old.worker self.new.worker }
     {
-        self.member.pop(End::LastFrom(from), true, taken, options)
+        self.know_run();
+        self.pop(End::LastFrom(from), true, taken, options)
     }
 }

@@ -16,11 +16,12 @@ ghost use Rattle.nm_set.specs.NextKeys.{AskedNext, AskedPrev};
 ghost use Rattle.nm_set.specs.Posts.{IsReturned, IsSentBack, IsTallyOf, ReadsNote};
 ghost use Rattle.nm_set.specs.Seats.{IsLetGo, IsOwn, IsResident, IsStaying, MayReturn, seats_in, told_absence};
 
+use crate::contents::{Contents, Keys};
 use crate::fault::{NotPinned, ObserveFault};
 use crate::home::{Absence, Home};
 use crate::lease::Lease;
 use crate::posting::{Stamp, leave_letter, read_letter};
-use crate::returning::ReturnedWorker;
+use crate::returning::{ReturnedWorker, SentBack};
 use crate::seat::{SealedWorker, WayBack};
 use nm_edge::Key;
 use nm_steps::Note;
@@ -28,19 +29,20 @@ use nm_tree::{
     Advance, Behind, CallFault, Collected, Counts, PinFault, Query, ResignReason, Worker,
 };
 use std::alloc::Global;
-use std::marker::Model;
+use std::marker::{Model, PhantomData};
 use std::sync::Arc;
 
 /// One worker of a set. It may go to another thread between two calls, and the tree lives as long
 /// as the member does. A drop returns its worker, like `close`. A member's part in its home gives
 /// its calls the tree and no seat, so they act by its own worker alone.
-pub struct Member {
+pub struct Member<V: Contents = Keys> {
     pub(crate) home: Lease,
     pub(crate) sealed: SealedWorker,
     way_back: WayBack,
+    of: PhantomData<V>,
 }
 
-impl Model for Member {
+impl<V: Contents> Model for Member<V> {
     ghost use Rattle.std.specs.Prelude.{◌≡◌};
     ghost use Rattle.nm_set.specs.Seats.{IsOwn, MayReturn, MemberView, seats_in};
 
@@ -49,21 +51,22 @@ impl Model for Member {
     ghost view = { λ m. record { tree = m.home.tree; worker = m.sealed.worker; returns = m.way_back.turn } };
 
     ghost invariant = { λ m. IsOwn m.home.tree m.sealed.worker × (m.sealed.worker.fit ≡ m.home.fit)
-        × MayReturn (seats_in m.home) m.sealed.worker m.way_back };
+        × MayReturn (seats_in m.home) m.sealed.worker m.way_back × V.fits m.home.tree };
 }
 
 /// A member did not take over a worker. The member is unchanged.
 #[derive(Drop)]
-pub struct ResignError {
+pub struct ResignError<M, R> {
     pub reason: ResignReason,
-    pub member: Member,
-    /// After `Pending`: the worker that was found on its seat, as it was returned to it, with its
-    /// key still pending. `None` after any other reason.
-    pub leaver: Option<ReturnedWorker>,
+    pub member: M,
+    /// After `Pending` and `NoMemory`: the worker that was found on its seat, as it was returned to
+    /// it, and, after `Pending`, with its key still pending. `None` after any other reason.
+    pub leaver: Option<R>,
 }
 
-impl Member {
-    pub(crate) fn of(home: Arc<Home, Global>, sealed: SealedWorker, way_back: WayBack) -> Member
+impl<V: Contents> Member<V> {
+    pub(crate) fn of(home: Arc<Home, Global>, sealed: SealedWorker, way_back: WayBack) -> Member<V>
+        requires contents { V.fits (arc_value home).tree }
         requires own { IsOwn (arc_value home).tree sealed.worker }
         requires fit { sealed.worker.fit ≡ (arc_value home).fit }
         requires back { MayReturn (seats_in (arc_value home)) sealed.worker way_back }
@@ -75,7 +78,8 @@ impl Member {
     }
 
     /// Builds the member again that was taken apart.
-    pub(crate) fn back(home: Lease, sealed: SealedWorker, way_back: WayBack) -> Member
+    pub(crate) fn back(home: Lease, sealed: SealedWorker, way_back: WayBack) -> Member<V>
+        requires contents { V.fits home.tree }
         requires own { IsOwn home.tree sealed.worker }
         requires fit { sealed.worker.fit ≡ home.fit }
         requires back { MayReturn (seats_in home) sealed.worker way_back }
@@ -87,6 +91,7 @@ impl Member {
             home,
             sealed,
             way_back,
+            of: PhantomData,
         }
     }
 
@@ -116,6 +121,7 @@ impl Member {
         ensures run { IsOfRun self.now.worker.pass.view.layout self.now.worker.pass.view.number
             self.now.worker.pass.view.log }
         ensures fits { IsLayout self.now.worker.pass.view.layout }
+        ensures values { V.fits self.now.tree }
     {
         self.sealed.worker.know_run();
         self.sealed.worker.know_between_calls();
@@ -181,21 +187,6 @@ impl Member {
             return Err(CallFault::Pinned);
         }
         self.home.tree().prev(&mut self.sealed.worker, key, tries)
-    }
-
-    /// Inserts `key`; returns true if it was absent: `Tree::insert` of `nm_tree`.
-    ///
-    /// Errors: `Pinned`: the caller has pinned the worker; and those of the tree.
-    #[inline(always)]
-    pub fn try_insert(&mut self, key: Key, tries: u32) -> Result<bool, CallFault>
-        ensures tree { self.new.tree ≡ self.old.tree }
-        ensures says { SaysTryInsert self.old.tree.layout tries key self.old.worker self.new.worker
-            result }
-    {
-        if self.sealed.worker.held().is_some() {
-            return Err(CallFault::Pinned);
-        }
-        self.home.tree().insert(&mut self.sealed.worker, key, tries)
     }
 
     /// Removes `key`; returns true if it was present: `Tree::delete` of `nm_tree`.
@@ -268,15 +259,6 @@ impl Member {
             result }
     {
         self.home.tree().behind(&mut self.sealed.worker)
-    }
-
-    /// Frees what has waited long enough at the front of each queue that the worker holds:
-    /// `Tree::collect` of `nm_tree`.
-    pub fn collect(&mut self) -> Collected
-        ensures tree { self.new.tree ≡ self.old.tree }
-        ensures says { LeavesCollect self.old.tree.layout.nodes self.old.worker self.new.worker result }
-    {
-        self.home.tree().collect(&mut self.sealed.worker)
     }
 
     /// Makes a note of all that the worker has seen, for another member of this set: `Tree::note`
@@ -392,7 +374,7 @@ impl Member {
     /// Returns the worker, with all that it holds or has pending; `Set::member` can take it again,
     /// and `ReturnedWorker::again` takes it again as it was. A pin of the caller ends as by `unpin`.
     /// The worker takes no other step on its way, and has inserted and removed what it had before.
-    pub fn close(self) -> ReturnedWorker
+    pub fn close(self) -> ReturnedWorker<V>
         ensures tree { result.tree ≡ self.tree }
         ensures did { (z : WorkerView) × IsLetGo self.worker z × IsReturned z result }
         ensures tally { IsTallyOf self.worker result.done }
@@ -424,12 +406,14 @@ impl Member {
         ensures own { IsOwn self.tree self.worker }
         ensures fit { self.worker.fit ≡ result.0.fit }
         ensures back { MayReturn (seats_in result.0) self.worker result.2 }
+        ensures contents { V.fits self.tree }
         ensures returns { result.2.turn ≡ self.returns }
     {
         let Self {
             home,
             sealed,
             way_back,
+            of: _,
         } = self;
         (home, sealed, way_back)
     }
@@ -453,9 +437,9 @@ impl Member {
     /// Errors: nothing has changed, the leaver is on its seat, and the member is given back
     /// unchanged. `Number`: the tree has no worker of that number. `Attached`: a member has it, or
     /// it has resigned, or the set has as many members as can be counted. `Pending`: it was returned
-    /// with a pending key. It was taken from its seat and is back there, with its key still pending;
-    /// the error has its ticket.
-    pub fn resign(self, leaver: u32) -> Result<Member, ResignError>
+    /// with a pending key. `NoMemory`: the room for its queues was refused. After these two it was
+    /// taken from its seat and is back there as it was; the error has its ticket.
+    pub fn resign(self, leaver: u32) -> Result<Member<V>, ResignError<Member<V>, ReturnedWorker<V>>>
         ensures done { IfOk result
             (λ m. (m.tree ≡ self.tree) × (w : WorkerView) × IsResident self.tree self.worker.fit leaver w
             × HasResigned self.worker w m.worker) }
@@ -467,6 +451,7 @@ impl Member {
             home,
             sealed,
             way_back,
+            of: _,
         } = self;
         let (home, found) = home.take(leaver);
         let taken = match found {
@@ -481,16 +466,49 @@ impl Member {
         };
         match taken.resign_to(sealed) {
             Ok(heir) => Ok(Member::back(home, heir, way_back)),
-            Err((heir, returned)) => Err(ResignError {
-                reason: ResignReason::Pending,
-                member: Member::back(home, heir, way_back),
-                leaver: Some(returned),
-            }),
+            Err(sent_back) => {
+                let SentBack {
+                    reason,
+                    heir,
+                    leaver,
+                } = sent_back;
+                Err(ResignError {
+                    reason,
+                    member: Member::back(home, heir, way_back),
+                    leaver: Some(leaver),
+                })
+            }
         }
     }
 }
 
-impl Drop for Member {
+impl Member<Keys> {
+    /// Inserts `key`; returns true if it was absent: `Tree::insert` of `nm_tree`.
+    ///
+    /// Errors: `Pinned`: the caller has pinned the worker; and those of the tree.
+    #[inline(always)]
+    pub fn try_insert(&mut self, key: Key, tries: u32) -> Result<bool, CallFault>
+        ensures tree { self.new.tree ≡ self.old.tree }
+        ensures says { SaysTryInsert self.old.tree.layout tries key self.old.worker self.new.worker
+            result }
+    {
+        if self.sealed.worker.held().is_some() {
+            return Err(CallFault::Pinned);
+        }
+        self.home.tree().insert(&mut self.sealed.worker, key, tries)
+    }
+
+    /// Frees what has waited long enough at the front of each queue that the worker holds:
+    /// `Tree::collect` of `nm_tree`.
+    pub fn collect(&mut self) -> Collected
+        ensures tree { self.new.tree ≡ self.old.tree }
+        ensures says { LeavesCollect self.old.tree.layout.nodes self.old.worker self.new.worker result }
+    {
+        self.free()
+    }
+}
+
+impl<V: Contents> Drop for Member<V> {
     fn drop(self) {
         let _at_home = self.close();
     }

@@ -6,15 +6,16 @@ ghost use Rattle.nm_tree.specs.Workers.{AreNew, HaveFit};
 ghost use Rattle.nm_set.specs.Seats.{AreNewMembers, site_in};
 ghost use Rattle.nm_set.specs.States.{IsNewSet, open_set};
 
+use crate::contents::Contents;
 use crate::home::{Home, Site};
 use crate::member::Member;
 use crate::set::Set;
 use nm_edge::{Layout, LayoutError, MOST_SPACED_NODES};
-use nm_tree::{Fit, NewError, Tree, Worker};
+use nm_tree::{Fit, NewError, Worker};
 use std::alloc::Global;
 use std::sync::Arc;
 
-impl Set {
+impl<V: Contents> Set<V> {
     /// Makes the empty set that `new` makes, with all its members, in the order of their numbers,
     /// which have done nothing yet. So only code that gets a member from the caller has a worker of
     /// the set, until a member is closed. (Proved: there are as many members as workers, and all
@@ -25,7 +26,7 @@ impl Set {
         alloc: Global,
         nodes: u32,
         workers: u32,
-    ) -> Result<(Set, Vec<Member>), NewError>
+    ) -> Result<(Set<V>, Vec<Member<V>>), NewError>
         ensures open { IfOk result
             (λ r. IsNewSet (in_radix (spaced nodes workers)) Fit.NextFit r.0) }
         ensures count { IfOk result (λ r. length r.1.items ≡ workers) }
@@ -36,7 +37,7 @@ impl Set {
             ↔ IsLayoutFault MOST_SPACED_NODES nodes workers LayoutError.Workers }
     {
         let layout = Layout::spaced(nodes, workers)?.in_radix();
-        let (tree, all) = Tree::of(alloc, layout, Fit::NextFit)?;
+        let (tree, all) = V::tree(alloc, layout, Fit::NextFit)?;
         let site = Site {
             tree,
             fit: Fit::NextFit,
@@ -46,12 +47,13 @@ impl Set {
 }
 
 /// Makes a set of a new tree with this many seats, and a member for each of its workers.
-pub(crate) fn give_out(
+fn give_out<V: Contents>(
     alloc: Global,
     site: Site,
     workers: Vec<Worker>,
     seats: u32,
-) -> Result<(Set, Vec<Member>), NewError>
+) -> Result<(Set<V>, Vec<Member<V>>), NewError>
+    requires contents { V.fits site.tree }
     requires new { AreNew site.tree 0 workers.items }
     requires all { length workers.items ≡ seats }
     requires each { site.tree.layout.workers ≡ seats }
@@ -77,7 +79,12 @@ pub(crate) fn give_out(
 /// for the room of all. Returns `None` if the room was refused, or if the home has as many members
 /// as can be counted, which 64 are not. (No other party has the home, so each worker is on its seat;
 /// no clause says so.)
-fn members_of(alloc: Global, home: &Arc<Home, Global>, workers: u32) -> Option<Vec<Member>>
+fn members_of<V: Contents>(
+    alloc: Global,
+    home: &Arc<Home, Global>,
+    workers: u32,
+) -> Option<Vec<Member<V>>>
+    requires contents { V.fits (arc_value home.now).tree }
     ensures count { IfSome result (λ ms. length ms.items ≡ workers) }
     ensures new { IfSome result
         (λ ms. AreNewMembers (arc_value home.now).tree (arc_value home.now).fit 0 ms.items) }

@@ -10,6 +10,7 @@ ghost use Rattle.nm_set.specs.MapRounds.{SaysRemoved};
 ghost use Rattle.nm_set.specs.Maps.{PopsValue, TookMeanwhile};
 ghost use Rattle.nm_set.specs.Popping.{Pops, SaysManagedPop, SaysManagedPopOf, pop_round_bound};
 
+use crate::contents::{Contents, Keys};
 use crate::managed::Options;
 use crate::member::Member;
 use nm_edge::{Key, MOST_KEY};
@@ -23,7 +24,7 @@ fn is_busy(told: &Result<Option<Key>, CallFault>) -> bool
     matches!(told, Err(CallFault::Busy))
 }
 
-impl Member {
+impl Member<Keys> {
     /// Removes the least key of the set, and returns it; `None` if the set is empty. It finds the
     /// least key and removes it, and looks for the least one again if another worker removed that
     /// key in between. After `Some(key)`: this call removed the key, at a moment of the call; and
@@ -92,7 +93,9 @@ impl Member {
         let mut taken = 0;
         self.pop(End::LastFrom(from), false, &mut taken, options)
     }
+}
 
+impl<V: Contents> Member<V> {
     /// Removes the key at that end. In a map it writes the value of the key to `taken`.
     pub(crate) fn pop(
         &mut self,
@@ -200,7 +203,7 @@ impl Member {
         if in_map {
             self.remove_managed(key, taken, options)
         } else {
-            self.remove(key, options)
+            self.remove_freeing(key, options)
         }
     }
 

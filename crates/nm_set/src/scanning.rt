@@ -3,11 +3,12 @@ ghost use Rattle.std.specs.Prelude.{◌≡◌};
 ghost use Rattle.nm_edge.specs.declared.edge.Side.TheVariants.{Left, Right};
 ghost use Rattle.nm_set.specs.Scanning.{AskedScan};
 
+use crate::contents::Contents;
 use crate::member::Member;
 use nm_edge::Key;
 use nm_tree::{CallFault, Scanned};
 
-impl Member {
+impl<V: Contents> Member<V> {
     /// Writes the keys of the set from `from` on that are below `below` into `out`, in ascending
     /// order, and returns how many, and the key at which to continue: `Tree::scan` of `nm_tree`.
     ///

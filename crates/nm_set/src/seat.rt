@@ -1,36 +1,37 @@
 //! The seats of a tree's workers, and workers that are on no seat.
-ghost use Rattle.std.specs.Prelude.{◌≡◌, ◌<◌, ◌∷◌, [], ◌++◌, length, vec_capacity, None, IfOk, IfErr, IsSome};
+ghost use Rattle.std.specs.Prelude.{◌≡◌, ◌<◌, ◌∷◌, [], ◌++◌, length, vec_capacity, None, IfOk, IfErr};
 ghost use Rattle.nm_steps.specs.Steps.{IsNoteOf, IsOf};
 ghost use Rattle.nm_tree.specs.Resigning.{HasResigned};
 ghost use Rattle.nm_set.specs.Posts.{HasSat};
-ghost use Rattle.nm_set.specs.Seats.{IsResident, MayReturn};
+ghost use Rattle.nm_set.specs.Seats.{IsResident, MayReturn, Stays};
 
 use crate::home::Site;
 use crate::posting::{Stamp, tally_of};
-use nm_seats::SeatRule;
+use nm_lending::{Caller, LendRule, Lending, Loan};
 use nm_steps::Note;
-use nm_tree::{Tree, Worker};
+use nm_tree::{ResignReason, Tree, Worker};
 
 /// On each seat sits the worker of its number, which claims by the fit of its site and is not
-/// pinned. In the first sitting it has done nothing yet.
+/// pinned. In sitting 0 it has done nothing yet. What a member does with its worker is in the clauses
+/// of the member's calls, and not in this rule.
 pub(crate) struct Residence;
 
-impl SeatRule<Worker, Site> for Residence {
-    ghost use Rattle.nm_set.specs.Seats.{never_left, sits};
+impl LendRule<Worker, Site> for Residence {
+    ghost use Rattle.nm_set.specs.Seats.{changes, sits};
 
     ghost resident = { sits };
 
-    ghost new = { never_left };
+    ghost goes = { changes };
 }
 
 /// The seats of a tree's workers. Each has one word, in which sittings are counted.
-pub(crate) type Seats = nm_seats::Seats<Worker, Site, Residence>;
+pub(crate) type Seats = Lending<Worker, Site, Residence>;
 
 /// The right of a worker to come back to its seat. Nobody else sits down there.
-pub(crate) type WayBack = nm_seats::WayBack<Worker, Site>;
+pub(crate) type WayBack = Loan<Worker, Site>;
 
-/// Shows which worker sat on a seat in one of its sittings.
-pub(crate) type Ticket = nm_seats::Ticket<Worker, Site>;
+/// Shows which worker sat down on a seat, and in which of its sittings.
+pub(crate) type Ticket = Caller<Worker, Site>;
 
 /// A worker that is on no seat: a member has it, or it is on its way from or to a seat. It is not
 /// `Drop`, and neither is its seal, which only this file can name. So code that has it must hand it
@@ -52,9 +53,9 @@ pub(crate) struct Sat {
     pub(crate) ticket: Ticket,
 }
 
-/// Two workers of which one did not resign to the other, because it has a pending key. Both are
-/// unchanged.
+/// Two workers of which one did not resign to the other, for this reason. Both are unchanged.
 pub(crate) struct Stay {
+    pub(crate) reason: ResignReason,
     pub(crate) heir: SealedWorker,
     pub(crate) leaver: SealedWorker,
 }
@@ -105,7 +106,7 @@ impl SealedWorker {
         Sat {
             done,
             note,
-            ticket: seats.sit_down(way_back, sealed.apart()),
+            ticket: seats.give_back(way_back, sealed.apart()),
         }
     }
 
@@ -131,12 +132,13 @@ pub(crate) fn unite(
     requires free { leaver.worker.held ≡ None }
     ensures done { IfOk result (λ g. HasResigned heir.worker leaver.worker g.worker) }
     ensures refused { IfErr result
-        (λ s. IsSome leaver.worker.pending × (s.heir.worker ≡ heir.worker)
+        (λ s. Stays leaver.worker s.reason × (s.heir.worker ≡ heir.worker)
         × (s.leaver.worker ≡ leaver.worker)) }
 {
     match tree.resign(heir.apart(), leaver.apart()) {
         Ok(worker) => Ok(SealedWorker::of(worker)),
         Err(fault) => Err(Stay {
+            reason: fault.reason,
             heir: SealedWorker::of(fault.heir),
             leaver: SealedWorker::of(fault.leaver),
         }),

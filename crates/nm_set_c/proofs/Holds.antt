@@ -5,6 +5,7 @@ use Rattle.nm_set_c.specs.declared.handle.Handle.{Handle}
 use Rattle.nm_set_c.specs.declared.outcome.Outcome.{Outcome}
 use Rattle.nm_set_c.specs.declared.outcome.Outcome.TheVariants as outcome
 use Rattle.nm_set_c.specs.declared.owner.Owner.{Owner}
+use Rattle.nm_set_c.specs.declared.place.Place.{Place}
 use Rattle.nm_set_c.specs.Handles.{Hold, Closed, Open, InUse, hold, held_by, IsRefused, CannotOpen}
 
 pub is_closed : (h : Handle) → h.place.held ≡ None → h.in_use ≡ 0 → held_by h ≡ Closed
@@ -24,13 +25,19 @@ refuses_used x (suc n) m used one = let e = in_use x m one in ((refl, e), (refl,
   in_use (Some z) m one = ap (hold (Some z)) one
 
 -- a handle that is in use stays so, whatever number says so
-pub refused_used : (h : Handle) (m : ℕ) → (h.in_use ≡ 0 → ⊥) → m ≡ 1 → IsRefused (held_by h) (held_by (record h { in_use = m })) outcome.InUse
+pub refused_used : (h n : Handle) → (h.in_use ≡ 0 → ⊥) → n.place ≡ h.place → n.in_use ≡ 1
+    → IsRefused (held_by h) (held_by n) outcome.InUse
 unfolding held_by
-refused_used h m used one = (refuses_used h.place.held h.in_use m used one).0
+refused_used h n used same one = subst
+    (λ (p : Place). IsRefused (hold h.place.held h.in_use) (hold p.held n.in_use) outcome.InUse)
+    (sym same) (refuses_used h.place.held h.in_use n.in_use used one).0
 
-pub not_opened_used : (h : Handle) (m : ℕ) → (h.in_use ≡ 0 → ⊥) → m ≡ 1 → CannotOpen (held_by h) (held_by (record h { in_use = m })) outcome.InUse
+pub not_opened_used : (h n : Handle) → (h.in_use ≡ 0 → ⊥) → n.place ≡ h.place → n.in_use ≡ 1
+    → CannotOpen (held_by h) (held_by n) outcome.InUse
 unfolding held_by
-not_opened_used h m used one = (refuses_used h.place.held h.in_use m used one).1
+not_opened_used h n used same one = subst
+    (λ (p : Place). CannotOpen (hold h.place.held h.in_use) (hold p.held n.in_use) outcome.InUse)
+    (sym same) (refuses_used h.place.held h.in_use n.in_use used one).1
 
 pub refused_closed : (old new : Hold) → old ≡ Closed → new ≡ Closed → IsRefused old new outcome.Closed
 unfolding IsRefused

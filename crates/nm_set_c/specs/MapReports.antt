@@ -1,10 +1,9 @@
 -- What calls on the report of a closed map return and leave: r is what is left of the map before the
 -- call, q what is left after it, and o the outcome.
-use Rattle.std.specs.Prelude.{◌≡◌, ◌⊎◌, ℕ, List, [], ◌∷◌, ◌++◌, length, Option, Some, None, slice_get}
-use Rattle.nm_epoch.specs.Handing.{leaves_of}
+use Rattle.std.specs.Prelude.{◌≡◌, ◌⊎◌, ℕ, true, false, List, [], ◌∷◌, ◌++◌, All, Option, Some, None, slice_get}
 use Rattle.nm_epoch.specs.declared.collecting.Entry.{Entry}
 use Rattle.nm_epoch.specs.declared.collecting.HeldQueue.{HeldQueue}
-use Rattle.nm_tree.specs.MapReports.{MapValuesView, value_at_slot}
+use Rattle.nm_tree.specs.MapReports.{MapValuesView, is_leaf_at, value_at_slot}
 use Rattle.nm_set_c.specs.Reports.{HasQueue, IsFoundAt}
 use Rattle.nm_set_c.specs.declared.outcome.Outcome.{Outcome}
 use Rattle.nm_set_c.specs.declared.outcome.Outcome.TheVariants as outcome
@@ -23,28 +22,40 @@ pub record TellsValue (index old value : ℕ) (r q : Remains) (o : Outcome) : Ty
 
 -- ---- a leaf taken out
 
+-- none of these entries is a leaf
+abbrev pub AreNoLeaves : MapValuesView → List Entry → Type 0
+AreNoLeaves v es = All (λ e. is_leaf_at v e.node.slot ≡ false) es
+
 -- h has lost its oldest leaf, this entry, and what was before it, in which there is no leaf; g is left
-pub record LosesLeaf (h g : HeldQueue) (e : Entry) : Type 0 where
+pub record LosesLeaf (v : MapValuesView) (h g : HeldQueue) (e : Entry) : Type 0 where
   pub before : List Entry
   pub parts : h.queue.items ≡ before ++ e ∷ g.queue.items
-  pub leaf : leaves_of (length g.queue.items) (before ++ e ∷ []) ≡ e ∷ []
+  pub inner : AreNoLeaves v before
+  pub leaf : is_leaf_at v e.node.slot ≡ true
+  pub origin : g.origin ≡ h.origin
+  pub counts : g.counts ≡ h.counts
+
+-- h has lost all its entries, in which there is no leaf; g is left
+pub record LosesAll (v : MapValuesView) (h g : HeldQueue) : Type 0 where
+  pub inner : AreNoLeaves v h.queue.items
+  pub empty : g.queue.items ≡ []
   pub origin : g.origin ≡ h.origin
   pub counts : g.counts ≡ h.counts
 
 -- the value of a slot, or the number that was there before, if there is no such slot. A closed map has
--- the slot of each leaf that waits (`WaitsWith`)
+-- the slot of each leaf that waits (`Waits`)
 abbrev pub slot_written : Option ℕ → ℕ → ℕ
 slot_written (Some value) old = value
 slot_written None old = old
 
--- the oldest leaf is taken out of the queue, and the value of its slot is written; or no node waits, and
--- the outcome is `No`; or there is no such queue
+-- the oldest leaf is taken out of the queue, and the value of its slot is written; or no leaf waits, the
+-- outcome is `No`, and all nodes are taken out; or there is no such queue
 abbrev pub IsReturned : MapValuesView → Option HeldQueue → ℕ → ℕ → ℕ → Remains → Remains → Outcome
     → Type 0
 IsReturned v None worker old new r q o = (o ≡ outcome.Number) × (new ≡ old) × (q ≡ r)
 IsReturned v (Some h) worker old new r q o =
-    ((o ≡ outcome.No) × (h.queue.items ≡ []) × (new ≡ old) × HasQueue worker h r q)
-    ⊎ ((o ≡ outcome.Yes) × (e : Entry) × (g : HeldQueue) × LosesLeaf h g e
+    ((o ≡ outcome.No) × (g : HeldQueue) × LosesAll v h g × (new ≡ old) × HasQueue worker g r q)
+    ⊎ ((o ≡ outcome.Yes) × (e : Entry) × (g : HeldQueue) × LosesLeaf v h g e
     × (new ≡ slot_written (value_at_slot v.slots e.node.slot) old) × HasQueue worker g r q)
 
 -- the same for a report that has values; that of a set is refused

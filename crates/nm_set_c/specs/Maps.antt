@@ -16,7 +16,7 @@ use Rattle.nm_tree.specs.Workers.{WorkerView}
 use Rattle.nm_set.specs.declared.fault.PinnedGetFault.{PinnedGetFault}
 use Rattle.nm_set.specs.declared.fault.PinnedGetFault.TheVariants as getting
 use Rattle.nm_set.specs.declared.managed.Options.{Options}
-use Rattle.nm_set.specs.Ends.{EndsSet, SaysMapEnded}
+use Rattle.nm_set.specs.Ends.{SaysMapEnded}
 use Rattle.nm_set.specs.Maps.{LeavesReclaim, SaysChange, SaysGet, SaysPinnedGet, TookMeanwhile}
 use Rattle.nm_set.specs.Seats.{MemberView, SetView}
 use Rattle.nm_set_c.specs.Handles.{Hold}
@@ -45,7 +45,7 @@ MissesOfMap = MissesByHandle Map
 
 -- what is left of a closed map: its report, and its values, which a caller of `Map::close` learns too
 abbrev pub LeavesMapReport : SetView → Remains → Type 0
-LeavesMapReport s r = EndsSet s r.report × (v : MapValuesView) × (r.values ≡ Some v)
+LeavesMapReport s r = (v : MapValuesView) × (r.values ≡ Some v)
     × SaysMapEnded s (record { report = r.report; values = v })
 
 abbrev pub EndsMap : Hold → Hold → Outcome → Type 0

@@ -83,6 +83,7 @@ of_staying staying.Number = outcome.Number
 of_staying staying.Attached = outcome.Attached
 of_staying staying.Pending = outcome.Pending
 of_staying staying.Held = outcome.Pinned
+of_staying staying.NoMemory = outcome.NoMemory
 
 abbrev pub of_reason : CloseReason → Outcome
 of_reason because.Attached = outcome.Attached

@@ -4,7 +4,7 @@ use Rattle.nm_edge.specs.Layouts.{Layout}
 use Rattle.nm_edge.specs.declared.placement.Fit.{Fit}
 use Rattle.nm_set.specs.declared.fault.MemberFault.{MemberFault}
 use Rattle.nm_set.specs.declared.fault.MemberFault.TheVariants as taking
-use Rattle.nm_set.specs.Ends.{EndsSet, HasGathered, IsLeftOpen, set_of}
+use Rattle.nm_set.specs.Ends.{HasGathered, IsLeftOpen, SaysEnded, set_of}
 use Rattle.nm_set.specs.Seats.{SetView, MemberView, IsResident, IsAnyResident, TellsAttached}
 use Rattle.nm_tree.specs.Workers.{WorkerView}
 use Rattle.nm_tree.specs.declared.closing.CloseReason.{CloseReason}
@@ -148,7 +148,7 @@ Misses = MissesByHandle Set
 
 -- what is left of a closed set: its report, and no values
 abbrev pub LeavesReport : SetView → Remains → Type 0
-LeavesReport s r = EndsSet s r.report × (r.values ≡ None)
+LeavesReport s r = SaysEnded s r.report × (r.values ≡ None)
 
 -- what the close of the kind leaves is there; or the outcome is the reason, and the set is there as that
 -- reason leaves it, as an owner of the kind

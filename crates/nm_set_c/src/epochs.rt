@@ -7,9 +7,10 @@ ghost use Rattle.nm_set_c.specs.Outcomes.{IsCodeOf};
 ghost use Rattle.nm_set_c.specs.Owners.{HasDone, OfWorker};
 ghost use Rattle.nm_set_c.specs.Workers.{TellsPin, TellsUnpin, TellsAdvance, TellsBehind, TellsCollect, of_pin, of_unpin, pin_epoch};
 
-use crate::handle::{Handle, by_handle};
+use crate::claiming::by_handle;
+use crate::handle::Handle;
 use crate::outcome::Outcome;
-use nm_set::{Advance, Member, NotPinned, PinFault};
+use nm_set::{Advance, Contents, Member, NotPinned, PinFault};
 use std::alloc::Global;
 
 /// Pins the epoch for the caller, until unpin, and writes it: `Member::pin` of `nm_set`. Returns
@@ -30,7 +31,7 @@ pub extern "C" fn nm_worker_pin(
     by_handle!(alloc, worker, Worker(member) => pin(member, tries, epoch))
 }
 
-fn pin(member: &mut Member, tries: u32, epoch: &mut u64) -> Outcome
+pub(crate) fn pin<V: Contents>(member: &mut Member<V>, tries: u32, epoch: &mut u64) -> Outcome
     ensures { HasDone (TellsPin tries epoch.old epoch.new) member.old member.new result }
 {
     let answer = member.pin(tries);
@@ -38,7 +39,7 @@ fn pin(member: &mut Member, tries: u32, epoch: &mut u64) -> Outcome
 }
 
 /// Writes the epoch that was pinned, or that was read last, and returns the outcome.
-pub(crate) fn tell_pin(answer: Result<u64, PinFault>, epoch: &mut u64) -> Outcome
+fn tell_pin(answer: Result<u64, PinFault>, epoch: &mut u64) -> Outcome
     ensures told { result ≡ of_pin answer }
     ensures written { epoch.new ≡ pin_epoch answer epoch.old }
 {
@@ -65,7 +66,7 @@ pub extern "C" fn nm_worker_unpin(alloc: Global, worker: &mut Handle) -> i32
     by_handle!(alloc, worker, Worker(member) => unpin(member))
 }
 
-fn unpin(member: &mut Member) -> Outcome
+pub(crate) fn unpin<V: Contents>(member: &mut Member<V>) -> Outcome
     ensures { HasDone TellsUnpin member.old member.new result }
 {
     let answer = member.unpin();
@@ -73,7 +74,7 @@ fn unpin(member: &mut Member) -> Outcome
 }
 
 /// Returns the outcome of an unpin.
-pub(crate) fn tell_unpin(answer: Result<(), NotPinned>) -> Outcome
+fn tell_unpin(answer: Result<(), NotPinned>) -> Outcome
     ensures { result ≡ of_unpin answer }
 {
     match answer {

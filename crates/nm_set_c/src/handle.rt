@@ -1,31 +1,41 @@
-//! Handles: what a program in C holds, and how one call at a time has it.
-ghost use Rattle.std.specs.Prelude.{◌≡◌, None, IfOk, IfErr};
-ghost use Rattle.nm_set_c.specs.Handles.{held_by, IsRefused, CannotOpen};
-ghost use Rattle.nm_set_c.specs.Handles.Hold.{Closed, Open, InUse};
+//! The two words of a handle, and the rule by which one call at a time has what the first one owns.
+ghost use Rattle.std.specs.Prelude.{◌≡◌, ◌≢◌, None, Some, IfNone, IfSome, MatchOption};
+ghost use Rattle.nm_set_c.specs.Handles.{held_by};
+ghost use Rattle.nm_set_c.specs.Handles.Hold.{Closed};
 
-use crate::outcome::Outcome;
 use crate::owner::Owner;
 use crate::place::Place;
 use crate::word::swap;
 use std::alloc::Global;
-use std::hint::spin_loop;
-
-/// How often a call looks at a handle of a set that another call has, before it returns `InUse`.
-/// That takes some tenths of a second, so that it waits for a thread that the system stops while it
-/// takes a worker.
-const LOOKS: u32 = 1 << 23;
 
 /// A handle for C: what it owns, and whether a call has it at this moment. Both words are zero
 /// while it is closed.
 ///
-/// A call takes the handle by one atomic exchange before it reads what is owned, and gives it back
-/// by another one after its last write. So if two threads use one handle at once, the second finds
-/// it in use, and touches nothing.
+/// The rule: a call takes what the first word owns only after its own exchange has found the second
+/// word 0, of which it has evidence (`Entered`). It writes the first word only while the second one
+/// is not 0. Each function here requires its part of that, and no other file can name these words. So
+/// if two threads use one handle at once, the second finds it in use, and touches nothing.
 #[repr(C)]
 #[derive(Drop)]
 pub struct Handle {
-    pub(crate) place: Place,
-    pub(crate) in_use: u64,
+    place: Place,
+    in_use: u64,
+}
+
+/// Evidence that this call's exchange has found a handle free. It is made there, and a take uses it
+/// up.
+pub(crate) struct Entered {
+    seal: Seal,
+}
+
+/// Keeps an evidence whole, and does nothing else.
+struct Seal {}
+
+impl Entered {
+    fn use_up(self) {
+        let Entered { seal } = self;
+        let Seal {} = seal;
+    }
 }
 
 impl Handle {
@@ -39,106 +49,50 @@ impl Handle {
         }
     }
 
-    /// Takes what the handle owns for one call, which gives it back by `put` or ends it by `shut`.
-    /// Until then the handle is in use.
-    ///
-    /// Errors: `Closed`, `InUse`: the handle is unchanged.
-    pub(crate) fn claim(&mut self, alloc: Global) -> Result<Box<Owner>, Outcome>
-        ensures claimed { IfOk result (λ b. held_by self.old ≡ Open b.value) }
-        ensures emptied { IfOk result (λ _. self.new.place.held ≡ None) }
-        ensures refused { IfErr result (IsRefused (held_by self.old) (held_by self.new)) }
+    /// Marks the handle as one that a call has, by one atomic exchange. Returns `None` if another
+    /// call has it.
+    pub(crate) fn enter(&mut self) -> Option<Entered>
+        ensures place { self.new.place ≡ self.old.place }
+        ensures used { self.new.in_use ≡ 1 }
+        ensures free { IfSome result (λ _. self.old.in_use ≡ 0) }
+        ensures refused { IfNone result (self.old.in_use ≢ 0) }
     {
         if swap(&mut self.in_use, 1) != 0 {
-            return Err(Outcome::InUse);
+            return None;
         }
-        match self.place.take(alloc) {
-            Some(owner) => Ok(owner),
-            None => {
-                swap(&mut self.in_use, 0);
-                Err(Outcome::Closed)
-            }
-        }
+        Some(Entered { seal: Seal {} })
     }
 
-    /// Claims the handle, and looks again for a while if another call has it.
-    pub(crate) fn claim_soon(&mut self, alloc: Global) -> Result<Box<Owner>, Outcome>
-        ensures claimed { IfOk result (λ b. held_by self.old ≡ Open b.value) }
-        ensures emptied { IfOk result (λ _. self.new.place.held ≡ None) }
-        ensures refused { IfErr result (IsRefused (held_by self.old) (held_by self.new)) }
+    /// Takes what the handle owns, for the call that has entered it.
+    pub(crate) fn take(&mut self, entered: Entered, alloc: Global) -> Option<Box<Owner>>
+        requires used { self.old.in_use ≢ 0 }
+        ensures used { self.new.in_use ≡ self.old.in_use }
+        ensures taken { MatchOption result (self.old.place.held ≡ None)
+            (λ b. self.old.place.held ≡ Some b.value) }
+        ensures left { self.new.place.held ≡ None }
     {
-        for _ in 1..LOOKS {
-            match self.claim(alloc) {
-                Err(Outcome::InUse) => spin_loop(),
-                told => return told,
-            }
-        }
-        self.claim(alloc)
+        entered.use_up();
+        self.place.take(alloc)
     }
 
-    /// Takes a closed handle for a call that opens it by `put`, or leaves it closed by `shut`.
-    ///
-    /// Errors: `Open`, `InUse`: the handle is unchanged.
-    pub(crate) fn reserve(&mut self, alloc: Global) -> Result<(), Outcome>
-        ensures reserved { IfOk result (λ _. held_by self.old ≡ Closed) }
-        ensures emptied { IfOk result (λ _. self.new.place.held ≡ None) }
-        ensures refused { IfErr result (CannotOpen (held_by self.old) (held_by self.new)) }
-    {
-        if swap(&mut self.in_use, 1) != 0 {
-            return Err(Outcome::InUse);
-        }
-        match self.place.take(alloc) {
-            Some(owner) => {
-                self.put(owner);
-                Err(Outcome::Open)
-            }
-            None => Ok(()),
-        }
-    }
-
-    /// Ends a call that has the handle, which owns this from then on.
-    pub(crate) fn put(&mut self, owner: Box<Owner>)
-        ensures { held_by self.new ≡ Open owner.value }
+    /// Lets the handle own this, while a call has it.
+    pub(crate) fn fill(&mut self, owner: Box<Owner>)
+        requires used { self.old.in_use ≢ 0 }
+        ensures used { self.new.in_use ≡ self.old.in_use }
+        ensures held { self.new.place.held ≡ Some owner.value }
     {
         self.place = Place::of(owner);
-        swap(&mut self.in_use, 0);
     }
 
-    /// Ends a call that has the handle, which is closed from then on.
-    pub(crate) fn shut(&mut self)
-        requires { self.old.place.held ≡ None }
-        ensures { held_by self.new ≡ Closed }
+    /// Marks the handle as one that no call has, by one atomic exchange.
+    pub(crate) fn leave(&mut self)
+        requires used { self.old.in_use ≢ 0 }
+        ensures place { self.new.place ≡ self.old.place }
+        ensures used { self.new.in_use ≡ 0 }
     {
         swap(&mut self.in_use, 0);
     }
 }
-
-/// Makes a call on a worker or a report, by its handle, as exports do: it claims what the handle
-/// owns, makes the call, gives it back, and has the outcome's number. It returns from the export if
-/// the claim is refused, if the handle owns something else (`Kind`), and if the number that is
-/// named after the kind is no key (`Key`).
-macro_rules! by_handle {
-    ($alloc:ident, $handle:ident, $kind:ident($owned:ident) $(, $key:ident)? => $call:expr) => {{
-        let mut owner = match $handle.claim($alloc) {
-            Ok(owner) => owner,
-            Err(told) => return told.code(),
-        };
-        let $crate::owner::Owner::$kind($owned) = &mut *owner else {
-            $handle.put(owner);
-            return $crate::outcome::Outcome::Kind.code();
-        };
-        $(
-            let Some($key) = nm_edge::Key::new($key) else {
-                $handle.put(owner);
-                return $crate::outcome::Outcome::Key.code();
-            };
-        )?
-        let outcome = $call;
-        $handle.put(owner);
-        outcome.code()
-    }};
-}
-
-pub(crate) use by_handle;
 
 /// Two words, as C declares it.
 const _: () = prove!(std::mem::size_of::<Handle>() == 16);

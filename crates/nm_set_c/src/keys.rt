@@ -7,7 +7,8 @@ ghost use Rattle.nm_set_c.specs.Outcomes.{IsCodeOf};
 ghost use Rattle.nm_set_c.specs.Owners.{HasDone, OfWorker};
 ghost use Rattle.nm_set_c.specs.Workers.{TellsTryContains, TellsTryInsert, TellsTryRemove, TellsFinish};
 
-use crate::handle::{Handle, by_handle};
+use crate::claiming::by_handle;
+use crate::handle::Handle;
 use crate::outcome::Outcome;
 use nm_set::Member;
 use std::alloc::Global;

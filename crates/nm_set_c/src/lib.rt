@@ -1,4 +1,4 @@
-//! The set for C: `c/nm_set.h` declares what is exported here.
+//! The set for C: `c/include/nm_set.h` declares what is exported here.
 //!
 //! A program in C holds handles, each two words that are zero while it is closed. An open handle
 //! owns a set or a map, one of its workers, or the report that it was closed with. No export requires
@@ -6,12 +6,14 @@
 //! says what nobody can test, and a program must keep.
 //!
 //! The second word says whether a call has the handle. Each call takes it by one atomic exchange
-//! before it reads the first word, and gives it back by another after its last write. The clauses
-//! say that a handle in use is refused and stays as it is (`IsRefused`, `CannotOpen`), and that a
-//! call has what it claimed until it puts it back. The module `word` is for the exchange, which is
-//! one step.
+//! before it reads the first word, and gives it back by another after its last write. The module
+//! `handle` requires this order of each function that touches the two words, and no other module can
+//! name them. The clauses say that a handle in use is refused and stays as it is (`IsRefused`,
+//! `CannotOpen`), and that a call has what it claimed until it puts it back. The module `word` is for
+//! the exchange, which is one step.
 #![tactic(auto)]
 
+mod claiming;
 mod ending;
 mod epochs;
 mod handle;

@@ -7,7 +7,8 @@ ghost use Rattle.nm_set_c.specs.Outcomes.{IsCodeOf};
 ghost use Rattle.nm_set_c.specs.Owners.{OfWorker};
 ghost use Rattle.nm_set_c.specs.Workers.{TellsContains, TellsInsert, TellsRemove};
 
-use crate::handle::{Handle, by_handle};
+use crate::claiming::by_handle;
+use crate::handle::Handle;
 use crate::outcome::Outcome;
 use nm_set::Options;
 use std::alloc::Global;

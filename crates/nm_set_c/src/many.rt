@@ -10,7 +10,8 @@ ghost use Rattle.nm_set_c.specs.Lookups.{AreKeys, TellsContainsMany, IsUnasked, 
 ghost use Rattle.nm_set_c.specs.Outcomes.{IsCodeOf};
 ghost use Rattle.nm_set_c.specs.Owners.{HasDone, OfWorker};
 
-use crate::handle::{Handle, by_handle};
+use crate::claiming::by_handle;
+use crate::handle::Handle;
 use crate::outcome::Outcome;
 use nm_edge::{Key, MOST_KEY};
 use nm_set::{CallFault, Member, Query};

@@ -8,8 +8,9 @@ ghost use Rattle.nm_set_c.specs.Outcomes.{IsCodeOf};
 ghost use Rattle.nm_set_c.specs.Owners.{HasDone, OfMapWorker};
 ghost use Rattle.nm_set_c.specs.Workers.{TellsPin, TellsUnpin};
 
-use crate::epochs::{tell_pin, tell_unpin};
-use crate::handle::{Handle, by_handle};
+use crate::claiming::by_handle;
+use crate::epochs::{pin, unpin};
+use crate::handle::Handle;
 use crate::outcome::Outcome;
 use nm_edge::Key;
 use nm_set::{MapMember, PinnedGetFault};
@@ -28,13 +29,6 @@ pub extern "C" fn nm_map_pin(alloc: Global, worker: &mut Handle, tries: u32, epo
     by_handle!(alloc, worker, MapWorker(member) => pin(member, tries, epoch))
 }
 
-fn pin(member: &mut MapMember, tries: u32, epoch: &mut u64) -> Outcome
-    ensures tells { HasDone (TellsPin tries epoch.old epoch.new) member.old member.new result }
-{
-    let answer = member.pin(tries);
-    tell_pin(answer, epoch)
-}
-
 /// Ends the caller's pin: `MapMember::unpin` of `nm_set`. Returns `Done`. Errors: `NotPinned`,
 /// `Closed`, `InUse`, `Kind`.
 #[unsafe(no_mangle)]
@@ -42,13 +36,6 @@ pub extern "C" fn nm_map_unpin(alloc: Global, worker: &mut Handle) -> i32
     ensures tells { IsCodeOf (OfMapWorker TellsUnpin ⊤ (held_by worker.old) (held_by worker.new)) result }
 {
     by_handle!(alloc, worker, MapWorker(member) => unpin(member))
-}
-
-fn unpin(member: &mut MapMember) -> Outcome
-    ensures tells { HasDone TellsUnpin member.old member.new result }
-{
-    let answer = member.unpin();
-    tell_unpin(answer)
 }
 
 /// Finds the value that the map has under a key, under the caller's pin: `MapMember::get_pinned` of

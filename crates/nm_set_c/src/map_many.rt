@@ -8,7 +8,8 @@ ghost use Rattle.nm_set_c.specs.Lookups.{TellsGetManyPinned, map_lookup_of, map_
 ghost use Rattle.nm_set_c.specs.Outcomes.{IsCodeOf};
 ghost use Rattle.nm_set_c.specs.Owners.{HasDone, OfMapWorker};
 
-use crate::handle::{Handle, by_handle};
+use crate::claiming::by_handle;
+use crate::handle::Handle;
 use crate::many::{Asking, queries_of, write_answers};
 use crate::outcome::Outcome;
 use nm_set::{MapMember, PinnedGetFault, Query};

@@ -1,14 +1,15 @@
 //! The values that were left in a map when it was closed, by the handle of its report.
 #![tactic(auto, using(crate::proofs::Owners::told_of_report))]
 
-ghost use Rattle.std.specs.Prelude.{◌≡◌, [], MatchOption};
+ghost use Rattle.std.specs.Prelude.{◌≡◌, MatchOption};
 ghost use Rattle.nm_tree.specs.MapReports.{value_at_slot};
 ghost use Rattle.nm_set_c.specs.Handles.{held_by};
-ghost use Rattle.nm_set_c.specs.MapReports.{LosesLeaf, TakesReturned, TellsValue, slot_written};
+ghost use Rattle.nm_set_c.specs.MapReports.{LosesAll, LosesLeaf, TakesReturned, TellsValue, slot_written};
 ghost use Rattle.nm_set_c.specs.Outcomes.{IsCodeOf};
 ghost use Rattle.nm_set_c.specs.Owners.{OfReport};
 
-use crate::handle::{Handle, by_handle};
+use crate::claiming::by_handle;
+use crate::handle::Handle;
 use crate::outcome::Outcome;
 use crate::remains::Remains;
 use nm_set::{Entry, HeldQueue, MapValues};
@@ -45,9 +46,9 @@ fn value_at(remains: &mut Remains, index: u64, value: &mut u64) -> Outcome
     }
 }
 
-/// Takes the oldest leaf out of a worker's queue in a map's report, and the internal node before it,
-/// which was cut off with it. Returns `Yes` and writes the value of the leaf: `MapValues::of_slot` of
-/// `nm_set`. Returns `No` if no node waits any more. Errors: `Number`: there is no such worker.
+/// Takes the oldest leaf out of a worker's queue in a map's report, and all internal nodes before it.
+/// Returns `Yes` and writes the value of the leaf: `MapValues::of_slot` of `nm_set`. Returns `No` if
+/// no leaf waits any more, and takes out what is left. Errors: `Number`: there is no such worker.
 /// `Kind`: also if the report is that of a set. `Closed`, `InUse`.
 #[unsafe(no_mangle)]
 pub extern "C" fn nm_map_report_returned(
@@ -71,26 +72,24 @@ fn returned(remains: &mut Remains, worker: u32, value: &mut u64) -> Outcome
     let Some(held) = remains.report.queues.get_mut(worker as usize) else {
         return Outcome::Number;
     };
-    let Some(leaf) = pop_leaf(held) else {
+    let Some(leaf) = pop_leaf(values, held) else {
         return Outcome::No;
     };
     write_value(values, leaf.node.slot, value);
     Outcome::Yes
 }
 
-/// Takes the oldest leaf out of a queue, and the internal node before it.
-fn pop_leaf(held: &mut HeldQueue) -> Option<Entry>
-    ensures { MatchOption result ((held.old.queue.items ≡ []) × (held.new ≡ held.old))
-        (LosesLeaf held.old held.new) }
+/// Takes the oldest leaf out of a queue, and all internal nodes before it.
+fn pop_leaf(values: &MapValues, held: &mut HeldQueue) -> Option<Entry>
+    ensures { MatchOption result (LosesAll values.now held.old held.new)
+        (LosesLeaf values.now held.old held.new) }
 {
-    let is_leaf = held.queue.len() % 2 == 1;
-    let Some(first) = held.queue.pop() else {
-        return None;
-    };
-    if is_leaf {
-        return Some(first);
+    while let Some(entry) = held.queue.pop() {
+        if values.is_leaf(entry.node.slot) {
+            return Some(entry);
+        }
     }
-    held.queue.pop()
+    None
 }
 
 /// Writes the value of a slot, if there is such a slot.

@@ -8,7 +8,8 @@ ghost use Rattle.nm_set_c.specs.NextKeys.{found_written, of_found};
 ghost use Rattle.nm_set_c.specs.Outcomes.{IsCodeOf};
 ghost use Rattle.nm_set_c.specs.Owners.{HasDone, OfMapWorker};
 
-use crate::handle::{Handle, by_handle};
+use crate::claiming::by_handle;
+use crate::handle::Handle;
 use crate::outcome::Outcome;
 use nm_edge::Key;
 use nm_set::{CallFault, MapMember, Options};

@@ -6,16 +6,15 @@ ghost use Rattle.nm_edge.specs.declared.edge.Side.TheVariants.{Left, Right};
 ghost use Rattle.nm_tree.specs.Workers.{waiting_in};
 ghost use Rattle.nm_set_c.specs.Handles.{held_by};
 ghost use Rattle.nm_set_c.specs.Outcomes.{IsCodeOf};
-ghost use Rattle.nm_set_c.specs.Owners.{HasDone, OfMapWorker};
+ghost use Rattle.nm_set_c.specs.Owners.{OfMapWorker};
 ghost use Rattle.nm_set_c.specs.Scanning.{TellsScan};
 ghost use Rattle.nm_set_c.specs.Workers.{TellsNumber, TellsOption, pending_key};
 
-use crate::handle::{Handle, by_handle};
+use crate::claiming::by_handle;
+use crate::handle::Handle;
 use crate::outcome::Outcome;
-use crate::scanning::tell_scanned;
-use crate::workers::tell_pending;
-use nm_edge::Key;
-use nm_set::MapMember;
+use crate::scanning::{scan, scan_back};
+use crate::workers::pending;
 use std::alloc::Global;
 
 /// Writes the keys of the map from `from` on that are below `below` into `keys`, in ascending order,
@@ -39,25 +38,6 @@ pub extern "C" fn nm_map_scan(
     by_handle!(alloc, worker, MapWorker(member) => scan(member, from, below, keys, count, next, tries))
 }
 
-fn scan(
-    member: &mut MapMember,
-    from: u64,
-    below: u64,
-    keys: &mut [u64],
-    count: &mut u64,
-    next: &mut u64,
-    tries: u32,
-) -> Outcome
-    ensures { HasDone (TellsScan Right tries from below keys.old keys.new count.old count.new next.old next.new)
-        member.old member.new result }
-{
-    let Some(from) = Key::new(from) else {
-        return Outcome::Key;
-    };
-    let answer = member.scan(from, below, keys, tries);
-    tell_scanned(answer, count, next)
-}
-
 /// Writes the keys of the map from `from` down that are not below `least` into `keys`, in descending
 /// order, and returns and writes as `nm_map_scan` does: `MapMember::scan_back` of `nm_set`.
 #[unsafe(no_mangle)]
@@ -76,25 +56,6 @@ pub extern "C" fn nm_map_scan_back(
         (held_by worker.old) (held_by worker.new)) result }
 {
     by_handle!(alloc, worker, MapWorker(member) => scan_back(member, from, least, keys, count, next, tries))
-}
-
-fn scan_back(
-    member: &mut MapMember,
-    from: u64,
-    least: u64,
-    keys: &mut [u64],
-    count: &mut u64,
-    next: &mut u64,
-    tries: u32,
-) -> Outcome
-    ensures { HasDone (TellsScan Left tries from least keys.old keys.new count.old count.new next.old next.new)
-        member.old member.new result }
-{
-    let Some(from) = Key::new(from) else {
-        return Outcome::Key;
-    };
-    let answer = member.scan_back(from, least, keys, tries);
-    tell_scanned(answer, count, next)
 }
 
 /// Writes the worker's number. Returns `Done`. Errors: `Closed`, `InUse`, `Kind`.
@@ -130,12 +91,4 @@ pub extern "C" fn nm_map_pending(alloc: Global, worker: &mut Handle, key: &mut u
         (key.new ≡ key.old) (held_by worker.old) (held_by worker.new)) result }
 {
     by_handle!(alloc, worker, MapWorker(member) => pending(member, key))
-}
-
-fn pending(member: &mut MapMember, key: &mut u64) -> Outcome
-    ensures { TellsOption (pending_key member.old.worker) key.old key.new member.old member.new
-        result }
-{
-    let found = member.pending();
-    tell_pending(found, key)
 }

@@ -152,6 +152,6 @@ fn end(owner: Owner) -> (Owner, Outcome)
             let values = Some(values);
             (Owner::Ended(Remains { report, values }), Outcome::Done)
         }
-        Err(error) => (Owner::Map(error.map), Outcome::of_reason(error.reason)),
+        Err(error) => (Owner::Map(error.set), Outcome::of_reason(error.reason)),
     }
 }

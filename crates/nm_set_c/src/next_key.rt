@@ -7,7 +7,8 @@ ghost use Rattle.nm_set_c.specs.NextKeys.{TellsNext, TellsPrev, found_written, o
 ghost use Rattle.nm_set_c.specs.Outcomes.{IsCodeOf};
 ghost use Rattle.nm_set_c.specs.Owners.{HasDone, OfWorker};
 
-use crate::handle::{Handle, by_handle};
+use crate::claiming::by_handle;
+use crate::handle::Handle;
 use crate::outcome::Outcome;
 use nm_edge::Key;
 use nm_set::{CallFault, Member};

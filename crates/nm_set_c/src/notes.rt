@@ -8,7 +8,8 @@ ghost use Rattle.nm_set_c.specs.Notes.{TellsPublish, TellsObserve};
 ghost use Rattle.nm_set_c.specs.Outcomes.{IsCodeOf};
 ghost use Rattle.nm_set_c.specs.Owners.{HasDone, OfWorker};
 
-use crate::handle::{Handle, by_handle};
+use crate::claiming::by_handle;
+use crate::handle::Handle;
 use crate::outcome::Outcome;
 use nm_set::{Member, ObserveFault};
 use std::alloc::Global;

@@ -1,5 +1,5 @@
 //! Handles that a call opens: with a set or a map, or with a worker that one of them gives.
-ghost use Rattle.std.specs.Prelude.{◌≡◌, ◌⊎◌, None};
+ghost use Rattle.std.specs.Prelude.{◌≡◌, ◌≢◌, ◌⊎◌, None};
 ghost use Rattle.nm_set_c.specs.Handles.{held_by};
 ghost use Rattle.nm_set_c.specs.Handles.Hold.{Closed, Open};
 ghost use Rattle.nm_set_c.specs.Sets.{Keeps};
@@ -11,6 +11,7 @@ use std::alloc::Global;
 
 /// Opens a handle that was reserved for that.
 pub(crate) fn open(alloc: Global, handle: &mut Handle, owner: Owner) -> Outcome
+    requires used { handle.old.in_use ≢ 0 }
     requires closed { handle.old.place.held ≡ None }
     ensures { ((result ≡ Outcome.Done) × (held_by handle.new ≡ Open owner))
         ⊎ ((result ≡ Outcome.NoMemory) × (held_by handle.new ≡ Closed)) }
@@ -29,6 +30,7 @@ pub(crate) fn open(alloc: Global, handle: &mut Handle, owner: Owner) -> Outcome
 
 /// Opens a handle that was reserved for a worker, or leaves it closed if none was given.
 pub(crate) fn keep(alloc: Global, worker: &mut Handle, given: Result<Owner, Outcome>) -> Outcome
+    requires used { worker.old.in_use ≢ 0 }
     requires closed { worker.old.place.held ≡ None }
     ensures { Keeps given (held_by worker.new) result }
 {

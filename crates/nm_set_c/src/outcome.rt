@@ -174,6 +174,7 @@ impl Outcome {
             ResignReason::Attached => Outcome::Attached,
             ResignReason::Pending => Outcome::Pending,
             ResignReason::Held => Outcome::Pinned,
+            ResignReason::NoMemory => Outcome::NoMemory,
         }
     }
 

@@ -8,7 +8,8 @@ ghost use Rattle.nm_set_c.specs.NextKeys.{TellsPopFirst, TellsPopFirstBelow, Tel
 ghost use Rattle.nm_set_c.specs.Outcomes.{IsCodeOf};
 ghost use Rattle.nm_set_c.specs.Owners.{HasDone, OfWorker};
 
-use crate::handle::{Handle, by_handle};
+use crate::claiming::by_handle;
+use crate::handle::Handle;
 use crate::next_key::tell_found;
 use crate::outcome::Outcome;
 use nm_edge::Key;

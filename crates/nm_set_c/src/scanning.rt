@@ -8,10 +8,11 @@ ghost use Rattle.nm_set_c.specs.Outcomes.{IsCodeOf};
 ghost use Rattle.nm_set_c.specs.Owners.{HasDone, OfWorker};
 ghost use Rattle.nm_set_c.specs.Scanning.{TellsScan, counted, next_written, of_next, of_scan, place_written};
 
-use crate::handle::{Handle, by_handle};
+use crate::claiming::by_handle;
+use crate::handle::Handle;
 use crate::outcome::Outcome;
 use nm_edge::Key;
-use nm_set::{CallFault, Member, Scanned};
+use nm_set::{CallFault, Contents, Member, Scanned};
 use std::alloc::Global;
 
 /// Writes the keys of the set from `from` on that are below `below` into `keys`, in ascending order,
@@ -36,8 +37,8 @@ pub extern "C" fn nm_worker_scan(
     by_handle!(alloc, worker, Worker(member) => scan(member, from, below, keys, count, next, tries))
 }
 
-fn scan(
-    member: &mut Member,
+pub(crate) fn scan<V: Contents>(
+    member: &mut Member<V>,
     from: u64,
     below: u64,
     keys: &mut [u64],
@@ -75,8 +76,8 @@ pub extern "C" fn nm_worker_scan_back(
     by_handle!(alloc, worker, Worker(member) => scan_back(member, from, least, keys, count, next, tries))
 }
 
-fn scan_back(
-    member: &mut Member,
+pub(crate) fn scan_back<V: Contents>(
+    member: &mut Member<V>,
     from: u64,
     least: u64,
     keys: &mut [u64],

@@ -9,11 +9,12 @@ ghost use Rattle.nm_set_c.specs.Handles.Hold.{Open};
 ghost use Rattle.nm_set_c.specs.Owners.{OfWorker, Owns};
 ghost use Rattle.nm_set_c.specs.Workers.{TellsResign, TellsNumber, TellsOption, TellsStats, IsOptionTold, pending_key};
 
-use crate::handle::{Handle, by_handle};
+use crate::claiming::by_handle;
+use crate::handle::Handle;
 use crate::outcome::Outcome;
 use crate::owner::Owner;
 use nm_edge::Key;
-use nm_set::Member;
+use nm_set::{Contents, Member};
 use std::alloc::Global;
 use std::mem::replace;
 
@@ -70,7 +71,7 @@ pub extern "C" fn nm_worker_pending(alloc: Global, worker: &mut Handle, key: &mu
     by_handle!(alloc, worker, Worker(member) => pending(member, key))
 }
 
-fn pending(member: &mut Member, key: &mut u64) -> Outcome
+pub(crate) fn pending<V: Contents>(member: &mut Member<V>, key: &mut u64) -> Outcome
     ensures { TellsOption (pending_key member.old.worker) key.old key.new member.old member.new
         result }
 {
@@ -136,7 +137,7 @@ pub extern "C" fn nm_worker_stats(alloc: Global, worker: &mut Handle, stats: &mu
 
 /// Takes over a worker that is not attached: `Member::resign` of `nm_set`. This worker then holds
 /// all that the leaver held, and the leaver never comes back. Returns `Done`. Errors: `Number`,
-/// `Attached` and `Pending`, which are of the leaver. `Closed`, `InUse`, `Kind`.
+/// `Attached`, `Pending` and `NoMemory`, which are of the leaver. `Closed`, `InUse`, `Kind`.
 #[tactic(auto, using(crate::proofs::Owners::refused, crate::proofs::Owners::owned))]
 #[unsafe(no_mangle)]
 pub extern "C" fn nm_worker_resign(alloc: Global, worker: &mut Handle, leaver: u32) -> i32

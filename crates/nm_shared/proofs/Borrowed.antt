@@ -1,20 +1,31 @@
 -- A member that was borrowed, asked once, and given back.
-use Rattle.std.proofs.Common.{◌≡◌, ◌∙◌, ℕ, suc, ◌+◌, Bool, List, [], ◌∷◌, ◌++◌, length, inl, inr, sym, ap, subst, arith, refl}
+use Rattle.std.proofs.Common.{◌≡◌, ◌∙◌, ℕ, suc, ◌+◌, ◌<◌, Bool, List, [], ◌∷◌, ◌++◌, length, inl, inr, sym, ap, subst, arith, refl}
 use Rattle.std.specs.Prelude.{Option, Some, None, Result}
+use Rattle.atomic_table.specs.Seated.{TableId}
 use Rattle.nm_calls.specs.declared.fault.CallFault.{CallFault}
+use Rattle.nm_calls.specs.declared.many.Query.{Query}
+use Rattle.nm_calls.specs.declared.scanning.Scanned.{Scanned}
+use Rattle.nm_edge.specs.Layouts.{Layout}
+use Rattle.nm_edge.specs.declared.edge.Side.{Side}
 use Rattle.nm_model.specs.declared.event.Op.{Op}
 use Rattle.nm_steps.specs.declared.view.View.{View}
-use Rattle.nm_steps.specs.Steps.{TreeView, PassView, IsSamePass, HasSeenAllOf}
+use Rattle.nm_steps.specs.Steps.{TreeView, PassView, Notice, IsSamePass, HasSeenAllOf}
 use Rattle.nm_steps.proofs.Seeing.{seen_itself, seen_through, same_then}
 use Rattle.nm_set.specs.declared.managed.Options.{Options}
+use Rattle.nm_epoch.specs.declared.handing.HandedOut.{HandedOut}
 use Rattle.nm_set.specs.Managed.{SaysManaged}
-use Rattle.nm_set.specs.Popping.{SaysManagedPop}
+use Rattle.nm_set.specs.Maps.{LeavesReclaim, SaysChange, SaysGet}
+use Rattle.nm_set.specs.InTurns.{AskedMany}
+use Rattle.nm_set.specs.NextKeys.{AskedNext, AskedPrev}
+use Rattle.nm_set.specs.Popping.{SaysManagedPopOf}
+use Rattle.nm_set.specs.Scanning.{AskedScan}
 use Rattle.nm_set.specs.Seats.{MemberView, SetView, IsNewMember}
 use Rattle.nm_tree.specs.Workers.{WorkerView}
 use Rattle.nm_lending.specs.declared.knowing.Visit.{Visit}
 use Rattle.nm_lending.specs.Visits.{AreSeated}
-use Rattle.nm_lending.specs.Views.{LoanView}
-use Rattle.nm_shared.specs.Sharing.{SharedView, CallerView, Sits, IsBorrowed, MayComeBack, Visited, SaysShared, SaysSharedPop, goes_on, note_of}
+use Rattle.nm_lending.specs.Views.{LoanView, NoneIsLent}
+use Rattle.nm_lending.specs.Views as lending
+use Rattle.nm_shared.specs.Sharing.{SharedView, CallerView, NoneWasFree, Sits, IsBorrowed, MayComeBack, SitsIn, Visited, SaysShared, goes_on, note_of}
 
 -- ---- what each managed call keeps
 
@@ -27,17 +38,68 @@ kept_itself : (w z : WorkerView) → z ≡ w → Keeps w z
 kept_itself w z same = subst (λ (y : WorkerView). Keeps w y) (sym same)
     (record { same = refl; past = seen_itself w.pass; free = λ is. is })
 
+keeps_on : (w y z : WorkerView) → Keeps w y → Keeps y z → Keeps w z
+keeps_on w y z one two = record {
+  same = same_then w.pass y.pass z.pass one.same two.same;
+  past = seen_through w.pass y.pass z.pass one.past two.past;
+  free = λ is. two.free (one.free is);
+}
+
 pub managed_keeps : (op : Op) (b : TreeView) (h : Options) (k : ℕ) (w z : WorkerView) (r : Result Bool CallFault)
     → SaysManaged op b h k w z r → Keeps w z
 managed_keeps op b h k w z r (inl (held, is, same)) = kept_itself w z same
 managed_keeps op b h k w z r (inr (free, t)) = record
     { same = t.answers.on.same; past = t.answers.on.past; free = λ none'. t.answers.on.held }
 
-pub pop_keeps : (Before : ℕ → ℕ → Type 0) (b : TreeView) (h : Options) (w z : WorkerView)
-    (r : Result (Option ℕ) CallFault)
-    → SaysManagedPop Before b h w z r → Keeps w z
-pop_keeps Before b h w z r (inl (held, is, same)) = kept_itself w z same
-pop_keeps Before b h w z r (inr (free, t)) = record { same = t.on.same; past = t.on.past; free = λ none'. t.on.held }
+pub pop_keeps : (Among : ℕ → Type 0) (Before : ℕ → ℕ → Type 0) (b : TreeView) (h : Options) (w z : WorkerView)
+    (r : Result (Option ℕ) CallFault) → SaysManagedPopOf Among Before b h w z r → Keeps w z
+pop_keeps Among Before b h w z r (inl (held, is, same)) = kept_itself w z same
+pop_keeps Among Before b h w z r (inr (free, t)) =
+    record { same = t.on.same; past = t.on.past; free = λ none'. t.on.held }
+
+pub next_keeps : (L : Layout) (t k : ℕ) (w z : WorkerView) (r : Result (Option ℕ) CallFault)
+    → AskedNext L t k w z r → Keeps w z
+next_keeps L t k w z r (inl (held, is, same)) = kept_itself w z same
+next_keeps L t k w z r (inr (free, l)) = record { same = l.same; past = l.past; free = λ none'. l.held }
+
+pub prev_keeps : (L : Layout) (t k : ℕ) (w z : WorkerView) (r : Result (Option ℕ) CallFault)
+    → AskedPrev L t k w z r → Keeps w z
+prev_keeps L t k w z r (inl (held, is, same)) = kept_itself w z same
+prev_keeps L t k w z r (inr (free, l)) = record { same = l.same; past = l.past; free = λ none'. l.held }
+
+pub many_keeps : (L : Layout) (t : ℕ) (old new : List Query) (w z : WorkerView) (r : Result (Unit {0}) CallFault)
+    → AskedMany L t old new w z r → Keeps w z
+many_keeps L t old new w z r (inl (held, is, same, queries)) = kept_itself w z same
+many_keeps L t old new w z r (inr (free, l)) = record { same = l.same; past = l.past; free = λ none'. l.held }
+
+pub scan_keeps : (side : Side) (L : Layout) (t from to : ℕ) (old new : List ℕ) (w z : WorkerView)
+    (r : Result Scanned CallFault) → AskedScan side L t from to old new w z r → Keeps w z
+scan_keeps side L t from to old new w z r (inl (held, is, same, out)) = kept_itself w z same
+scan_keeps side L t from to old new w z r (inr (free, l)) =
+    record { same = l.same; past = l.past; free = λ none'. l.held }
+
+pub get_keeps : (b : TreeView) (h : Options) (k : ℕ) (w z : WorkerView) (r : Result (Option ℕ) CallFault)
+    → SaysGet b h k w z r → Keeps w z
+get_keeps b h k w z r (inl (held, is, same)) = kept_itself w z same
+get_keeps b h k w z r (inr (free, t)) = record
+    { same = t.answers.on.same; past = t.answers.on.past; free = λ none'. t.answers.on.held }
+
+pub change_keeps : (op : Op) (b : TreeView) (h : Options) (k : ℕ) (w z : WorkerView) (r : Result Bool CallFault)
+    → SaysChange op b h k w z r → Keeps w z
+change_keeps op b h k w z r (inl (held, is, same)) = kept_itself w z same
+change_keeps op b h k w z r (inr (free, t)) = record
+    { same = t.answers.on.same; past = t.answers.on.past; free = λ none'. t.answers.on.held }
+
+pub reclaim_keeps : (L : Layout) (old new : List ℕ) (w z : WorkerView) (behind : Option ℕ) (handed : HandedOut)
+    → LeavesReclaim L old new w z behind handed → Keeps w z
+reclaim_keeps L old new w z behind handed t =
+    let one : Keeps w t.once =
+    record { same = t.advanced.same; past = t.advanced.past; free = λ is. t.advanced.place.1 ∙ is } in
+    let two : Keeps t.once t.twice =
+    record { same = t.again.same; past = t.again.past; free = λ is. t.again.place.1 ∙ is } in
+    let three : Keeps t.twice z =
+    record { same = t.hands.leaves.same; past = t.hands.leaves.past; free = λ is. t.hands.leaves.place.1 ∙ is } in
+    keeps_on w t.twice z (keeps_on w t.once t.twice one two) three
 
 -- ---- a member that was borrowed
 
@@ -91,10 +153,20 @@ module _ (s : SharedView) (c : CallerView) (m n : MemberView) (l : LoanView Memb
         note = note;
       }
 
--- a managed call of a member says the same of the set's tree
+-- a call of a member says the same of the set's tree
 tree_is : (s : SharedView) (c : CallerView) (m : MemberView) (l : LoanView MemberView SetView) → IsBorrowed s c m l
     → m.tree ≡ s.set.tree
 tree_is s c m l lent = lent.tree ∙ lent.here.tree
+
+pub says_visited : (Says : TreeView → WorkerView → WorkerView → Type 0) (s : SharedView) (c now : CallerView)
+    (m n : MemberView) (l : LoanView MemberView SetView) → IsBorrowed s c m l → n.tree ≡ m.tree
+    → Keeps m.worker n.worker → Says m.tree m.worker n.worker
+    → ((x : MemberView) → l.taken ≡ Some x → now.visits ≡ l.visits ++ record
+    { seat = l.seat; turn = l.turn; was = x; left = n } ∷ [])
+    → now.note ≡ Some (note_of n) → Visited (Says s.set.tree) s c now
+says_visited Says s c now m n l lent tree keeps says back note =
+    visited s c m n l lent tree keeps (Says s.set.tree) now
+    (subst (λ (b : TreeView). Says b m.worker n.worker) (tree_is s c m l lent) says) back note
 
 pub says_shared : (op : Op) (h : Options) (k : ℕ) (r : Result Bool CallFault) (s : SharedView) (c now : CallerView)
     (m n : MemberView)
@@ -103,20 +175,26 @@ pub says_shared : (op : Op) (h : Options) (k : ℕ) (r : Result Bool CallFault) 
     → ((x : MemberView) → l.taken ≡ Some x → now.visits ≡ l.visits ++ record
     { seat = l.seat; turn = l.turn; was = x; left = n } ∷ [])
     → now.note ≡ Some (note_of n) → SaysShared op s h k c now r
-says_shared op h k r s c now m n l lent tree says back note =
-    visited s c m n l lent tree (managed_keeps op m.tree h k m.worker n.worker r says) _ now
-    (subst (λ (b : TreeView). SaysManaged op b h k m.worker n.worker r) (tree_is s c m l lent) says) back note
+says_shared op h k r s c now m n l lent tree says =
+    says_visited (λ b w z. SaysManaged op b h k w z r) s c now m n l lent tree
+    (managed_keeps op m.tree h k m.worker n.worker r says) says
 
-pub says_shared_pop : (Before : ℕ → ℕ → Type 0) (h : Options) (r : Result (Option ℕ) CallFault) (s : SharedView)
-    (c now : CallerView) (m n : MemberView)
-    (l : LoanView MemberView SetView) → IsBorrowed s c m l → n.tree ≡ m.tree
-    → SaysManagedPop Before m.tree h m.worker n.worker r
-    → ((x : MemberView) → l.taken ≡ Some x → now.visits ≡ l.visits ++ record
-    { seat = l.seat; turn = l.turn; was = x; left = n } ∷ [])
-    → now.note ≡ Some (note_of n) → SaysSharedPop Before s h c now r
-says_shared_pop Before h r s c now m n l lent tree says back note =
-    visited s c m n l lent tree (pop_keeps Before m.tree h m.worker n.worker r says) _ now
-    (subst (λ (b : TreeView). SaysManagedPop Before b h m.worker n.worker r) (tree_is s c m l lent) says) back note
+-- ---- the same of a member in its block, which is the one that was borrowed
+
+module _ (s : SharedView) (c : CallerView) (x m n : MemberView) (l : LoanView MemberView SetView) (same : m ≡ x)
+    (lent : IsBorrowed s c x l) (tree : n.tree ≡ m.tree) (keeps : Keeps m.worker n.worker) where
+  here : IsBorrowed s c m l
+  here = subst (λ (y : MemberView). IsBorrowed s c y l) (sym same) lent
+
+  pub back_after : MayComeBack s l n
+  back_after = may_come_back s c m n l here tree keeps
+
+  pub said_by : (Says : TreeView → WorkerView → WorkerView → Type 0) (now : CallerView)
+      → Says m.tree m.worker n.worker
+      → ((y : MemberView) → l.taken ≡ Some y → now.visits ≡ l.visits ++ record
+      { seat = l.seat; turn = l.turn; was = y; left = n } ∷ [])
+      → now.note ≡ Some (note_of n) → Visited (Says s.set.tree) s c now
+  said_by Says now says back note = says_visited Says s c now m n l here tree keeps says back note
 
 -- ---- new members
 
@@ -131,9 +209,25 @@ new_sits s i m is = record {
 
 -- one more at the end
 pub seated_and : (s : SetView) (i : ℕ) (ms : List (Option MemberView)) (n : ℕ) (m : MemberView)
-    → n ≡ i + length ms → AreSeated Sits s i ms → Sits s n m → AreSeated Sits s i (ms ++ Some m ∷ [])
+    → n ≡ i + length ms → AreSeated SitsIn s i ms → Sits s n m → AreSeated SitsIn s i (ms ++ Some m ∷ [])
 seated_and s i [] n m e are here =
     let at : n ≡ i = omega (arith, e) in
     (subst (λ (k : ℕ). Sits s k m) at here, tt)
 seated_and s i (None ∷ ms) n m e are here = absurd are
 seated_and s i (Some x ∷ ms) n m e are here = (are.0, seated_and s (suc i) ms n m (omega (arith, e)) are.1 here)
+
+-- ---- no member was borrowed
+
+-- what clauses see of a caller, by its visits and its note
+abbrev caller_of : lending.CallerView MemberView SetView → Option Notice → CallerView
+caller_of v n = record { table = v.table; site = v.site; visits = v.visits; note = n; looks = v.looks }
+
+pub none_free : (s : SharedView) (b d : lending.CallerView MemberView SetView) (n : Option Notice) (was : CallerView)
+    (t : TableId) → caller_of b n ≡ was → t ≡ s.table → NoneIsLent b (λ i. (i < t.words) × (i < 4294967295)) d
+    → NoneWasFree s was (caller_of d n)
+none_free s b d n was t is own none = record {
+  looks = none.looks;
+  same = ap (λ (v : lending.CallerView MemberView SetView). caller_of v n) none.more
+      ∙ ap (λ (c : CallerView). record c { looks = c.looks ++ none.looks }) is;
+  each = λ i less few. none.each i (subst (λ (z : TableId). i < z.words) (sym own) less, few);
+}

@@ -12,14 +12,13 @@ use Rattle.nm_epoch.proofs.collecting.HeldQueue.TheSendSync as queue
 use Rattle.nm_tree.proofs.worker.Worker.TheSendSync as worker_crosses
 use Rattle.nm_tree.specs.contracts.worker.Worker as worker
 use Rattle.nm_tree.proofs.tree.Tree.TheSendSync as tree
-use Rattle.nm_seats.proofs.sitting.Seats.TheSendSync as seats
-use Rattle.nm_seats.proofs.sitting.WayBack.TheSendSync as way_back
 use Rattle.nm_set.specs.contracts.posting.Letter as letter
 use Rattle.nm_set.proofs.posting.Letter.TheSendSync as letter_crosses
 use Rattle.nm_set.specs.contracts.home.Home as home
 use Rattle.nm_set.proofs.home.Home.TheSendSync as home_crosses
-use Rattle.nm_set.specs.contracts.member.Member as member
 use Rattle.nm_set.specs.contracts.set.Set as set
+use Rattle.nm_set.specs.declared.contents.Contents as contents
+use Rattle.nm_set.proofs.Sending.{member_send, set_send}
 use Rattle.nm_lending.proofs.lending.Lending.TheSendSync as lending
 use Rattle.nm_lending.proofs.lending.Caller.TheSendSync as visitor
 use Rattle.nm_shared.specs.contracts.shared_set.Worker as shared_worker
@@ -53,43 +52,22 @@ home_sync = search (
   crosses,
   tree.the_sync,
   counted.the_sync,
-  seats.the_sync,
+  lending.the_sync,
   worker_crosses.the_send,
   letter_crosses.the_send,
   letter_sync,
   worker_sync,
 ) depth 60
 
-member_send : IsSend member.the_row
-member_send = search (
-  sendable,
-  crosses,
-  home_crosses.the_send,
-  home_sync,
-  worker_crosses.the_send,
-  way_back.the_send,
-) depth 60
+module _ (V : RattleType) (g : contents.Ghosts V.Denot) where
+  pub worker_send : IsSend (shared_worker.the_row V g)
+  worker_send = search (sendable, crosses, member_send) depth 60
 
-pub worker_send : IsSend shared_worker.the_row
-worker_send = search (sendable, crosses, member_send) depth 60
+  set_sync : IsSync (set.the_row V g)
+  set_sync = search (sendable, crosses, home_crosses.the_send, home_sync, tree.the_sync, worker_sync) depth 80
 
-set_send : IsSend set.the_row
-set_send = search (sendable, crosses, home_crosses.the_send, home_sync, tree.the_send, worker_crosses.the_send) depth 80
+  pub shared_sync : IsSync (shared.the_row V g)
+  shared_sync = search (sendable, crosses, set_sync, lending.the_sync, worker_send) depth 80
 
-set_sync : IsSync set.the_row
-set_sync = search (
-  sendable,
-  crosses,
-  home_crosses.the_send,
-  home_sync,
-  tree.the_send,
-  tree.the_sync,
-  worker_crosses.the_send,
-  worker_sync,
-) depth 80
-
-pub shared_sync : IsSync shared.the_row
-shared_sync = search (sendable, crosses, set_sync, lending.the_sync, lending.the_send, worker_send, set_send) depth 80
-
-pub caller_send : IsSend caller.the_row
-caller_send = search (sendable, crosses, visitor.the_send, worker_send, note_send) depth 80
+  pub caller_send : IsSend (caller.the_row V g)
+  caller_send = search (sendable, crosses, visitor.the_send, worker_send, note_send) depth 80

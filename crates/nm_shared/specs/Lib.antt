@@ -1,3 +1,4 @@
 pub mod OwnActs
 pub mod Sharing
 pub mod Sizes
+pub mod SharedMaps

@@ -1,9 +1,13 @@
 -- A set that any thread calls: its workers sit on seats, and each call borrows one.
-use Rattle.std.specs.Prelude.{◌≡◌, ℕ, Bool, List, [], ◌∷◌, ◌++◌, Option, None, Some, Result, Ok}
+use Rattle.std.specs.Prelude.{◌≡◌, ◌<◌, ℕ, Bool, List, [], ◌∷◌, ◌++◌, Option, None, Some, Result, Ok}
 use Rattle.atomic_table.specs.Seated.{TableId}
 use Rattle.nm_calls.specs.declared.fault.CallFault.{CallFault}
+use Rattle.nm_calls.specs.declared.many.Query.{Query}
+use Rattle.nm_calls.specs.declared.scanning.Scanned.{Scanned}
+use Rattle.nm_edge.specs.declared.edge.Side.{Side}
+use Rattle.nm_lending.specs.declared.knowing.Look.{Look}
 use Rattle.nm_lending.specs.declared.knowing.Visit.{Visit}
-use Rattle.nm_lending.specs.Views.{LoanView}
+use Rattle.nm_lending.specs.Views.{FoundAway, LoanView}
 use Rattle.nm_lending.specs.Visits.{AreApart, AreInOrder}
 use Rattle.nm_model.specs.Acts.{Act}
 use Rattle.nm_model.specs.Histories.{IsHistory}
@@ -11,7 +15,10 @@ use Rattle.nm_model.specs.declared.event.Op.{Op}
 use Rattle.nm_model.specs.declared.trace.Turn.{Turn}
 use Rattle.nm_set.specs.declared.managed.Options.{Options}
 use Rattle.nm_set.specs.Managed.{SaysManaged}
-use Rattle.nm_set.specs.Popping.{SaysManagedPop}
+use Rattle.nm_set.specs.InTurns.{AskedMany}
+use Rattle.nm_set.specs.NextKeys.{AskedNext, AskedPrev}
+use Rattle.nm_set.specs.Popping.{SaysManagedPopOf}
+use Rattle.nm_set.specs.Scanning.{AskedScan}
 use Rattle.nm_set.specs.Seats.{MemberView, SetView}
 use Rattle.nm_steps.specs.Rules.{Extends}
 use Rattle.nm_steps.specs.Steps.{PassView, Notice, IsSamePass, HasSeenAllOf}
@@ -30,6 +37,10 @@ pub record Sits (s : SetView) (i : ℕ) (m : MemberView) : Type 0 where
   pub number : m.worker.pass.view.number ≡ i
   pub free : m.worker.held ≡ None
 
+-- the same in each sitting
+abbrev pub SitsIn : SetView → ℕ → ℕ → MemberView → Type 0
+SitsIn s i n m = Sits s i m
+
 abbrev pub goes_on : SetView → MemberView → MemberView → Type 0
 goes_on s m n = WorkerGoesOn pass_of m n
 
@@ -38,12 +49,14 @@ pub record SharedView : Type 0 where
   pub set : SetView
   pub table : TableId
 
--- what clauses see of a caller: its visits, and a note of what it has seen by the last one
+-- what clauses see of a caller: its visits, a note of what it has seen by the last one, and the looks at
+-- seats by which it found no worker
 pub record CallerView : Type 0 where
   pub table : TableId
   pub site : Option SetView
   pub visits : List (Visit MemberView)
   pub note : Option Notice
+  pub looks : List Look
 
 -- the caller is one of this shared set
 pub record IsCallerOf (s : SharedView) (c : CallerView) : Type 0 where
@@ -87,6 +100,13 @@ pub record MayComeBack (s : SharedView) (l : LoanView MemberView SetView) (n : M
   pub sits : Sits s.set l.seat n
   pub goes : (x : MemberView) → l.taken ≡ Some x → goes_on s.set x n
 
+-- a caller could borrow no worker, and is as it was, but for its looks: it found each seat away, one after
+-- the other
+pub record NoneWasFree (s : SharedView) (was now : CallerView) : Type 0 where
+  pub looks : List Look
+  pub same : now ≡ record was { looks = was.looks ++ looks }
+  pub each : (i : ℕ) → i < s.table.words → i < 4294967295 → FoundAway looks i
+
 -- ---- what a call says
 
 -- the caller made one visit more, to the worker of some seat. This worker first heard what the caller had
@@ -101,13 +121,31 @@ pub record Visited (Says : WorkerView → WorkerView → Type 0) (s : SharedView
   pub says : Says begun visit.left.worker
   pub note : now.note ≡ Some (note_of visit.left)
 
--- `SaysShared`, `SaysSharedPop`: what a managed call of a member says, by the worker of one visit
+-- `SaysShared`, `SaysSharedPop`, `SaysSharedNext`, `SaysSharedPrev`, `SaysSharedMany`, `SaysSharedScan`:
+-- what a call of a member says, by the worker of one visit. A call that has no rounds has the tries of
+-- the options
 abbrev pub SaysShared : Op → SharedView → Options → ℕ → CallerView → CallerView → Result Bool CallFault → Type 0
 SaysShared op s h k was now r = Visited (λ w z. SaysManaged op s.set.tree h k w z r) s was now
 
-abbrev pub SaysSharedPop : (ℕ → ℕ → Type 0) → SharedView → Options → CallerView → CallerView
+abbrev pub SaysSharedPop : (ℕ → Type 0) → (ℕ → ℕ → Type 0) → SharedView → Options → CallerView → CallerView
     → Result (Option ℕ) CallFault → Type 0
-SaysSharedPop Before s h was now r = Visited (λ w z. SaysManagedPop Before s.set.tree h w z r) s was now
+SaysSharedPop Among Before s h was now r =
+    Visited (λ w z. SaysManagedPopOf Among Before s.set.tree h w z r) s was now
+
+abbrev pub SaysSharedNext : SharedView → Options → ℕ → CallerView → CallerView → Result (Option ℕ) CallFault → Type 0
+SaysSharedNext s h k was now r = Visited (λ w z. AskedNext s.set.tree.layout h.tries k w z r) s was now
+
+abbrev pub SaysSharedPrev : SharedView → Options → ℕ → CallerView → CallerView → Result (Option ℕ) CallFault → Type 0
+SaysSharedPrev s h k was now r = Visited (λ w z. AskedPrev s.set.tree.layout h.tries k w z r) s was now
+
+abbrev pub SaysSharedMany : SharedView → Options → List Query → List Query → CallerView → CallerView
+    → Result (Unit {0}) CallFault → Type 0
+SaysSharedMany s h old new was now r = Visited (λ w z. AskedMany s.set.tree.layout h.tries old new w z r) s was now
+
+abbrev pub SaysSharedScan : Side → SharedView → Options → ℕ → ℕ → List ℕ → List ℕ → CallerView → CallerView
+    → Result Scanned CallFault → Type 0
+SaysSharedScan side s h from to old new was now r =
+    Visited (λ w z. AskedScan side s.set.tree.layout h.tries from to old new w z r) s was now
 
 -- ---- the laws of two answers
 

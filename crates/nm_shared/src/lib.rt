@@ -6,9 +6,12 @@
 #![tactic(auto)]
 
 mod laws;
+mod looking;
+mod mapping;
+mod popping;
 mod regrowing;
 mod shared_set;
 
 pub use laws::{calls_of_one_caller_are_in_order, shown_calls_are_apart};
 pub use regrowing::{RegrowError, Regrown, regrow};
-pub use shared_set::{Caller, SharedSet};
+pub use shared_set::{Caller, MapCaller, SharedMap, SharedSet};

@@ -20,7 +20,7 @@ pub struct Regrown {
 #[derive(Drop)]
 pub enum RegrowError {
     /// The old set was not closed, and is handed back.
-    Open(CloseError),
+    Open(CloseError<Set>),
     /// The new set was not made. The report of the old set has the keys.
     Refused(OfKeysError, Report),
 }

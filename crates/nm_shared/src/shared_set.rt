@@ -1,27 +1,27 @@
 //! Calls of any thread, each by a worker that is borrowed for that call.
-ghost use Rattle.std.specs.Prelude.{◌≡◌, ◌<◌, ◌++◌, ◌∷◌, [], length, Some, None, IfOk, IfErr, IfSome, IfNone};
+ghost use Rattle.std.specs.Prelude.{◌≡◌, ◌++◌, ◌∷◌, [], length, Some, None, IfOk, IfErr, IfSome, IfNone};
 ghost use Rattle.nm_edge.specs.Layouts.{in_radix, spaced};
 ghost use Rattle.nm_lending.specs.Visits.{AreApart, AreInOrder, AreSeated};
 ghost use Rattle.nm_model.specs.declared.event.Op.TheVariants.{Has, Insert, Delete};
 ghost use Rattle.nm_set.specs.Managed.{of_insert};
 ghost use Rattle.nm_set.specs.Seats.{AreNewMembers, MemberView};
 ghost use Rattle.nm_set.specs.States.{IsNewSet};
-ghost use Rattle.nm_shared.specs.Sharing.{HasHeardNote, IsBorrowed, IsCallerOf, MayComeBack, SaysShared, SaysSharedPop, Sits, goes_on, note_of};
+ghost use Rattle.nm_shared.specs.Sharing.{HasHeardNote, IsBorrowed, IsCallerOf, MayComeBack, NoneWasFree, SaysShared, SitsIn, goes_on, note_of};
 
 use nm_edge::Key;
 use nm_lending::{Caller as Visitor, LendRule, Lending, Loan};
-use nm_set::{CallFault, Fit, InsertFault, Member, NewError, Options, Set};
+use nm_set::{CallFault, Contents, Fit, InsertFault, Keys, Member, NewError, Options, Set, Values};
 use nm_steps::Note;
 use std::alloc::{AllocError, Global};
 use std::marker::Model;
 
 /// A worker of a shared set, in a block of its own, so that a loan moves one word.
 #[derive(Drop)]
-pub(crate) struct Worker {
-    member: Box<Member>,
+pub(crate) struct Worker<V: Contents> {
+    pub member: Box<Member<V>>,
 }
 
-impl Model for Worker {
+impl<V: Contents> Model for Worker<V> {
     ghost use Rattle.nm_set.specs.Seats.{MemberView};
 
     ghost Value = { MemberView };
@@ -32,22 +32,25 @@ impl Model for Worker {
 /// On each seat sits the worker of its number, and it only goes on.
 pub(crate) struct Sharing;
 
-impl LendRule<Worker, Set> for Sharing {
-    ghost use Rattle.nm_shared.specs.Sharing.{Sits, goes_on};
+impl<V: Contents> LendRule<Worker<V>, Set<V>> for Sharing {
+    ghost use Rattle.nm_shared.specs.Sharing.{SitsIn, goes_on};
 
-    ghost resident = { Sits };
+    ghost resident = { SitsIn };
 
     ghost goes = { goes_on };
 }
 
-/// A set that any thread calls through a shared reference.
+/// A set, or a map, that any thread calls through a shared reference.
 #[derive(Drop)]
-pub struct SharedSet {
-    set: Set,
-    workers: Lending<Worker, Set, Sharing>,
+pub struct SharedSet<V: Contents = Keys> {
+    set: Set<V>,
+    workers: Lending<Worker<V>, Set<V>, Sharing>,
 }
 
-impl Model for SharedSet {
+/// A map that any thread calls through a shared reference.
+pub type SharedMap = SharedSet<Values>;
+
+impl<V: Contents> Model for SharedSet<V> {
     ghost use Rattle.std.specs.Prelude.{◌≡◌, ◌<◌};
     ghost use Rattle.nm_shared.specs.Sharing.{SharedView};
 
@@ -61,13 +64,15 @@ impl Model for SharedSet {
 /// Who calls a shared set: a thread, or a task. It has the number of the worker that it borrowed
 /// last, from which it looks for the next one, and for proofs what it has learned.
 #[derive(Drop)]
-pub struct Caller {
-    visits: Visitor<Worker, Set>,
+pub struct Caller<V: Contents = Keys> {
+    visits: Visitor<Worker<V>, Set<V>>,
     note: Option<Note>,
-    near: u32,
 }
 
-impl Model for Caller {
+/// Who calls a shared map.
+pub type MapCaller = Caller<Values>;
+
+impl<V: Contents> Model for Caller<V> {
     ghost use Rattle.nm_shared.specs.Sharing.{CallerView};
 
     ghost Value = { CallerView };
@@ -77,13 +82,18 @@ impl Model for Caller {
       site = c.visits.site;
       visits = c.visits.visits;
       note = c.note;
+      looks = c.visits.looks;
     } };
 }
 
 /// Puts each member on the seat of its number.
-fn seated(alloc: Global, set: &Set, members: Vec<Member>) -> Result<Vec<Option<Worker>>, AllocError>
+fn seated<V: Contents>(
+    alloc: Global,
+    set: &Set<V>,
+    members: Vec<Member<V>>,
+) -> Result<Vec<Option<Worker<V>>>, AllocError>
     requires new { AreNewMembers set.now.tree set.now.fit 0 members.items }
-    ensures new { IfOk result (λ ms. AreSeated Sits set.now 0 ms.items) }
+    ensures new { IfOk result (λ ms. AreSeated SitsIn set.now 0 ms.items) }
     ensures count { IfOk result (λ ms. length ms.items ≡ length members.items) }
 {
     let _set = set;
@@ -96,7 +106,7 @@ fn seated(alloc: Global, set: &Set, members: Vec<Member>) -> Result<Vec<Option<W
 }
 
 /// Hears a note, if there is one.
-fn hear(member: &mut Member, note: Option<Note>)
+fn hear<V: Contents>(member: &mut Member<V>, note: Option<Note>)
     requires table { IfSome note (λ n. n.table ≡ member.old.tree.table) }
     ensures tree { member.new.tree ≡ member.old.tree }
     ensures heard { HasHeardNote member.old.worker note member.new.worker }
@@ -106,11 +116,11 @@ fn hear(member: &mut Member, note: Option<Note>)
     }
 }
 
-impl SharedSet {
+impl<V: Contents> SharedSet<V> {
     /// Makes an empty radix tree with this number of nodes and workers, like `Set::new`.
     ///
     /// Errors: `Nodes`, `Workers`: a number is too small or too large. `NoMemory`.
-    pub fn new(alloc: Global, nodes: u32, workers: u32) -> Result<SharedSet, NewError>
+    pub fn new(alloc: Global, nodes: u32, workers: u32) -> Result<SharedSet<V>, NewError>
         ensures { IfOk result
             (λ s. IsNewSet (in_radix (spaced nodes workers)) Fit.NextFit s.set) }
     {
@@ -138,7 +148,7 @@ impl SharedSet {
     }
 
     /// Makes a caller, which has made no calls.
-    pub fn caller(&self) -> Caller
+    pub fn caller(&self) -> Caller<V>
         ensures own { IsCallerOf self.now result }
         ensures visits { result.visits ≡ [] }
         ensures note { result.note ≡ None }
@@ -146,29 +156,32 @@ impl SharedSet {
         Caller {
             visits: self.workers.caller(),
             note: None,
-            near: 0,
         }
     }
 
     /// Borrows a worker, which hears what the caller has learned.
-    fn borrow(&self, caller: Caller) -> Result<(Worker, Loan<Worker, Set>), Caller>
+    pub(crate) fn borrow(
+        &self,
+        caller: Caller<V>,
+    ) -> Result<(Worker<V>, Loan<Worker<V>, Set<V>>), Caller<V>>
         requires own { IsCallerOf self.now caller }
         ensures lent { IfOk result (λ r. IsBorrowed self.now caller r.0 r.1) }
-        ensures refused { IfErr result (λ c. c ≡ caller) }
+        ensures refused { IfErr result (NoneWasFree self.now caller) }
     {
-        let Caller { visits, note, near } = caller;
+        let Caller { visits, note } = caller;
+        let near = visits.seat();
         match self.workers.lend_near(visits, near) {
             Ok((worker, loan)) => {
                 let mut worker = worker;
                 hear(&mut worker.member, note);
                 Ok((worker, loan))
             }
-            Err(visits) => Err(Caller { visits, note, near }),
+            Err(visits) => Err(Caller { visits, note }),
         }
     }
 
     /// Gives a worker back, and notes what it has seen.
-    fn give_back(&self, loan: Loan<Worker, Set>, worker: Worker) -> Caller
+    pub(crate) fn give_back(&self, loan: Loan<Worker<V>, Set<V>>, worker: Worker<V>) -> Caller<V>
         requires back { MayComeBack self.now loan worker }
         ensures own { IsCallerOf self.now result }
         ensures visits { (x : MemberView) → loan.taken ≡ Some x
@@ -178,9 +191,8 @@ impl SharedSet {
     {
         let mut worker = worker;
         let note = Some(worker.member.note());
-        let near = loan.seat();
         let visits = self.workers.give_back(loan, worker);
-        Caller { visits, note, near }
+        Caller { visits, note }
     }
 
     /// Returns whether the set has the key: `Member::contains` of `nm_set`, by a worker that no
@@ -191,14 +203,14 @@ impl SharedSet {
     /// Cost: that of `Member::contains`, a load and a compare-exchange for the worker, and a store.
     pub fn contains(
         &self,
-        caller: Caller,
+        caller: Caller<V>,
         key: Key,
         options: &Options,
-    ) -> (Caller, Option<Result<bool, CallFault>>)
+    ) -> (Caller<V>, Option<Result<bool, CallFault>>)
         requires own { IsCallerOf self.now caller }
         ensures own { IsCallerOf self.now result.0 }
         ensures says { IfSome result.1 (SaysShared Has self.now options.now key caller result.0) }
-        ensures refused { IfNone result.1 (result.0 ≡ caller) }
+        ensures refused { IfNone result.1 (NoneWasFree self.now caller result.0) }
     {
         match self.borrow(caller) {
             Ok((worker, loan)) => {
@@ -210,6 +222,30 @@ impl SharedSet {
         }
     }
 
+    /// Takes over the visits of another caller, so that `show` speaks of both. Costs a load.
+    pub fn join(&self, caller: &mut Caller<V>, other: Caller<V>)
+        requires own { IsCallerOf self.now caller.old }
+        requires other { IsCallerOf self.now other }
+        ensures own { IsCallerOf self.now caller.new }
+        ensures visits { caller.new.visits ≡ caller.old.visits ++ other.visits }
+        ensures note { caller.new.note ≡ caller.old.note }
+    {
+        self.workers.join(&mut caller.visits, other.visits);
+    }
+
+    /// Proof only: no two of the caller's visits are the same one; and of two visits to one worker,
+    /// what the earlier one left led to what the later one found. Costs a load.
+    pub fn show(&self, caller: &mut Caller<V>)
+        requires own { IsCallerOf self.now caller.old }
+        ensures same { caller.new ≡ caller.old }
+        ensures apart { AreApart caller.old.visits }
+        ensures order { AreInOrder (goes_on self.now.set) caller.old.visits }
+    {
+        self.workers.show(&mut caller.visits);
+    }
+}
+
+impl SharedSet<Keys> {
     /// Inserts `key`; returns true if it was absent: `Member::insert`, in the same way.
     ///
     /// Errors: those of `Member::insert`, except `Pinned`.
@@ -223,7 +259,7 @@ impl SharedSet {
         ensures own { IsCallerOf self.now result.0 }
         ensures says { IfSome result.1
             (λ told. SaysShared Insert self.now options.now key caller result.0 (of_insert told)) }
-        ensures refused { IfNone result.1 (result.0 ≡ caller) }
+        ensures refused { IfNone result.1 (NoneWasFree self.now caller result.0) }
     {
         match self.borrow(caller) {
             Ok((worker, loan)) => {
@@ -249,7 +285,7 @@ impl SharedSet {
         ensures own { IsCallerOf self.now result.0 }
         ensures says { IfSome result.1
             (SaysShared Delete self.now options.now key caller result.0) }
-        ensures refused { IfNone result.1 (result.0 ≡ caller) }
+        ensures refused { IfNone result.1 (NoneWasFree self.now caller result.0) }
     {
         match self.borrow(caller) {
             Ok((worker, loan)) => {
@@ -259,75 +295,5 @@ impl SharedSet {
             }
             Err(caller) => (caller, None),
         }
-    }
-
-    /// Removes the least key, and returns it: `Member::pop_first`, in the same way.
-    ///
-    /// Errors: those of `Member::pop_first`, except `Pinned`; `Unfinished` as of `remove`.
-    pub fn pop_first(
-        &self,
-        caller: Caller,
-        options: &Options,
-    ) -> (Caller, Option<Result<Option<Key>, CallFault>>)
-        requires own { IsCallerOf self.now caller }
-        ensures own { IsCallerOf self.now result.0 }
-        ensures says { IfSome result.1
-            (SaysSharedPop ◌<◌ self.now options.now caller result.0) }
-        ensures refused { IfNone result.1 (result.0 ≡ caller) }
-    {
-        match self.borrow(caller) {
-            Ok((worker, loan)) => {
-                let mut worker = worker;
-                let told = worker.member.pop_first(options);
-                (self.give_back(loan, worker), Some(told))
-            }
-            Err(caller) => (caller, None),
-        }
-    }
-
-    /// Removes the greatest key, and returns it: `Member::pop_last`, in the same way.
-    ///
-    /// Errors: as of `pop_first`.
-    pub fn pop_last(
-        &self,
-        caller: Caller,
-        options: &Options,
-    ) -> (Caller, Option<Result<Option<Key>, CallFault>>)
-        requires own { IsCallerOf self.now caller }
-        ensures own { IsCallerOf self.now result.0 }
-        ensures says { IfSome result.1
-            (SaysSharedPop (λ j key. key < j) self.now options.now caller result.0) }
-        ensures refused { IfNone result.1 (result.0 ≡ caller) }
-    {
-        match self.borrow(caller) {
-            Ok((worker, loan)) => {
-                let mut worker = worker;
-                let told = worker.member.pop_last(options);
-                (self.give_back(loan, worker), Some(told))
-            }
-            Err(caller) => (caller, None),
-        }
-    }
-
-    /// Takes over the visits of another caller, so that `show` speaks of both. Costs a load.
-    pub fn join(&self, caller: &mut Caller, other: Caller)
-        requires own { IsCallerOf self.now caller.old }
-        requires other { IsCallerOf self.now other }
-        ensures own { IsCallerOf self.now caller.new }
-        ensures visits { caller.new.visits ≡ caller.old.visits ++ other.visits }
-        ensures note { caller.new.note ≡ caller.old.note }
-    {
-        self.workers.join(&mut caller.visits, other.visits);
-    }
-
-    /// Proof only: no two of the caller's visits are the same one; and of two visits to one worker,
-    /// what the earlier one left led to what the later one found. Costs a load.
-    pub fn show(&self, caller: &mut Caller)
-        requires own { IsCallerOf self.now caller.old }
-        ensures same { caller.new ≡ caller.old }
-        ensures apart { AreApart caller.old.visits }
-        ensures order { AreInOrder (goes_on self.now.set) caller.old.visits }
-    {
-        self.workers.show(&mut caller.visits);
     }
 }

@@ -9,7 +9,7 @@ use Rattle.nm_edge.specs.Words.{IsSlot, IsField, at_edge}
 use Rattle.nm_edge.specs.declared.edge.Side.{Side}
 use Rattle.nm_model.specs.declared.event.Field.{Field}
 use Rattle.nm_model.specs.declared.event.Event.{Event}
-use Rattle.nm_model.specs.declared.event.Event.TheVariants.{Sight, SightFor, Announce, Leave, LeaveWith, Scan, Advance, Claim, Give, Look, Fill, Link, Flag, Tag, Splice, Join}
+use Rattle.nm_model.specs.declared.event.Event.TheVariants.{Sight, SightFor, Announce, Leave, LeaveWith, Scan, Advance, Claim, Give, Look, Fill, Link, Flag, Tag, Splice, Swap, Join}
 use Rattle.nm_model.specs.declared.event.Field.TheVariants.{Key, Edge as EdgeOn, Birth}
 use Rattle.nm_model.specs.declared.memory.Node.{Node}
 use Rattle.nm_model.specs.Memory.{Memory, edge, blank, opening}
@@ -104,6 +104,12 @@ module _ (L : Layout) (w : ℕ) (log : List Entry) where
   unfolding refusal
   splice_slot a side s p keep may = slot_of 1 L.nodes a (omega arith) (or_parts (outside 1 L.nodes a) (outside 6 L.nodes s || outside 6 L.nodes p) (passed _ _ _ (may.allowed (opening L) tt)).0).0
 
+  pub swap_slot : (p : ℕ) (side : Side) (leaf new : ℕ) → May L w log (Swap p side leaf new) → IsSlot L p
+  unfolding refusal
+  swap_slot p side leaf new may = slot_of 1 L.nodes p (omega arith)
+      (or_parts (outside 1 L.nodes p) (outside 6 L.nodes leaf || outside 6 L.nodes new)
+      (passed _ _ _ (may.allowed (opening L) tt)).0).0
+
 -- the last of so many nodes and one
 abbrev last_of : ℕ → Node → List Node
 last_of zero n = n ∷ []
@@ -176,4 +182,5 @@ module _ (L : Layout) (w : ℕ) (log : List Entry) (own : w < L.workers) where
   within (Flag p side leaf) may = flag_slot L w log p side leaf may
   within (Tag p side) may = tag_slot L w log p side may
   within (Splice a side s p keep) may = splice_slot L w log a side s p keep may
+  within (Swap p side leaf new) may = swap_slot L w log p side leaf new may
   within (Join v) may = absurd may.births

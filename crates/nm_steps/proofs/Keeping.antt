@@ -14,10 +14,9 @@ use Rattle.atomic_table.specs.declared.shared.Seat.{Seat}
 use Rattle.atomic_table.proofs.Lists.{at_set}
 use Rattle.nm_edge.specs.Layouts.{Layout, IsLayout}
 use Rattle.nm_edge.specs.Words.{IsField, word, words as all_words}
-use Rattle.nm_edge.specs.declared.edge.Side.{Side}
 use Rattle.nm_edge.proofs.Words.{fields_within}
 use Rattle.nm_model.specs.declared.event.Event.{Event}
-use Rattle.nm_model.specs.declared.event.Event.TheVariants.{Join, Link}
+use Rattle.nm_model.specs.declared.event.Event.TheVariants.{Join}
 use Rattle.nm_model.specs.declared.reply.Reply.{Reply}
 use Rattle.nm_model.specs.declared.trace.Turn.{Turn}
 use Rattle.nm_model.specs.Knowledge.{Knowledge}
@@ -34,14 +33,14 @@ use Rattle.nm_steps.specs.Told.{told}
 use Rattle.nm_steps.specs.declared.view.Held.{Held}
 use Rattle.nm_steps.specs.declared.view.Stored.{Stored}
 use Rattle.nm_steps.specs.declared.view.View.{View}
-use Rattle.nm_steps.specs.Rules.{held_log, holdings, knowledge, known_births, stands, once_below, ExtendsStores, LogsAre, IsShown, LagsBehind, LagsInStores, Runs, Kept, answered_turn, logged, is_store, IsFound, Did, Extends, LinkHasValue, IsStored, new_leaf}
+use Rattle.nm_steps.specs.Rules.{held_log, holdings, knowledge, known_births, stands, once_below, ExtendsStores, LogsAre, IsShown, LagsBehind, LagsInStores, Runs, Kept, answered_turn, logged, is_store, IsFound, Did, Extends, LinkHasValue, HasValueFor}
 use Rattle.nm_steps.specs.Steps.{May, IsReadyFor, IsDone, Changes, IsBlind}
 use Rattle.nm_steps.proofs.Counts.{at_most_sum, both_at_most_sum, sum_after}
 use Rattle.nm_steps.proofs.Growing.{goes_on_itself, goes_on_by, behind_by}
 use Rattle.nm_steps.proofs.Presence.{gone_kept, known_push}
 use Rattle.nm_steps.proofs.Extending.{IsPartOf, words_after, trace_after}
 use Rattle.nm_steps.proofs.StoreOrders.{SameStores, lags_kept}
-use Rattle.nm_steps.proofs.Valuing.{AreStoresOf, Grows, IfValued, IsPair, held_longer, last_or_earlier, reworded, run_long, still_stored}
+use Rattle.nm_steps.proofs.Valuing.{value_still, value_there, AreStoresOf, Grows, IfValued, IsPair, held_longer, last_or_earlier, reworded, run_long}
 use Rattle.std.proofs.lemmas.List.{get_or_append_left, set-append_left}
 use Rattle.nm_laws.proofs.Configurations.{keys_more}
 
@@ -203,29 +202,35 @@ module _ (L : Layout) (words : List ℕ) (views : List View) (id : ℕ) (v : Vie
       ap (λ (l : Layout). known_by l v.number v.log) layout
       ∙ (ap (known_by L v.number) mine.1 ∙ sym (logs_tell L k.turns v.number counted.1))
 
-  -- a store of the view is one of the run, if the worker has taken no step after it
-  stored_in_run : (st : List Stored) (slot : ℕ) → ExtendsStores st v.stores → IsStored v.stores v.number (length v.log) slot → IsStored st v.number (length (part_of v.number trace)) slot
-  stored_in_run st slot had s = subst (λ (n : ℕ). IsStored st v.number n slot) (ap (λ (l : List Entry). length l) mine.1) (still_stored st v.stores v.number (length v.log) slot had s)
-
   -- each new leaf still has a store
   pub links_on : (slots : ℕ) (st : List Stored) → ExtendsStores st v.stores → LinkHasValue slots v e → IfValued L slots k.turns st → IfValued L slots more st
   links_on slots st had stored (inl plain) = inl plain
   links_on slots st had stored (inr links) = elim (ℕ_discrete slots 0) [
     | yes none' ↦ inl none'
-    | no other ↦ inr (λ before since w p side leaf new is. by other before w p side leaf new (last_or_earlier k.turns before since (w, Link p side leaf new) (v.number, e) is))
+    | no other ↦ inr (λ before since w f is. by other before w f
+        (last_or_earlier k.turns before since (w, f) (v.number, e) is))
   ]
     where
-      now' : (p : ℕ) (side : Side) (leaf new : ℕ) → slots ≢ 0 → LinkHasValue slots v (Link p side leaf new) → IsStored st v.number (length (part_of v.number trace)) (new_leaf (of (after_in (ordered L) k.turns).state v.number) leaf new)
-      now' p side leaf new other (inl plain) = absurd (other plain)
-      now' p side leaf new other (inr s) = subst (λ (x : Knowledge). IsStored st v.number (length (part_of v.number trace)) (new_leaf x leaf new)) known_is (stored_in_run st (new_leaf (knowledge v) leaf new) had s)
+      -- what the worker of the view has stored, of the run up to this event
+      own : slots ≢ 0 → HasValueFor (of (after_in (ordered L) k.turns).state v.number) st v.number
+          (length (part_of v.number trace)) e
+      own other =
+          subst (λ (x : Knowledge). HasValueFor x st v.number (length (part_of v.number trace)) e) known_is
+          (subst (λ (n : ℕ). HasValueFor (knowledge v) st v.number n e) (ap (λ (l : List Entry). length l) mine.1)
+          (value_still (knowledge v) st v.stores v.number (length v.log) e had (value_there slots v e other stored)))
 
-      by : slots ≢ 0 → (before : List (ℕ × Event)) (w p : ℕ) (side : Side) (leaf new : ℕ) → ((rest : List (ℕ × Event)) × (k.turns ≡ before ++ (w, Link p side leaf new) ∷ rest)) ⊎ ((before ≡ k.turns) × IsPair v.number e w (Link p side leaf new))
-          → IsStored st w (length (part_of w (trace_in (ordered L) before))) (new_leaf (of (after_in (ordered L) before).state w) leaf new)
-      by other before w p side leaf new (inl earlier) = links before earlier.0 w p side leaf new earlier.1
-      by other before w p side leaf new (inr last) =
-          subst (λ (u : ℕ). IsStored st u (length (part_of u (trace_in (ordered L) before))) (new_leaf (of (after_in (ordered L) before).state u) leaf new)) (ap (λ (t : ℕ × Event). t.0) last.1)
-          (subst (λ (ts : List (ℕ × Event)). IsStored st v.number (length (part_of v.number (trace_in (ordered L) ts))) (new_leaf (of (after_in (ordered L) ts).state v.number) leaf new)) (sym last.0)
-          (now' p side leaf new other (subst (LinkHasValue slots v) (ap (λ (t : ℕ × Event). t.1) last.1) stored)))
+      by : slots ≢ 0 → (before : List (ℕ × Event)) (w : ℕ) (f : Event)
+          → ((rest : List (ℕ × Event)) × (k.turns ≡ before ++ (w, f) ∷ rest))
+          ⊎ ((before ≡ k.turns) × IsPair v.number e w f)
+          → HasValueFor (of (after_in (ordered L) before).state w) st w
+          (length (part_of w (trace_in (ordered L) before))) f
+      by other before w f (inl earlier) = links before earlier.0 w f earlier.1
+      by other before w f (inr last) =
+          subst (λ (t : ℕ × Event). HasValueFor (of (after_in (ordered L) before).state t.0) st t.0
+          (length (part_of t.0 (trace_in (ordered L) before))) t.1) last.1
+          (subst (λ (ts : List (ℕ × Event)). HasValueFor (of (after_in (ordered L) ts).state v.number) st v.number
+          (length (part_of v.number (trace_in (ordered L) ts))) e)
+          (sym last.0) (own other))
 
 abbrev no_step : Step Unit
 no_step = step 0 0 0 0 none

@@ -8,7 +8,7 @@ use Rattle.nm_edge.specs.declared.edge.Side.{Side}
 use Rattle.nm_edge.specs.declared.edge.Side.TheVariants.{Left, Right}
 use Rattle.nm_model.specs.declared.event.Field.TheVariants.{Key, Edge as EdgeOn, Birth}
 use Rattle.nm_model.specs.declared.event.Event.{Event}
-use Rattle.nm_model.specs.declared.event.Event.TheVariants.{Sight, SightFor, Announce, Leave, LeaveWith, Scan, Advance, Claim, Give, Look, Fill, Link, Flag, Tag, Splice, Join}
+use Rattle.nm_model.specs.declared.event.Event.TheVariants.{Sight, SightFor, Announce, Leave, LeaveWith, Scan, Advance, Claim, Give, Look, Fill, Link, Flag, Tag, Splice, Swap, Join}
 use Rattle.nm_model.specs.declared.memory.Node.{Node}
 use Rattle.nm_model.specs.Maps.{is_number}
 use Rattle.nm_model.specs.Memory.{Memory, node, edge, edge_of, blank, put_node, put_edge, with_edge}
@@ -86,6 +86,7 @@ module _ (s : State) (k : IsLawful s) (all : Unmarked s.memory) (w : ℕ) where
           outside_not = (or_parts (outside 1 s.layout.nodes p) (outside 6 s.layout.nodes leaf) (passed _ _ _ ok).0).1
       go (Tag p side) ok = edge_unmarked s.memory p side _ all (tagged_is (edge s.memory p side) (all p side))
       go (Splice a side x p keep) ok = exchange_unmarked s.memory a side x _ all (kept_is p keep (read (of s w) p keep) refl)
+      go (Swap p side leaf new) ok = exchange_unmarked s.memory p side leaf _ all (to_is new)
       go Sight ok = all
       go (SightFor op key) ok = all
       go Announce ok = all

@@ -10,7 +10,7 @@ use Rattle.atomic_table.specs.declared.shared.Seat.{Seat}
 use Rattle.nm_edge.specs.Layouts.{Layout, IsLayout}
 use Rattle.nm_edge.specs.Words.{at_announcement, word}
 use Rattle.nm_model.specs.declared.event.Event.{Event}
-use Rattle.nm_model.specs.declared.event.Event.TheVariants.{Sight, SightFor, Announce, Leave, LeaveWith, Scan, Advance, Claim, Give, Look, Fill, Link, Flag, Tag, Splice, Join}
+use Rattle.nm_model.specs.declared.event.Event.TheVariants.{Sight, SightFor, Announce, Leave, LeaveWith, Scan, Advance, Claim, Give, Look, Fill, Link, Flag, Tag, Splice, Swap, Join}
 use Rattle.nm_model.specs.declared.reply.Reply.{Reply}
 use Rattle.nm_model.specs.declared.reply.Reply.TheVariants.{Saw, Labelled, Pinned, Missed, Announced, Departed, Moved, Behind, Claimed, Returned, Freed, Filled, Linked, Flagged, Was, Cut, Lost, Joined}
 use Rattle.nm_model.specs.declared.knowledge.Brief.{Brief}
@@ -46,6 +46,7 @@ noted b (LeaveWith answer) Departed = record b { announcement = None; pin = None
 noted b Advance (Moved e) = record b { seen = Some e }
 noted b Advance (Behind e) = record b { seen = Some e }
 noted b (Splice a side s p keep) (Cut ns) = record b { unlabelled = true }
+noted b (Swap p side leaf new) (Cut ns) = record b { unlabelled = true }
 noted b _ _ = b
 
 -- ---- epochs
@@ -79,6 +80,8 @@ brief_is_noted w k (Flag p side leaf) (Lost e) = refl
 brief_is_noted w k (Tag p side) (Was e) = refl
 brief_is_noted w k (Splice a side s p keep) (Cut ns) = refl
 brief_is_noted w k (Splice a side s p keep) (Lost e) = refl
+brief_is_noted w k (Swap p side leaf new) (Cut ns) = refl
+brief_is_noted w k (Swap p side leaf new) (Lost e) = refl
 brief_is_noted w k (Join v) (Joined ls) = cond_both (w == v) (resigned k) (inheriting k ls) (λ x. x.brief ≡ k.brief) (λ _. refl) (λ _. refl)
 brief_is_noted w k _ _ = refl
 

@@ -9,7 +9,7 @@ use Rattle.nm_edge.specs.Words.{at_epoch, at_edge, IsField, IsSlot, word, pool_p
 use Rattle.nm_edge.specs.declared.edge.Side.{Side}
 use Rattle.nm_edge.proofs.Words.{fields_within, places_are_rows}
 use Rattle.nm_model.specs.declared.event.Event.{Event}
-use Rattle.nm_model.specs.declared.event.Event.TheVariants.{Sight, SightFor, Announce, Leave, LeaveWith, Scan, Advance, Claim, Give, Look, Fill, Link, Flag, Tag, Splice, Join}
+use Rattle.nm_model.specs.declared.event.Event.TheVariants.{Sight, SightFor, Announce, Leave, LeaveWith, Scan, Advance, Claim, Give, Look, Fill, Link, Flag, Tag, Splice, Swap, Join}
 use Rattle.nm_model.specs.declared.event.Field.{Field as NodeField}
 use Rattle.nm_model.specs.declared.event.Field.TheVariants.{Key, Edge as EdgeOn, Birth}
 use Rattle.nm_model.specs.declared.reply.Refused.{Refused}
@@ -86,6 +86,9 @@ module _ (s : State) (h : ℕ → ℕ) (law : Lawful s h) (w : ℕ) where
       go (Flag p side leaf) ok = high_from 1 s.layout.nodes p (or_parts (outside 1 s.layout.nodes p) (outside 6 s.layout.nodes leaf) (passed _ _ _ ok).0).0
       go (Tag p side) ok = high_from 1 s.layout.nodes p (passed _ _ _ ok).0
       go (Splice a side x p keep) ok = high_from 1 s.layout.nodes a (or_parts (outside 1 s.layout.nodes a) (outside 6 s.layout.nodes x || outside 6 s.layout.nodes p) (passed _ _ _ ok).0).0
+      go (Swap p side leaf new) ok = high_from 1 s.layout.nodes p
+          (or_parts (outside 1 s.layout.nodes p) (outside 6 s.layout.nodes leaf || outside 6 s.layout.nodes new)
+          (passed _ _ _ ok).0).0
       go (Join v) ok = tt
 
   one_word : (e : Event) → Allowed s w e → words_of s.layout (write s.memory (of s w) w e) ≡ with_word s.layout s.memory (touched_field w e) (left_word s.layout (of s w) e (word_at s.layout s.memory (touched_field w e)))
@@ -119,6 +122,8 @@ module _ (s : State) (h : ℕ → ℕ) (law : Lawful s h) (w : ℕ) where
           edge_written s.layout s.memory p side (tagged (edge s.memory p side)) fits at
           ∙ ap (with_word s.layout s.memory (at_edge p side)) (word_tagged (edge s.memory p side) (tag_not_null s h law w p side ok.event) ∙ ap (λ n. bit_or n 2) (sym (field_read s.layout s.memory fits (at_edge p side) at)))
       go (Splice a side x p keep) ok at = exchange_written s.layout s.memory a side x _ (kept (read (of s w) p keep)) fits at refl
+      go (Swap p side leaf new) ok at = exchange_written s.layout s.memory p side leaf (4 * new) (to new) fits at
+          (word_to new)
       go (Join v) ok at = unchanged s.layout s.memory 0
 
 -- ---- in every run

@@ -10,7 +10,7 @@ use Rattle.nm_edge.specs.Words.{at_announcement, at_key, at_edge, at_birth, IsFi
 use Rattle.nm_edge.specs.declared.edge.Side.{Side}
 use Rattle.nm_edge.specs.declared.node.NodeId.{NodeId}
 use Rattle.nm_model.specs.declared.event.Event.{Event}
-use Rattle.nm_model.specs.declared.event.Event.TheVariants.{Sight, SightFor, Announce, Leave, LeaveWith, Scan, Advance, Claim, Give, Look, Fill, Link, Flag, Tag, Splice, Join}
+use Rattle.nm_model.specs.declared.event.Event.TheVariants.{Sight, SightFor, Announce, Leave, LeaveWith, Scan, Advance, Claim, Give, Look, Fill, Link, Flag, Tag, Splice, Swap, Join}
 use Rattle.nm_model.specs.declared.event.Field.{Field as NodeField}
 use Rattle.nm_model.specs.declared.event.Field.TheVariants.{Key, Edge as EdgeOn, Birth}
 use Rattle.nm_model.specs.declared.reply.Reply.{Reply}
@@ -89,6 +89,9 @@ module _ (s : State) (k : IsLawful s) (w : ℕ) (births : Births) (stand : Birth
       go (Flag p side leaf) ok at known = exchange_told s.layout s.memory p side leaf _ _ fits at (ap Flagged (node_known leaf known))
       go (Tag p side) ok at known = ap Was (sym (ap edge_in (field_read s.layout s.memory fits (at_edge p side) at) ∙ word_edge_in (edge s.memory p side)))
       go (Splice a side x p keep) ok at known = exchange_told s.layout s.memory a side x _ _ fits at (ap Cut (nodes_known (cut_by (of s w) x (unwrap_or (way s.layout.nodes (of s w) x p) []) keep) known))
+      go (Swap p side leaf new) ok at known =
+          exchange_told s.layout s.memory p side leaf _ _ fits at
+          (ap (λ (n : NodeId). Cut (n ∷ [])) (node_known leaf known))
       go (Join v) ok at known = absurd known
 
 pub each_reply_is_told : OfEachState RepliesAreTold

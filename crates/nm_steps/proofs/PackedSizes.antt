@@ -10,7 +10,7 @@ use Rattle.nm_edge.specs.Words.{Field, at_epoch, at_announcement, at_key, at_edg
 use Rattle.nm_edge.specs.declared.edge.Side.{Side}
 use Rattle.nm_edge.specs.declared.edge.Side.TheVariants.{Left, Right}
 use Rattle.nm_model.specs.declared.event.Event.{Event}
-use Rattle.nm_model.specs.declared.event.Event.TheVariants.{Sight, SightFor, Announce, Leave, LeaveWith, Scan, Advance, Claim, Give, Look, Fill, Link, Flag, Tag, Splice, Join}
+use Rattle.nm_model.specs.declared.event.Event.TheVariants.{Sight, SightFor, Announce, Leave, LeaveWith, Scan, Advance, Claim, Give, Look, Fill, Link, Flag, Tag, Splice, Swap, Join}
 use Rattle.nm_model.specs.declared.event.Field.{Field as NodeField}
 use Rattle.nm_model.specs.declared.event.Field.TheVariants.{Key, Edge as EdgeOn, Birth}
 use Rattle.nm_model.specs.declared.memory.Node.{Node}
@@ -136,6 +136,7 @@ module _ (s : State) (k : IsLawful s) (small : Small s.memory) (w : ℕ) where
       go (Flag p side leaf) ok = exchange_small s.memory p side leaf _ small
       go (Tag p side) ok = edge_small s.memory p side _ small
       go (Splice a side x p keep) ok = exchange_small s.memory a side x _ small
+      go (Swap p side leaf new) ok = exchange_small s.memory p side leaf _ small
       go (Join v) ok = small
 
 -- lawful, and with small numbers
@@ -183,6 +184,7 @@ keyed_step m k w (Link p side leaf new) keyed word = exchange_keyed m p side lea
 keyed_step m k w (Flag p side leaf) keyed word = exchange_keyed m p side leaf _ keyed
 keyed_step m k w (Tag p side) keyed word = edge_keyed m p side _ keyed
 keyed_step m k w (Splice a side x p keep) keyed word = exchange_keyed m a side x _ keyed
+keyed_step m k w (Swap p side leaf new) keyed word = exchange_keyed m p side leaf _ keyed
 keyed_step m k w Sight keyed word = keyed
 keyed_step m k w (SightFor op key) keyed word = keyed
 keyed_step m k w Announce keyed word = keyed

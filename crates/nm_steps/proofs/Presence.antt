@@ -3,7 +3,7 @@ use Rattle.std.proofs.Common.{◌≡◌, ℕ, ◌==◌, false, List, [], ◌∷�
 use Rattle.std.proofs.lemmas.Bool.{cond-false, ne_eqb, eqb-false}
 use Rattle.nm_edge.specs.Layouts.{Layout}
 use Rattle.nm_model.specs.declared.event.Event.{Event}
-use Rattle.nm_model.specs.declared.event.Event.TheVariants.{Sight, SightFor, Announce, Leave, LeaveWith, Scan, Advance, Claim, Give, Look, Fill, Link, Flag, Tag, Splice, Join}
+use Rattle.nm_model.specs.declared.event.Event.TheVariants.{Sight, SightFor, Announce, Leave, LeaveWith, Scan, Advance, Claim, Give, Look, Fill, Link, Flag, Tag, Splice, Swap, Join}
 use Rattle.nm_model.specs.declared.reply.Reply.{Reply}
 use Rattle.nm_model.specs.declared.reply.Reply.TheVariants.{Announced, Departed, Moved, Behind, Claimed, Returned, Freed, Filled, Linked, Flagged, Was, Cut, Lost, Joined}
 use Rattle.nm_model.specs.Knowledge.{Knowledge}
@@ -38,6 +38,8 @@ gone_kept w k (Flag p side leaf) (Lost e) h = refl
 gone_kept w k (Tag p side) (Was e) h = refl
 gone_kept w k (Splice a side s p keep) (Cut ns) h = refl
 gone_kept w k (Splice a side s p keep) (Lost e) h = refl
+gone_kept w k (Swap p side leaf new) (Cut ns) h = refl
+gone_kept w k (Swap p side leaf new) (Lost e) h = refl
 gone_kept w k (Join v) (Joined ls) h = ap (λ x. x.gone) (cond-false (w == v) (resigned k) (inheriting k ls) (ne_eqb w v (λ same. eqb-false v w h (sym same))))
 gone_kept w k _ _ h = refl
 

@@ -1,5 +1,5 @@
 -- Values after the words of the core: a step of the core leaves them as they are.
-use Rattle.std.proofs.Common.{◌≡◌, ◌⊎◌, inl, inr, ℕ, ◌≤◌, ◌==◌, false, cond, List, [], ◌∷◌, ◌++◌, length, refl, sym, ap, ◌∙◌, subst, arith, append-nil, append_assoc}
+use Rattle.std.proofs.Common.{◌≡◌, ◌≢◌, ◌⊎◌, inl, inr, ℕ, ◌≤◌, ◌==◌, false, cond, List, [], ◌∷◌, ◌++◌, length, refl, sym, ap, ◌∙◌, subst, arith, append-nil, append_assoc}
 use Rattle.std.proofs.lemmas.List.Elements.{Contains-append_left}
 use Rattle.std.specs.Prelude.{AllPairs, Contains}
 use mathlib.Core.Option.{some}
@@ -7,9 +7,9 @@ use lib.ListN.{get_elem?}
 use Rattle.nm_edge.specs.Layouts.{Layout, IsLayout}
 use Rattle.nm_edge.specs.Words.{words}
 use Rattle.nm_model.specs.declared.event.Event.{Event}
-use Rattle.nm_model.specs.declared.event.Event.TheVariants.{Join, Link}
-use Rattle.nm_edge.specs.declared.edge.Side.{Side}
+use Rattle.nm_model.specs.declared.event.Event.TheVariants.{Join, Link, Swap}
 use Rattle.nm_order.specs.Logs.{part_of}
+use Rattle.nm_model.specs.Knowledge.{Knowledge}
 use Rattle.nm_model.specs.Runs.{State, start, of}
 use Rattle.nm_model.specs.Ordered.{Configuration, ordered, after_in, trace_in}
 use Rattle.nm_laws.proofs.Reachable.{layout_kept}
@@ -19,7 +19,7 @@ use Rattle.nm_steps.proofs.PackedEvents.{each_state_fits}
 use Rattle.nm_steps.proofs.PackedReads.{each_field_has_a_word}
 use Rattle.nm_steps.specs.declared.view.Stored.{Stored}
 use Rattle.nm_steps.specs.declared.view.View.{View}
-use Rattle.nm_steps.specs.Rules.{ComesBefore, ExtendsStores, IsShown, IsStored, LinksHaveValues, new_leaf, Keeps, LagsBehind, LagsInStores, Runs, WasHeld, WereHeld, knowledge, once_below, stands, value_from}
+use Rattle.nm_steps.specs.Rules.{ComesBefore, ExtendsStores, IsShown, IsStored, LinkHasValue, HasValueFor, LinksHaveValues, new_leaf, Keeps, LagsBehind, LagsInStores, Runs, WasHeld, WereHeld, knowledge, once_below, stands, value_from}
 use Rattle.std.specs.List.{sum_by}
 
 -- ---- runs that go on
@@ -89,9 +89,17 @@ still_stored st was w own slot h s = record {
   for_slot = s.for_slot;
 }
 
+pub value_still : (k : Knowledge) (st was : List Stored) (w own : ℕ) (e : Event) → ExtendsStores st was
+    → HasValueFor k was w own e → HasValueFor k st w own e
+value_still k st was w own (Link p side leaf new) h s = still_stored st was w own (new_leaf k leaf new) h s
+value_still k st was w own (Swap p side leaf new) h s = still_stored st was w own new h s
+value_still k st was w own e h s = tt
+
 pub still_linked : (L : Layout) (slots : ℕ) (turns : List (ℕ × Event)) (st was : List Stored) → ExtendsStores st was → IfValued L slots turns was → IfValued L slots turns st
 still_linked L slots turns st was h (inl plain) = inl plain
-still_linked L slots turns st was h (inr l) = inr (λ before since w p side leaf new is. still_stored st was w _ _ h (l before since w p side leaf new is))
+still_linked L slots turns st was h (inr l) =
+    inr (λ before since w e is. value_still (of (after_in (ordered L) before).state w) st was w _ e h
+    (l before since w e is))
 
 -- a table with values has some
 pub all_linked : (L : Layout) (turns : List (ℕ × Event)) (values : List ℕ) (st : List Stored) → IsLayout L → length values ≡ L.nodes → IfValued L (length values) turns st → LinksHaveValues L turns st
@@ -126,18 +134,28 @@ stores_more st was x h = record { more = h.more ++ x ∷ []; is = ap (λ (l : Li
 abbrev pub IsPair : ℕ → Event → ℕ → Event → Type 0
 IsPair w e u f = ◌≡◌ {A = ℕ × Event} (w, e) (u, f)
 
--- a join is no link
-no_link : (v p : ℕ) (side : Side) (leaf new : ℕ) → Join v ≡ Link p side leaf new → ⊥
-no_link v p side leaf new e = cc
+-- in a table with values
+pub value_there : (slots : ℕ) (v : View) (e : Event) → slots ≢ 0 → LinkHasValue slots v e
+    → HasValueFor (knowledge v) v.stores v.number (length v.log) e
+value_there slots v (Link p side leaf new) other (inl plain) = absurd (other plain)
+value_there slots v (Link p side leaf new) other (inr s) = s
+value_there slots v (Swap p side leaf new) other (inl plain) = absurd (other plain)
+value_there slots v (Swap p side leaf new) other (inr s) = s
+value_there slots v e other has = tt
 
 pub joined_links : (L : Layout) (slots : ℕ) (st : List Stored) (turns : List (ℕ × Event)) (w v : ℕ) → IfValued L slots turns st → IfValued L slots (turns ++ (w, Join v) ∷ []) st
 joined_links L slots st turns w v (inl plain) = inl plain
-joined_links L slots st turns w v (inr links) = inr (λ before since u p side leaf new is. by before u p side leaf new (last_or_earlier turns before since (u, Link p side leaf new) (w, Join v) is))
+joined_links L slots st turns w v (inr links) =
+    inr (λ before since u e is. by before u e (last_or_earlier turns before since (u, e) (w, Join v) is))
   where
-    by : (before : List (ℕ × Event)) (u p : ℕ) (side : Side) (leaf new : ℕ) → ((rest : List (ℕ × Event)) × (turns ≡ before ++ (u, Link p side leaf new) ∷ rest)) ⊎ ((before ≡ turns) × IsPair w (Join v) u (Link p side leaf new))
-        → IsStored st u (length (part_of u (trace_in (ordered L) before))) (new_leaf (of (after_in (ordered L) before).state u) leaf new)
-    by before u p side leaf new (inl earlier) = links before earlier.0 u p side leaf new earlier.1
-    by before u p side leaf new (inr last) = absurd (no_link v p side leaf new (ap (λ (t : ℕ × Event). t.1) last.1))
+    by : (before : List (ℕ × Event)) (u : ℕ) (e : Event)
+        → ((rest : List (ℕ × Event)) × (turns ≡ before ++ (u, e) ∷ rest)) ⊎ ((before ≡ turns) × IsPair w (Join v) u e)
+        → HasValueFor (of (after_in (ordered L) before).state u) st u
+        (length (part_of u (trace_in (ordered L) before))) e
+    by before u e (inl earlier) = links before earlier.0 u e earlier.1
+    by before u e (inr last) =
+        subst (λ (t : ℕ × Event). HasValueFor (of (after_in (ordered L) before).state t.0) st t.0
+        (length (part_of t.0 (trace_in (ordered L) before))) t.1) last.1 tt
 
 pub held_longer : (L : Layout) (slots : ℕ) (st : List Stored) (turns more : List (ℕ × Event)) → Grows L slots st turns more → (xs : List Stored) → WereHeld L turns xs → WereHeld L more xs
 held_longer L slots st turns more g [] h = tt
@@ -196,8 +214,9 @@ module _ (L : Layout) (core : List ℕ) (views : List View) (k : Runs L core vie
   layout_is : c.state.layout ≡ L
   layout_is = ap (λ (s : State). s.layout) o.leads ∙ layout_kept (start L) o.events
 
-  fits : Fits L c.state.memory
-  fits = subst (λ (l : Layout). Fits l c.state.memory) layout_is (subst StateFits (sym o.leads) (each_state_fits L enough o.events))
+  pub run_fits : Fits L c.state.memory
+  run_fits = subst (λ (l : Layout). Fits l c.state.memory) layout_is
+      (subst StateFits (sym o.leads) (each_state_fits L enough o.events))
 
   pub run_long : length core ≡ words L
-  run_long = ap (λ (l : List ℕ). length l) k.words_are ∙ each_field_has_a_word L c.state.memory fits
+  run_long = ap (λ (l : List ℕ). length l) k.words_are ∙ each_field_has_a_word L c.state.memory run_fits

@@ -6,7 +6,7 @@ use Rattle.nm_edge.specs.Layouts.{Layout, dense}
 use Rattle.nm_edge.specs.Words.{Field, at_epoch, at_announcement, at_key, at_edge, at_birth, at_row, IsField, IsSlot, rows, word, words, pool_place}
 use Rattle.nm_edge.specs.declared.edge.Side.{Side}
 use Rattle.nm_model.specs.declared.event.Event.{Event}
-use Rattle.nm_model.specs.declared.event.Event.TheVariants.{Sight, SightFor, Announce, Leave, LeaveWith, Scan, Advance, Claim, Give, Look, Fill, Link, Flag, Tag, Splice, Join}
+use Rattle.nm_model.specs.declared.event.Event.TheVariants.{Sight, SightFor, Announce, Leave, LeaveWith, Scan, Advance, Claim, Give, Look, Fill, Link, Flag, Tag, Splice, Swap, Join}
 use Rattle.nm_model.specs.declared.event.Field.{Field as NodeField}
 use Rattle.nm_model.specs.declared.event.Field.TheVariants.{Key, Edge as EdgeOn, Birth}
 use Rattle.nm_model.specs.declared.memory.Node.{Node}
@@ -172,6 +172,7 @@ touched_field w (Link p side leaf new) = at_edge p side
 touched_field w (Flag p side leaf) = at_edge p side
 touched_field w (Tag p side) = at_edge p side
 touched_field w (Splice a side s p keep) = at_edge a side
+touched_field w (Swap p side leaf new) = at_edge p side
 touched_field w (Join v) = at_epoch
 
 -- the word that a fill stores: a number, or for an edge the unmarked edge to a slot
@@ -194,6 +195,7 @@ left_word L k (Link p side leaf new) n = if n == 4 * leaf then 4 * new else n
 left_word L k (Flag p side leaf) n = if n == 4 * leaf then 4 * leaf + 1 else n
 left_word L k (Tag p side) n = bit_or n 2
 left_word L k (Splice a side s p keep) n = if n == 4 * s then word_of (kept (read k p keep)) else n
+left_word L k (Swap p side leaf new) n = if n == 4 * leaf then 4 * new else n
 left_word L k _ n = n
 
 -- an allowed event touches only one of the words, and leaves it as `left_word` says

@@ -5,10 +5,9 @@ use Rattle.std.specs.List.{sum_by, count_by}
 use mathlib.Core.Option.{some}
 use lib.ListN.{get_elem?}
 use Rattle.nm_edge.specs.Layouts.{Layout, IsLayout, dense}
-use Rattle.nm_edge.specs.declared.edge.Side.{Side}
 use Rattle.atomic_table.specs.Table.{State, Me, Step}
 use Rattle.nm_model.specs.declared.event.Event.{Event}
-use Rattle.nm_model.specs.declared.event.Event.TheVariants.{Announce, Leave, LeaveWith, Fill, Link, Join}
+use Rattle.nm_model.specs.declared.event.Event.TheVariants.{Announce, Leave, LeaveWith, Fill, Link, Swap, Join}
 use Rattle.nm_model.specs.declared.reply.Reply.{Reply}
 use Rattle.nm_model.specs.declared.reply.Reply.TheVariants.{Joined}
 use Rattle.nm_model.specs.declared.trace.Turn.{Turn}
@@ -247,19 +246,29 @@ pub record IsStored (stores : List Stored) (w entries slot : ℕ) : Type 0 where
   pub at_own : stored.own ≡ entries
   pub for_slot : stored.slot ≡ slot
 
--- each worker that tried to link a new leaf had stored a value for it, and had taken no step after
--- that store
+-- what a worker has stored when its log has this number of entries, if it then tries this event in a
+-- table with values: a value for the new leaf of a link or of a swap
+abbrev pub HasValueFor : Knowledge → List Stored → ℕ → ℕ → Event → Type 0
+HasValueFor k stores w entries (Link p side leaf new) =
+    IsStored stores w entries (new_leaf k leaf new)
+HasValueFor k stores w entries (Swap p side leaf new) = IsStored stores w entries new
+HasValueFor k stores w entries e = Unit {0}
+
+-- each worker that tried to link or to swap a new leaf in had stored a value for it, and had taken no
+-- step after that store
 abbrev pub LinksHaveValues : Layout → List (ℕ × Event) → List Stored → Type 0
 LinksHaveValues L turns stores =
-    (before since : List (ℕ × Event)) (w p : ℕ) (side : Side) (leaf new : ℕ)
-    → turns ≡ before ++ (w, Link p side leaf new) ∷ since
-    → IsStored stores w (length (part_of w (trace_in (ordered L) before)))
-    (new_leaf (of (after_in (ordered L) before).state w) leaf new)
+    (before since : List (ℕ × Event)) (w : ℕ) (e : Event) → turns ≡ before ++ (w, e) ∷ since
+    → HasValueFor (of (after_in (ordered L) before).state w) stores w
+    (length (part_of w (trace_in (ordered L) before))) e
 
--- if this event is a link in a table with values, its worker has just stored a value for the new leaf
+-- if this event is a link or a swap in a table with values, its worker has just stored a value for
+-- the new leaf
 abbrev pub LinkHasValue : ℕ → View → Event → Type 0
 LinkHasValue slots v (Link p side leaf new) = (slots ≡ 0)
     ⊎ IsStored v.stores v.number (length v.log) (new_leaf (knowledge v) leaf new)
+LinkHasValue slots v (Swap p side leaf new) = (slots ≡ 0)
+    ⊎ IsStored v.stores v.number (length v.log) new
 LinkHasValue slots v e = Unit {0}
 
 -- the worker of the view has stored no value after its last step

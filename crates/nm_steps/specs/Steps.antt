@@ -296,6 +296,10 @@ nodes_cut v s p keep = map (known_as (known_births v))
 abbrev pub splice_reply : View → ℕ → ℕ → Side → Result Unit Edge → Reply
 splice_reply v s p keep r = exchange_reply (Cut (nodes_cut v s p keep)) r
 
+-- the old leaf, with the birth that is known
+abbrev pub swap_reply : View → ℕ → Result Unit Edge → Reply
+swap_reply v leaf r = exchange_reply (Cut (known_as (known_births v) leaf ∷ [])) r
+
 -- the reply of a give: a private slot is returned, and the front of a queue is freed
 abbrev pub give_reply : View → ℕ → Reply
 give_reply v s = if is_private (knowledge v) s then Returned s

@@ -1,12 +1,12 @@
 -- The reply to an event, by what its worker knows, the births that are known, and the one word that
 -- it finds.
-use Rattle.std.specs.Prelude.{◌≡◌, ℕ, ◌+◌, ◌-◌, ◌*◌, ◌==◌, map, bit_and, if◌then◌else◌, Option, Some, None, IsSome, unwrap_or, [], All}
+use Rattle.std.specs.Prelude.{◌≡◌, ℕ, ◌+◌, ◌-◌, ◌*◌, ◌==◌, map, bit_and, if◌then◌else◌, Option, Some, None, IsSome, unwrap_or, [], ◌∷◌, All}
 use Rattle.nm_edge.specs.Edges.{edge_in}
 use Rattle.nm_edge.specs.Layouts.{Layout}
 use Rattle.nm_edge.specs.Words.{pool_place}
 use Rattle.nm_edge.specs.declared.node.NodeId.{NodeId}
 use Rattle.nm_model.specs.declared.event.Event.{Event}
-use Rattle.nm_model.specs.declared.event.Event.TheVariants.{Sight, SightFor, Announce, Leave, LeaveWith, Scan, Advance, Claim, Give, Look, Fill, Link, Flag, Tag, Splice, Join}
+use Rattle.nm_model.specs.declared.event.Event.TheVariants.{Sight, SightFor, Announce, Leave, LeaveWith, Scan, Advance, Claim, Give, Look, Fill, Link, Flag, Tag, Splice, Swap, Join}
 use Rattle.nm_model.specs.declared.event.Field.{Field}
 use Rattle.nm_model.specs.declared.event.Field.TheVariants.{Key, Edge as EdgeOn, Birth}
 use Rattle.nm_model.specs.declared.reply.Reply.{Reply}
@@ -35,12 +35,13 @@ BirthsAreIn m births = (x b : ℕ) → births x ≡ Some b → (node m x).birth 
 abbrev pub known_as : Births → ℕ → NodeId
 known_as births s = record { slot = s; birth = unwrap_or (births s) 0 }
 
--- the reply to a flag or a splice has nodes, whose births must be known (Fraser, section 5.2.3;
+-- the reply to a flag, a splice or a swap has nodes, whose births must be known (Fraser, section 5.2.3;
 -- Natarajan and Mittal, section 3.2)
 abbrev pub BirthsAreKnown : Layout → Knowledge → Births → Event → Type 0
 BirthsAreKnown L k births (Flag p side leaf) = IsSome (births leaf)
 BirthsAreKnown L k births (Splice a side s p keep) =
     All (λ x. IsSome (births x)) (cut_by k s (unwrap_or (way L.nodes k s p) []) keep)
+BirthsAreKnown L k births (Swap p side leaf new) = IsSome (births leaf)
 BirthsAreKnown L k births (Join v) = ⊥
 BirthsAreKnown L k births _ = Unit {0}
 
@@ -73,6 +74,8 @@ told L k births (Tag p side) n = Was (edge_in n)
 told L k births (Splice a side s p keep) n =
     if n == 4 * s then Cut (map (known_as births)
     (cut_by k s (unwrap_or (way L.nodes k s p) []) keep)) else Lost (edge_in n)
+told L k births (Swap p side leaf new) n =
+    if n == 4 * leaf then Cut (known_as births leaf ∷ []) else Lost (edge_in n)
 told L k births (Join v) n = Joined []
 
 -- the reply to an allowed event is this one, by the word that it touches, for all births that are

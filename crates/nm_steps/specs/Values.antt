@@ -1,12 +1,15 @@
 -- Steps on values, whose words come after those of the core.
-use Rattle.std.specs.Prelude.{◌≡◌, ◌+◌, ◌-◌, ◌<◌, ℕ, Bool, true, false, List, [], ◌∷◌, ◌++◌, length, slice_index, AllPairs}
+use Rattle.std.specs.Prelude.{◌≡◌, ◌+◌, ◌-◌, ◌<◌, ◌==◌, ℕ, Bool, true, false, nat_lt, List, [], ◌∷◌, ◌++◌, length, slice_index, AllPairs}
 use mathlib.Core.Option.{none}
 use Rattle.atomic_table.specs.Seated.{TableId}
 use Rattle.atomic_table.specs.Table.{Me, Step, step}
 use Rattle.atomic_table.specs.declared.shared.Seat.{Seat}
 use Rattle.nm_edge.specs.Layouts.{Layout}
-use Rattle.nm_edge.specs.Words.{IsSlot, words}
+use Rattle.nm_edge.specs.Words.{IsSlot, at_edge, word, words}
+use Rattle.nm_edge.specs.declared.edge.Side.TheVariants.{Left}
 use Rattle.nm_model.specs.Knowledge.{is_private}
+use Rattle.nm_model.specs.Memory.{child}
+use Rattle.nm_model.specs.Ordered.{after_in, ordered}
 use Rattle.nm_steps.specs.declared.view.Stored.{Stored}
 use Rattle.nm_steps.specs.declared.view.View.{View}
 use Rattle.nm_steps.specs.Rules.{ComesBefore, Extends, ExtendsStores, LinksHaveValues, WereHeld, knowledge, value_of}
@@ -51,6 +54,16 @@ abbrev pub SawValue : ℕ → Step Unit → Me Unit View → ℕ → Me Unit Vie
 SawValue slot s me n after = (after.1 ≡ me.1) × HasSeenMore me.0 after.0
     × (n ≡ value_of after.0.stores slot)
 
+-- after all turns that the view has seen, the left edge of the slot leads to no node
+abbrev pub is_bare : (v : View) → HasSeenStores v → ℕ → Bool
+is_bare v seen slot =
+    child (after_in (ordered v.layout) seen.run.events).state.memory slot Left == 0
+
+-- a look at the left edge of a slot, which shows whether it leads to a node
+abbrev pub SawLeft : ℕ → Step Unit → Me Unit View → ℕ → Me Unit View → Type 0
+SawLeft slot s me n after = (after.1 ≡ me.1)
+    × (more : HasSeenMore me.0 after.0) × (nat_lt n 4 ≡ is_bare after.0 more.seen slot)
+
 -- the worker's own store of this value for a slot
 abbrev pub own_store : View → ℕ → ℕ → List Stored → ℕ → List Stored
 own_store v slot value stores at =
@@ -77,6 +90,16 @@ pub record CanReach (b : TreeView) (it : Seat Unit View) (slot i : ℕ) : Type 0
   pub is_slot : IsSlot b.layout slot
   pub word : i ≡ value_word b slot
 
+-- the pass of this seat can read the left edge of the slot, by the word i
+pub record CanReachLeft (b : TreeView) (it : Seat Unit View) (slot i : ℕ) : Type 0 where
+  pub table : it.table_id ≡ b.table
+  pub values : HasValues b
+  pub empty : it.me.1 ≡ []
+  pub alive : it.me.0.resigned ≡ false
+  pub layout : it.me.0.layout ≡ b.layout
+  pub is_slot : IsSlot b.layout slot
+  pub word : i ≡ word b.layout (at_edge slot Left)
+
 -- the slot is private to the worker of this seat
 abbrev pub MayStore : Seat Unit View → ℕ → Type 0
 MayStore it slot = is_private (knowledge it.me.0) slot ≡ true
@@ -91,6 +114,12 @@ pub record HasSeenValue (it after : Seat Unit View) (slot n : ℕ) : Type 0 wher
   pub seat : after.id ≡ it.id
   pub saw : SawValue slot no_step it.me n after.me
 
+-- the seat has looked at a left edge
+pub record HasSeenLeft (it after : Seat Unit View) (slot n : ℕ) : Type 0 where
+  pub table : after.table_id ≡ it.table_id
+  pub seat : after.id ≡ it.id
+  pub saw : SawLeft slot no_step it.me n after.me
+
 pub record HasPutValue (it after : Seat Unit View) (slot n : ℕ) : Type 0 where
   pub table : after.table_id ≡ it.table_id
   pub seat : after.id ≡ it.id
@@ -104,6 +133,12 @@ pub record OnlySees (p q : PassView) : Type 0 where
   pub past : Extends q.view.past p.view.past
   pub stores : ExtendsStores q.view.stores p.view.stores
   pub seen : HasSeenStores q.view
+
+-- the pass has seen more turns and stores. After all turns that it has seen then, the left edge of the
+-- slot leads to no node, or to one
+pub record SeesLeft (p q : PassView) (slot : ℕ) (bare : Bool) : Type 0 where
+  pub sees : OnlySees p q
+  pub is : bare ≡ is_bare q.view sees.seen slot
 
 -- the value was stored for the slot, by the last store so far
 pub record HasStoredFor (p q : PassView) (slot value : ℕ) : Type 0 where

@@ -2,13 +2,13 @@
 ghost use Rattle.std.specs.Prelude.{◌≡◌, ◌≤◌, ◌+◌, ◌*◌, true, Some};
 ghost use Rattle.nm_edge.specs.Edges.{edge_in, is_word};
 ghost use Rattle.nm_edge.specs.Words.{IsSlot, at_edge, word};
-ghost use Rattle.nm_model.specs.declared.event.Event.TheVariants.{Look, Fill, Link, Flag, Tag};
+ghost use Rattle.nm_model.specs.declared.event.Event.TheVariants.{Look, Fill, Link, Flag, Tag, Swap};
 ghost use Rattle.nm_model.specs.declared.event.Field.TheVariants.{Key as KeyOf, Edge as EdgeOn, Birth};
 ghost use Rattle.nm_model.specs.declared.reply.Reply.TheVariants.{KeyIs, EdgeIs, BirthIs, Filled, Was};
 ghost use Rattle.nm_model.specs.Knowledge.{read};
 ghost use Rattle.nm_model.specs.Step.{last_number};
 ghost use Rattle.nm_steps.specs.Rules.{LinkHasValue, knowledge};
-ghost use Rattle.nm_steps.specs.Steps.{IsOf, MayStep, TakesStep, link_reply, flag_reply, splice_of, splice_reply};
+ghost use Rattle.nm_steps.specs.Steps.{IsOf, MayStep, TakesStep, link_reply, flag_reply, splice_of, splice_reply, swap_reply};
 
 use crate::pass::{Pass, Shared};
 use nm_edge::{Edge, Layout, Side};
@@ -184,6 +184,35 @@ impl Shared {
         let old = word_to(successor);
         let new = kept.untagged().pack();
         let found = self.exchange::<Brand>(&mut pass.seat, word, old, new, &event);
+        if found != old {
+            return Err(edge_of(found));
+        }
+        pass.brief.unlabelled = true;
+        Ok(())
+    }
+
+    /// Replaces a leaf by a private new one, and cuts the old leaf off. `Err`: the swap was lost; this
+    /// edge was found instead. In a table with values the worker must just have stored one for the new
+    /// leaf.
+    pub fn swap(
+        &self,
+        pass: &mut Pass,
+        parent: u32,
+        side: Side,
+        leaf: u32,
+        new: u32,
+    ) -> Result<(), Edge>
+        requires own { IsOf self.now pass.old }
+        requires may { MayStep pass.old (Swap parent side leaf new) }
+        requires stored { LinkHasValue self.now.table.slots pass.old.view
+            (Swap parent side leaf new) }
+        ensures { TakesStep pass.old pass.new (Swap parent side leaf new)
+            (swap_reply pass.old.view leaf result) }
+    {
+        let word = self.layout.edge(parent, side) as usize;
+        let event = Event::Swap(parent, side, leaf, new);
+        let old = word_to(leaf);
+        let found = self.exchange::<Brand>(&mut pass.seat, word, old, word_to(new), &event);
         if found != old {
             return Err(edge_of(found));
         }

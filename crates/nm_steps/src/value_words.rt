@@ -4,9 +4,10 @@ ghost use Rattle.nm_edge.specs.Words.{IsSlot};
 ghost use Rattle.nm_model.specs.Knowledge.{is_private};
 ghost use Rattle.nm_steps.specs.Rules.{HasNotStored, knowledge, value_of};
 ghost use Rattle.nm_steps.specs.Steps.{IsOf};
-ghost use Rattle.nm_steps.specs.Values.{HasStoredFor, HasValues, OnlySees, value_word};
+ghost use Rattle.nm_steps.specs.Values.{HasStoredFor, HasValues, OnlySees, SeesLeft, value_word};
 
 use crate::pass::{Pass, Shared};
+use nm_edge::Side;
 use std::marker::Brand;
 
 impl Shared {
@@ -22,6 +23,18 @@ impl Shared {
     {
         let word = self.value_word(slot);
         self.look_at_value::<Brand>(&mut pass.seat, word, slot)
+    }
+
+    /// Returns whether the left edge of a slot leads to no node, as that of a leaf does. The look is
+    /// in no log.
+    pub fn look_bare(&self, pass: &mut Pass, slot: u32) -> bool
+        requires own { IsOf self.now pass.old }
+        requires values { HasValues self.now }
+        requires slot { IsSlot self.now.layout slot }
+        ensures { SeesLeft pass.old pass.new slot result }
+    {
+        let word = self.layout.edge(slot, Side::Left) as usize;
+        self.look_at_left::<Brand>(&mut pass.seat, word, slot) < 4
     }
 
     /// Stores the value of a private slot. The store is in no log. Between two of its steps a worker

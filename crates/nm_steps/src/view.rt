@@ -120,6 +120,17 @@ impl<D: Slotted> Play<(), View> for LooksAtValue<D> {
     ghost then = { SawValue D.slot };
 }
 
+/// What a seat learns by a look at the left edge of a slot, which is no event.
+pub struct LooksAtLeft<D> {
+    of: PhantomData<D>,
+}
+
+impl<D: Slotted> Play<(), View> for LooksAtLeft<D> {
+    ghost use Rattle.nm_steps.specs.Values.{SawLeft};
+
+    ghost then = { SawLeft D.slot };
+}
+
 /// What a seat learns by the store of a value.
 pub struct StoresValue<D> {
     of: PhantomData<D>,

@@ -33,7 +33,7 @@ pub fn writes_change_one_word()
 
 /// Law: in every run, an allowed event touches the word of one field, which the event names. The
 /// word that it leaves depends only on what its worker knows and on the word that it finds. So does
-/// its reply, unless it is a join. For a flag or a splice, the births of the nodes in the reply
+/// its reply, unless it is a join. For a flag, a splice or a swap, the births of the nodes in the reply
 /// must be known, from any source. No turn, including refused ones and joins, changes more than one
 /// word.
 pub fn events_touch_one_word()

@@ -11,7 +11,7 @@ use Rattle.nm_edge.specs.declared.node.NodeId.{NodeId}
 use Rattle.nm_model.specs.declared.event.Field.{Field}
 use Rattle.nm_model.specs.declared.event.Field.TheVariants.{Edge as EdgeOn, Birth}
 use Rattle.nm_model.specs.declared.event.Event.{Event}
-use Rattle.nm_model.specs.declared.event.Event.TheVariants.{Sight, SightFor, Announce, Leave, LeaveWith, Scan, Advance, Claim, Give, Look, Fill, Link, Flag, Tag, Splice, Join}
+use Rattle.nm_model.specs.declared.event.Event.TheVariants.{Sight, SightFor, Announce, Leave, LeaveWith, Scan, Advance, Claim, Give, Look, Fill, Link, Flag, Tag, Splice, Join, Swap}
 use Rattle.nm_model.specs.declared.reply.Reply.{Reply}
 use Rattle.nm_model.specs.declared.reply.Reply.TheVariants.{Announced, Departed, Moved, Behind, Claimed, Returned, Freed, BirthIs, EdgeIs, Filled, Linked, Flagged, Was, Cut, Lost, Joined}
 use Rattle.nm_model.specs.declared.reply.Refused.{Refused}
@@ -81,6 +81,15 @@ module _ (m : Memory) (w : ℕ) (k : Knowledge) (asc : Ascends k.drafts) (x : �
       go true (Some d) = refl
       go false o = stays (is_some o)
 
+  by_swap : (new : ℕ) → has (without k.drafts new) x ≡ (is_private k x && not (x == new))
+  by_swap new = ap is_some (get-without k.drafts new x asc) ∙ go (eqb x new) (get k.drafts x)
+    where
+      go : (n : Bool) (o : Option Draft) → is_some (cond n None o) ≡ (is_some o && not n)
+      go true None = refl
+      go true (Some d) = refl
+      go false None = refl
+      go false (Some d) = refl
+
   by_link : (leaf new : ℕ) → NewLeaf m k leaf new → has (without (without k.drafts new) (unwrap_or (beside (draft_of k new) leaf) 0)) x
       ≡ (is_private k x && not ((x == new) || ((x == child m new Left) || (x == child m new Right))))
   by_link leaf new l = ap (λ (y : ℕ). has (without (without k.drafts new) y) x) l.is_far
@@ -134,6 +143,8 @@ module _ (m : Memory) (w : ℕ) (k : Knowledge) (asc : Ascends k.drafts) (x : �
   learned (Tag p side) (Was e) fills links = stays (is_private k x)
   learned (Splice a side s p keep) (Cut ns) fills links = stays (is_private k x)
   learned (Splice a side s p keep) (Lost e) fills links = stays (is_private k x)
+  learned (Swap p side leaf new) (Cut ns) fills links = by_swap new
+  learned (Swap p side leaf new) (Lost e) fills links = stays (is_private k x)
   learned (Join v) (Joined ls) fills links = cond_both (w == v) (resigned k) (inheriting k ls) (λ (j : Knowledge). is_private j x ≡ is_private k x) (λ _. refl) (λ _. refl) ∙ stays (is_private k x)
   learned e r fills links = stays (is_private k x)
 

@@ -12,7 +12,7 @@ use Rattle.nm_edge.specs.declared.node.NodeId.{NodeId}
 use Rattle.nm_model.specs.declared.event.Op.{Op}
 use Rattle.nm_model.specs.declared.event.Op.TheVariants.{Insert, Delete}
 use Rattle.nm_model.specs.declared.event.Event.{Event}
-use Rattle.nm_model.specs.declared.event.Event.TheVariants.{Sight, SightFor, Leave, LeaveWith, Link, Flag}
+use Rattle.nm_model.specs.declared.event.Event.TheVariants.{Sight, SightFor, Leave, LeaveWith, Link, Flag, Splice}
 use Rattle.nm_model.specs.declared.reply.Reply.{Reply}
 use Rattle.nm_model.specs.declared.reply.Reply.TheVariants.{Pinned, Departed, Linked, Flagged, Cut}
 use Rattle.nm_model.specs.declared.reply.Refused.{Refused}
@@ -25,6 +25,7 @@ use Rattle.nm_model.specs.Ordered.{Configuration, HasKey, ordered, search_of, ne
 use Rattle.nm_model.proofs.Numbers.{repeated}
 use Rattle.nm_laws.proofs.SearchesGrow.{only_grow}
 use Rattle.nm_model.specs.Acts.{InSet, Act, IsAmong, HasInARow, leaf_keys, Replays, nothing}
+use Rattle.nm_order.specs.Removals.{is_splice}
 use Rattle.nm_order.specs.Intervals.{IsCalled}
 use Rattle.nm_order.specs.Exchanges.{MayAnswer, HasFlagged as LawHasFlagged}
 use Rattle.nm_order.specs.Logs.{IsLogOf}
@@ -386,8 +387,9 @@ module _ (L : Layout) (fits : IsLayout L) (ts : List (ℕ × Event)) (keys : All
           (a, there, own.0, now, (call_then turns before since (record { worker = w; event = Link p side leaf new; outcome = Ok (Linked n) }) all (λ n so. refl) a now (each a (law.each a there)), own.1, own.2))
 
   cuts : (before since : List Turn) (t : Turn) (ns : List NodeId) → turns ≡ before ++ t ∷ since → t.outcome ≡ Ok (Cut ns)
+      → (a : ℕ) (side : Side) (s p : ℕ) (keep : Side) → t.event ≡ Splice a side s p keep
       → HasInARow acts (leaf_keys (words_after L before) (slots_of ns)) (length before + 1) (λ a. IsInCall before Delete a × HasFlaggedOneOf before a.worker ns)
-  cuts before since t ns all is = record {
+  cuts before since t ns all is y side s p keep splice = record {
     front = row.front;
     row = row.row;
     back = row.back;
@@ -404,7 +406,7 @@ module _ (L : Layout) (fits : IsLayout L) (ts : List (ℕ × Event)) (keys : All
       x = at before since t (Cut ns) all is
 
       row : HasInARow acts (leaf_keys (after_in (ordered L) x.early).state.memory (slots_of ns)) (length x.early + 1) (IsDeleteOf L x.early ns)
-      row = law.cuts x.early x.others (t.worker, t.event) ns x.whole x.told
+      row = law.cuts x.early x.others (t.worker, t.event) ns x.whole x.told (ap is_splice splice)
 
       now : (a : Act) → IsAmong row.row a → a.moment ≡ length before + 1
       now a there = row.at a there ∙ ap (λ (n : ℕ). n + 1) x.size

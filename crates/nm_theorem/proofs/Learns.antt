@@ -7,10 +7,11 @@ use Rattle.std.proofs.lemmas.Option.{none-some, same_Some}
 use Rattle.std.proofs.lemmas.Bool.{cond_both, eqb-true}
 use Rattle.nm_edge.specs.Edges.{Edge, tagged}
 use Rattle.nm_edge.specs.declared.edge.Side.{Side}
+use Rattle.nm_edge.specs.declared.node.NodeId.{NodeId}
 use Rattle.nm_model.specs.declared.event.Field.{Field}
 use Rattle.nm_model.specs.declared.event.Field.TheVariants.{Edge as EdgeOn, Birth}
 use Rattle.nm_model.specs.declared.event.Event.{Event}
-use Rattle.nm_model.specs.declared.event.Event.TheVariants.{Sight, SightFor, Announce, Leave, LeaveWith, Scan, Advance, Claim, Give, Look, Fill, Link, Flag, Tag, Splice, Join}
+use Rattle.nm_model.specs.declared.event.Event.TheVariants.{Sight, SightFor, Announce, Leave, LeaveWith, Scan, Advance, Claim, Give, Look, Fill, Link, Flag, Tag, Splice, Join, Swap}
 use Rattle.nm_model.specs.declared.reply.Reply.{Reply}
 use Rattle.nm_model.specs.declared.reply.Reply.TheVariants.{Saw, Labelled, Pinned, Missed, Announced, Departed, Idle, In, Moved, Behind, Claimed, Returned, Freed, BirthIs, EdgeIs, Filled, Linked, Flagged, Was, Cut, Lost, Joined}
 use Rattle.nm_model.specs.declared.knowledge.Seen.{Seen}
@@ -22,7 +23,7 @@ use Rattle.nm_model.proofs.Tables.{at_eqb, has_put, has_put_there}
 use Rattle.nm_laws.proofs.Steps.{Allowed}
 use Rattle.nm_laws.proofs.Views.{has_met}
 use Rattle.nm_laws.proofs.TreeSlots.{known_live}
-use Rattle.nm_laws.proofs.TreeSteps.{Lawful, link_checked, flag_checked, tag_checked, splice_checked, look_checked}
+use Rattle.nm_laws.proofs.TreeSteps.{Lawful, link_checked, flag_checked, tag_checked, splice_checked, swap_checked, look_checked}
 use Rattle.nm_order.proofs.OrderedSteps.{met_is_known}
 use Rattle.nm_model.specs.Headline.{confirms, departs, edge_told}
 
@@ -121,6 +122,19 @@ module _ (s : State) (h : ℕ → ℕ) (law : Lawful s h) (w : ℕ) where
       go x (inl at) = inr (record { from = p; edge = tells ∙ same_slot x new p at.0; free = unowned p known; pin = pin })
       go x (inr was) = inl (was, refl)
 
+  by_swap : (p : ℕ) (d : Side) (leaf new : ℕ) (l : Knowledge) (ns : List NodeId) → l.known ≡ met (of s w).known new
+      → l.brief.pin ≡ (of s w).brief.pin → knows (of s w) p ≡ true → Learns (of s w) l (Swap p d leaf new) (Cut ns)
+  by_swap p d leaf new l ns same pin known = record {
+    pin = λ q is. inl (sym pin ∙ is, refl);
+    known = λ x six is. go x (has_met (of s w).known new x (ap (λ (m : List (ℕ × Seen)). has m x) (sym same) ∙ is));
+  }
+    where
+      go : (x : ℕ) → ((x ≡ new) × (new ≢ 0)) ⊎ (has (of s w).known x ≡ true)
+          → ((knows (of s w) x ≡ true) × (departs (Swap p d leaf new) (Ok (Cut ns)) ≡ false))
+          ⊎ ByReply (of s w) l (Swap p d leaf new) (Cut ns) x
+      go x (inl at) = inr (record { from = p; edge = same_slot x new p at.0; free = unowned p known; pin = pin })
+      go x (inr was) = inl (was, refl)
+
   pub learned : (e : Event) (r : Reply) → Allowed s w e → Learns (of s w) (learn w (of s w) e r) e r
   unfolding learn
   learned Sight r ok = sight (of s w) Sight r refl (λ n is. ap (λ (q : Reply). confirms Sight (Ok q)) is)
@@ -143,6 +157,11 @@ module _ (s : State) (h : ℕ → ℕ) (law : Lawful s h) (w : ℕ) where
   learned (Tag p d) (Was f) ok = let known = (tag_checked s w p d ok.event).0 in by_read (of s w) p d (tagged f) (Tag p d) (Was f) refl known (unowned p known) (λ y is. inr (same_slot y f.slot p is))
   learned (Splice a d y p keep) (Cut ns) ok = quiet (of s w) _ (Splice a d y p keep) (Cut ns) refl refl refl
   learned (Splice a d y p keep) (Lost f) ok = let known = (splice_checked s w a d y p keep ok.event).known in by_read (of s w) a d f (Splice a d y p keep) (Lost f) refl known (unowned a known) (λ z is. inr (same_slot z f.slot a is))
+  learned (Swap p d leaf new) (Cut ns) ok =
+      by_swap p d leaf new _ ns refl refl (swap_checked s w p d leaf new ok.event).known
+  learned (Swap p d leaf new) (Lost f) ok = let known = (swap_checked s w p d leaf new ok.event).known in
+      by_read (of s w) p d f (Swap p d leaf new) (Lost f) refl known (unowned p known)
+      (λ z is. inr (same_slot z f.slot p is))
   learned (Join v) (Joined ls) ok = cond_both (w == v) (resigned (of s w)) (inheriting (of s w) ls) (λ (l : Knowledge). Learns (of s w) l (Join v) (Joined ls)) (λ _. quiet (of s w) _ (Join v) (Joined ls) refl refl refl) (λ _. quiet (of s w) _ (Join v) (Joined ls) refl refl refl)
   learned e r ok = quiet (of s w) _ e r refl refl refl
 
@@ -175,4 +194,8 @@ module _ (s : State) (h : ℕ → ℕ) (law : Lawful s h) (w : ℕ) where
   told_known (Flag p d leaf) (Lost f) from x told some free = leads_known p d f x (slot_of_pair p f.slot from x told).1 some
   told_known (Tag p d) (Was f) from x told some free = leads_known p d (tagged f) x (slot_of_pair p f.slot from x told).1 some
   told_known (Splice a d y p keep) (Lost f) from x told some free = leads_known a d f x (slot_of_pair a f.slot from x told).1 some
+  told_known (Swap p d leaf new) (Cut ns) from x told some free = ap (λ (y : ℕ). has (met (of s w).known y) x)
+      (slot_of_pair p new from x told).1 ∙ met_is_known (of s w).known x some
+  told_known (Swap p d leaf new) (Lost f) from x told some free =
+      leads_known p d f x (slot_of_pair p f.slot from x told).1 some
   told_known e r from x told some free = absurd (no_pair from x told)

@@ -7,7 +7,7 @@ use Rattle.std.proofs.lemmas.Option.{same_Some}
 use Rattle.nm_edge.specs.Edges.{Edge, is_to}
 use Rattle.nm_edge.specs.Layouts.{Layout, IsLayout}
 use Rattle.nm_model.specs.declared.event.Event.{Event}
-use Rattle.nm_model.specs.declared.event.Event.TheVariants.{Sight, SightFor, Scan, Advance, Claim, Give, Look, Fill, Link, Flag, Tag, Splice}
+use Rattle.nm_model.specs.declared.event.Event.TheVariants.{Sight, SightFor, Scan, Advance, Claim, Give, Look, Fill, Link, Flag, Tag, Splice, Swap}
 use Rattle.nm_model.specs.declared.event.Field.TheVariants.{Key, Edge as EdgeOn, Birth}
 use Rattle.nm_model.specs.declared.reply.Reply.{Reply}
 use Rattle.nm_model.specs.declared.reply.Reply.TheVariants.{Labelled, Pinned, Missed, Moved, Behind, Claimed, Taken, Returned, Freed, Linked, Lost}
@@ -82,6 +82,8 @@ module _ (c : Configuration) (w : ℕ) (agrees : Agrees c.state) where
   reply_tells (Flag p d leaf) ok is = exchange (edge c.state.memory p d) leaf _ (TellsWhatStands c.state.memory w (Flag p d leaf)) (λ won. (is_to-true (edge c.state.memory p d) leaf won, refl)) refl
   reply_tells (Tag p d) ok is = refl
   reply_tells (Splice a d y p keep) ok is = exchange (edge c.state.memory a d) y _ (TellsWhatStands c.state.memory w (Splice a d y p keep)) (λ _. tt) refl
+  reply_tells (Swap p d leaf new) ok is = exchange (edge c.state.memory p d) leaf _
+      (TellsWhatStands c.state.memory w (Swap p d leaf new)) (λ _. tt) refl
   reply_tells _ ok is = tt
 
 no_reply : {r : Reply} (x : Refused) → ◌≡◌ {A = Result Reply Refused} (Err x) (Ok r) → ⊥

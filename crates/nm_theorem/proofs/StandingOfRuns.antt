@@ -7,7 +7,7 @@ use Rattle.nm_edge.specs.Layouts.{Layout, IsLayout}
 use Rattle.nm_model.specs.declared.event.Field.{Field}
 use Rattle.nm_model.specs.declared.event.Field.TheVariants.{Edge as EdgeOn}
 use Rattle.nm_model.specs.declared.event.Event.{Event}
-use Rattle.nm_model.specs.declared.event.Event.TheVariants.{Look, Fill, Link, Flag, Tag, Splice}
+use Rattle.nm_model.specs.declared.event.Event.TheVariants.{Look, Fill, Link, Flag, Tag, Splice, Swap}
 use Rattle.nm_model.specs.declared.reply.Reply.{Reply}
 use Rattle.nm_model.specs.declared.reply.Reply.TheVariants.{Filled}
 use Rattle.nm_model.specs.declared.reply.Refused.{Refused}
@@ -44,6 +44,7 @@ told_err (Link p d leaf new) q = refl
 told_err (Flag p d leaf) q = refl
 told_err (Tag p d) q = refl
 told_err (Splice a d y p keep) q = refl
+told_err (Swap p d leaf new) q = refl
 told_err e q = refl
 
 no_pair : {x : ℕ × ℕ} → ◌≡◌ {A = Option (ℕ × ℕ)} None (Some x) → ⊥

@@ -9,7 +9,7 @@ use Rattle.nm_edge.specs.declared.edge.Side.{Side}
 use Rattle.nm_model.specs.declared.event.Field.{Field}
 use Rattle.nm_model.specs.declared.event.Op.{Op}
 use Rattle.nm_model.specs.declared.event.Event.{Event}
-use Rattle.nm_model.specs.declared.event.Event.TheVariants.{Sight, SightFor, Leave, LeaveWith, Look, Fill, Link, Flag, Tag, Splice}
+use Rattle.nm_model.specs.declared.event.Event.TheVariants.{Sight, SightFor, Leave, LeaveWith, Look, Fill, Link, Flag, Tag, Splice, Swap}
 use Rattle.nm_model.specs.declared.reply.Reply.{Reply}
 use Rattle.nm_model.specs.declared.reply.Reply.TheVariants.{Saw, Labelled, Pinned}
 use Rattle.nm_model.specs.declared.reply.Refused.{Refused}
@@ -26,7 +26,7 @@ use Rattle.nm_laws.proofs.Lawful.{IsLawful}
 use Rattle.nm_laws.proofs.KnownBirths.{written_same}
 use Rattle.nm_laws.proofs.Pictures.{IsLive}
 use Rattle.nm_laws.proofs.TreeSlots.{known_live, tag_known}
-use Rattle.nm_laws.proofs.TreeSteps.{Lawful, LinkChecked, link_checked, FlagChecked, flag_checked, tag_checked, SpliceChecked, splice_checked, look_checked, fill_checked}
+use Rattle.nm_laws.proofs.TreeSteps.{Lawful, LinkChecked, link_checked, FlagChecked, flag_checked, tag_checked, SpliceChecked, SwapChecked, swap_checked, splice_checked, look_checked, fill_checked}
 use Rattle.nm_laws.proofs.Views.{view}
 use Rattle.nm_laws.proofs.Outcomes.{no_reply}
 use Rattle.nm_order.proofs.CallWalks.{others_stay, own_knows, memory_after}
@@ -67,6 +67,22 @@ module _ (s : State) (h : ℕ → ℕ) (law : Lawful s h) (w : ℕ) (x : ℕ) (f
     where
       l : LinkChecked s.layout (of s w) p leaf new
       l = link_checked s w p d leaf new ok.event
+
+      last : (new ≡ x) ⊎ Contains [] x → knows (of s w) x ≡ true
+      last (inl same) = absurd (own_not new l.own same)
+      last (inr more) = absurd (no_more x more)
+
+      next : (leaf ≡ x) ⊎ Contains (new ∷ []) x → knows (of s w) x ≡ true
+      next (inl same) = knows_it leaf l.held same
+      next (inr more) = last (one_of new [] x more)
+
+      by : (p ≡ x) ⊎ Contains (leaf ∷ new ∷ []) x → knows (of s w) x ≡ true
+      by (inl same) = knows_it p l.known same
+      by (inr more) = next (one_of leaf (new ∷ []) x more)
+  touch_known stand (Swap p d leaf new) ok c = by (one_of p (leaf ∷ new ∷ []) x c)
+    where
+      l : SwapChecked (of s w) p leaf new
+      l = swap_checked s w p d leaf new ok.event
 
       last : (new ≡ x) ⊎ Contains [] x → knows (of s w) x ≡ true
       last (inl same) = absurd (own_not new l.own same)

@@ -4,7 +4,7 @@ use Rattle.std.specs.Prelude.{ℕ, Bool, ◌-◌, ◌^◌, nat_le, take, drop, C
 use Rattle.std.specs.List.{list_all}
 use Rattle.std.proofs.lemmas.Bool.{leb-true, and_parts}
 use Rattle.nm_edge.specs.Layouts.{IsLayout}
-use Rattle.nm_edge.specs.declared.edge.Side.TheVariants.{Left}
+use Rattle.nm_edge.specs.declared.edge.Side.TheVariants.{Left, Right}
 use Rattle.nm_edge.specs.declared.node.NodeId.{NodeId}
 use Rattle.nm_model.specs.declared.event.Op.{Op}
 use Rattle.nm_model.specs.declared.event.Op.TheVariants.{Insert, Delete}
@@ -132,7 +132,8 @@ is_worked = record {
   linked = λ acts h. h.links (take 19 inserting) (deleting ++ cut ∷ ((waiting ++ leaving) ++ free_turn ∷ claim_turn ∷ [])) 0 2 Left 3 6 (n 6 1) refl;
   insert_stands = insert_stands;
   delete_stands = delete_stands;
-  deleted = λ acts h. h.cuts before ((waiting ++ leaving) ++ free_turn ∷ claim_turn ∷ []) cut (n 6 1 ∷ n 7 1 ∷ []) refl refl;
+  deleted = λ acts h. h.cuts before ((waiting ++ leaving) ++ free_turn ∷ claim_turn ∷ []) cut
+      (n 6 1 ∷ n 7 1 ∷ []) refl refl 2 Left 6 6 Right refl;
 }
 
 -- ---- what is wrong

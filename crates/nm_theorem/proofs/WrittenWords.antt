@@ -8,7 +8,7 @@ use Rattle.nm_edge.specs.Layouts.{Layout, IsLayout}
 use Rattle.nm_edge.specs.declared.edge.Side.{Side}
 use Rattle.nm_model.specs.declared.event.Field.TheVariants.{Key, Edge as EdgeOn, Birth}
 use Rattle.nm_model.specs.declared.event.Event.{Event}
-use Rattle.nm_model.specs.declared.event.Event.TheVariants.{Sight, SightFor, Announce, Leave, LeaveWith, Scan, Advance, Claim, Give, Look, Fill, Link, Flag, Tag, Splice, Join}
+use Rattle.nm_model.specs.declared.event.Event.TheVariants.{Sight, SightFor, Announce, Leave, LeaveWith, Scan, Advance, Claim, Give, Look, Fill, Link, Flag, Tag, Splice, Join, Swap}
 use Rattle.nm_model.specs.declared.reply.Reply.TheVariants.{Moved, Behind, Claimed, Taken, Returned, Freed, Linked, Flagged, Cut, Lost}
 use Rattle.nm_model.specs.declared.reply.Refused.{Refused}
 use Rattle.nm_model.specs.Maps.{is_number}
@@ -85,6 +85,13 @@ module _ (s : State) (h : ℕ → ℕ) (law : Lawful s h) (w : ℕ) where
           ≡ cond b (put_edge s.memory a d (kept (read (of s w) p keep))) s.memory
       go true won = ap (put_edge s.memory a d) (sym (kept_is a d x p keep ok won))
       go false none = refl
+  told_writes (Swap p side leaf new) ok = go (is_to (edge m p side) leaf)
+    where
+      go : (b : Bool) → written s.memory w (Swap p side leaf new)
+          (Ok (cond b (Cut (named s.memory leaf ∷ [])) (Lost (edge s.memory p side)))) ≡ cond b
+          (put_edge s.memory p side (to new)) s.memory
+      go true = refl
+      go false = refl
   told_writes (Join v) ok = refl
 
 -- ---- a turn
@@ -103,6 +110,7 @@ none_written m w (Link p side leaf new) q = refl
 none_written m w (Flag p side leaf) q = refl
 none_written m w (Tag p side) q = refl
 none_written m w (Splice a d x p keep) q = refl
+none_written m w (Swap p d leaf new) q = refl
 none_written m w e q = refl
 
 pub turn_writes : (c : Configuration) (t : ℕ × Event) → IsLawful c.state → after_turn c.state.memory (told_in c t) ≡ (next_in c t).state.memory

@@ -21,7 +21,7 @@ use Rattle.nm_tree.specs.Workers.{WorkerView, IsAs, KeepsOtherQueues, IsWorker, 
 use Rattle.nm_walks.specs.Rooms.{TakesRoom}
 use Rattle.nm_tree.proofs.QueueLists.{others_after, few_after, stands_there, stands_after, held_there, held_after, has_after, had_before, ascend_after, not_both, not_none, origin_at}
 use Rattle.nm_tree.proofs.OwnQueue.{TellAlike, all_counted_still, counted_still, holds_own, own_counted}
-use Rattle.nm_tree.proofs.Numbers.{numbers_stay, resigned_stay, room_stays}
+use Rattle.nm_tree.proofs.Numbers.{numbers_stay, resigned_stay}
 
 -- ---- queues of others
 
@@ -73,7 +73,7 @@ counted_after p q (suc i) (h ∷ hs) g same others held s is are =
 -- ---- a whole worker
 
 -- what it holds of the own origin
-pub kept_there : {r : ℕ} (w : WorkerView) (home : ℕ) (h : HeldQueue) → IsWorker w home r → h ≡ slice_index_or w.queues home h → HoldsCuts w.pass h
+pub kept_there : (w : WorkerView) (home : ℕ) (h : HeldQueue) → IsWorker w home → h ≡ slice_index_or w.queues home h → HoldsCuts w.pass h
 kept_there w home h is there =
     holds_own w.pass h (stands_there home w.pass.view.number w.queues h is.own there) (held_there (knowledge w.pass.view) home w.pass.view.number w.queues h is.between.queues is.own there)
     (counted_there w.pass.view home w.pass.view.number w.queues h is.own is.counted there)
@@ -95,11 +95,11 @@ numbers_after v i o hs g s e is = record {
 }
 
 -- so it is a worker still, where its own queue is this one now
-pub changed : {r : ℕ} {f : Fit} (w : WorkerView) (home : ℕ) (q : PassView) (n : Option Unfinished) (e : Option ℕ) (g : HeldQueue) → IsWorker w home r → IsSamePass w.pass q
+pub changed : {f : Fit} (w : WorkerView) (home : ℕ) (q : PassView) (n : Option Unfinished) (e : Option ℕ) (g : HeldQueue) → IsWorker w home → IsSamePass w.pass q
     → HoldsCuts q g → OnlyOwnLedger w.pass q → ((slot : ℕ) → get (knowledge q.view).drafts slot ≡ get (knowledge w.pass.view).drafts slot) → IsAs q n e
     → (h : HeldQueue) × (h ≡ slice_index_or w.queues home h) × TakesRoom h.queue g.queue
-    → IsWorker (record { pass = q; queues = slice_set w.queues home g; pending = n; held = e; fit = f }) home r
-changed {r} w home q n e g is same kept others private stands room =
+    → IsWorker (record { pass = q; queues = slice_set w.queues home g; pending = n; held = e; fit = f }) home
+changed w home q n e g is same kept others private stands room =
     let number : q.view.number ≡ w.pass.view.number = ap (λ (x : PassView). x.view.number) same in
     let own : g.origin ≡ w.pass.view.number = kept.own ∙ number in
     let queue = let P : ℕ → Type 0 = λ o. IsQueueOf (knowledge q.view) o g.queue.items in subst P number kept.queue in
@@ -118,5 +118,4 @@ changed {r} w home q n e g is same kept others private stands room =
       numbers = numbers_stay w.pass q (slice_set w.queues home g) same (numbers_after w.pass.view home w.pass.view.number w.queues g is.own own is.numbers);
       resigned = resigned_stay w.pass q same is.resigned;
       alive = ap (λ (x : PassView). x.view.resigned) same ∙ is.alive;
-      room = room_stays w.pass q r same is.room;
     }

@@ -25,6 +25,7 @@ use Rattle.nm_epoch.specs.Collecting.{AreHeld}
 use Rattle.nm_tree.specs.Workers.{WorkerView, IsWorker, TellLedgers, HasOrigin, AreAbove, Ascend}
 use Rattle.nm_tree.specs.Closing.{AreAllOf, AreFrom, GoesOnFromAll, IsClosed, IsOfTurns, StandsForAll, all_joined, all_merged, given_in}
 use Rattle.nm_tree.specs.MapReports.{StoresGoOnFromAll}
+use Rattle.nm_tree.proofs.AddedUp.{add_up}
 use Rattle.nm_tree.proofs.EndCounts.{sum_is}
 use Rattle.nm_tree.proofs.EndLaws.{ascend_of, set_of, totals_of}
 use Rattle.nm_tree.proofs.EndTheorem.{of_turns_at_end}
@@ -130,7 +131,7 @@ all_in_order n (h ∷ hs) up below many =
 
 -- ---- the whole
 
-module _ (b : TreeView) (w : WorkerView) (home r : ℕ) (ws : List WorkerView) (kept : List ℕ) (free reached : ℕ) (words : List ℕ) (is : IsWorker w home r)
+module _ (b : TreeView) (w : WorkerView) (home : ℕ) (ws : List WorkerView) (kept : List ℕ) (free reached : ℕ) (words : List ℕ) (is : IsWorker w home)
     (view : StandsForAll ws w.pass.view) (seen : GoesOnFromAll w.pass.view.past ws) (queues : w.queues ≡ all_merged ws) (enough : b.layout.workers ≤ given_in ws) (of_runs : All (λ (u : WorkerView). HasSeen u.pass.view) ws) (end : Ends b.layout words w.pass.view) (run : IsInRun w.pass)
     (keys_are : (e' : IsEndOf b.layout words) → kept ≡ keys (end_of b.layout words e')) (free_are : (e' : IsEndOf b.layout words) → free ≡ (counts (end_of b.layout words e')).pool)
     (reached_are : (e' : IsEndOf b.layout words) → reached ≡ (counts (end_of b.layout words e')).reached) where
@@ -168,7 +169,7 @@ module _ (b : TreeView) (w : WorkerView) (home r : ℕ) (ws : List WorkerView) (
 
   of_turns : IsOfTurns b.layout (trace_in (ordered b.layout) end.turns) words w.queues kept
   unfolding the_end
-  of_turns = of_turns_at_end b.layout words the_end w home r is end.shown in_order.0 in_order.1 kept (keys_are the_end)
+  of_turns = of_turns_at_end b.layout words the_end w home is end.shown in_order.0 in_order.1 kept (keys_are the_end)
 
   words_are : words_after b.layout (trace_in (ordered b.layout) end.turns) ≡ (end_of b.layout words the_end).memory
   unfolding the_end
@@ -179,7 +180,7 @@ module _ (b : TreeView) (w : WorkerView) (home r : ℕ) (ws : List WorkerView) (
 
   logs_are : LogsAre (all_joined ws).layout b.layout (trace_in (ordered b.layout) end.turns) (logs (all_joined ws))
   unfolding the_end
-  logs_are = subst (λ (v : View). LogsAre v.layout b.layout (trace_in (ordered b.layout) end.turns) (logs v)) view (logs_shown b.layout words the_end w home r is end.shown in_order.0 in_order.1)
+  logs_are = subst (λ (v : View). LogsAre v.layout b.layout (trace_in (ordered b.layout) end.turns) (logs v)) view (logs_shown b.layout words the_end w home is end.shown in_order.0 in_order.1)
 
   pub closed : IsClosed b ws w.queues kept free reached
   unfolding ends the_end
@@ -197,8 +198,11 @@ module _ (b : TreeView) (w : WorkerView) (home r : ℕ) (ws : List WorkerView) (
       free_are = free_are the_end ∙ ap (λ (m : Memory). length (filter (λ mark. mark) m.pool)) (sym words_are);
       reached_are = reached_are the_end ∙ (ap (λ (n : ℕ). length (tree_slots n (end_of b.layout words the_end).memory 1) - 5) nodes ∙ ap (λ (m : Memory). length (tree_slots b.layout.nodes m 1) - 5) (sym words_are));
       sum = sum_is b.layout words the_end w.queues in_order.1 of_turns.no_hands of_turns.waiting free reached (free_are the_end) (reached_are the_end);
-      rested = settles b.layout words the_end w home r is end.shown in_order.0 in_order.1 ws view some_given;
+      rested = settles b.layout words the_end w home is end.shown in_order.0 in_order.1 ws view some_given;
       totals = totals_of b.layout end.fits end.turns end.keys kept (set_of b.layout end.fits end.turns end.keys kept (keys_are the_end));
+      add_up = add_up b.layout end.fits end.turns end.keys kept
+          (set_of b.layout end.fits end.turns end.keys kept (keys_are the_end))
+          (ascend_of b.layout end.fits end.turns end.keys kept (keys_are the_end));
     };
     same_turns = refl;
     ends = ends;

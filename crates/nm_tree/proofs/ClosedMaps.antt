@@ -1,25 +1,30 @@
 -- What the end of a map leaves of its values.
-use Rattle.std.proofs.Common.{◌≡◌, ℕ, zero, suc, ◌+◌, ◌-◌, ◌<◌, ◌≤◌, Bool, true, false, List, [], ◌∷◌, ◌++◌, append-nil, length, map, refl, sym, ap, subst, ◌∙◌, arith}
-use Rattle.std.specs.Prelude.{All, AllPairs, Some, if◌then◌else◌, slice_get, slice_index}
-use Rattle.std.proofs.lemmas.List.{length-append, length-map, map-append, nil_from_length}
-use Rattle.std.proofs.lemmas.List.Elements.{All-append, All-cons, All-nil}
+use Rattle.std.proofs.Common.{◌≡◌, ℕ, zero, suc, ◌+◌, ◌-◌, ◌<◌, ◌≤◌, ◌==◌, inl, inr, Bool, true, false, List, [], ◌∷◌, ◌++◌, append-nil, length, map, refl, sym, ap, subst, ◌∙◌, arith}
+use Rattle.std.specs.Prelude.{All, AllPairs, Contains, Some, ◌/◌, nat_lt, slice_get, slice_index}
+use Rattle.std.proofs.lemmas.Bool.{cases_lt, eq-eqb, le-ltb, lt-ltb, ne_eqb}
+use Rattle.std.proofs.lemmas.List.{length-append, map-append, nil_from_length}
+use Rattle.std.proofs.lemmas.List.Elements.{All-cons, All-nil, Contains-append_right}
 use Rattle.std.proofs.lemmas.Option.{none-some, same_Some}
 use Rattle.nm_edge.specs.Layouts.{Layout, IsLayout}
-use Rattle.nm_edge.specs.Words.{IsSlot}
+use Rattle.nm_edge.specs.Edges.{Edge}
+use Rattle.nm_edge.specs.Words.{IsSlot, at_edge, word, words as all_words}
+use Rattle.nm_edge.specs.declared.edge.Side.TheVariants.{Left}
+use Rattle.nm_edge.specs.declared.node.NodeId.{NodeId}
 use Rattle.nm_model.specs.declared.event.Event.{Event}
 use Rattle.nm_model.specs.declared.ledger.Queued.{Queued}
 use Rattle.nm_model.specs.declared.trace.Turn.{Turn}
 use Rattle.nm_model.specs.Headline.{has_after, waits_of, words_after}
 use Rattle.nm_model.specs.Knowledge.{Knowledge}
 use Rattle.nm_model.specs.Ledgers.{held}
-use Rattle.nm_model.specs.Memory.{Memory, opening}
-use Rattle.nm_model.specs.Ordered.{HasKey, ordered, trace_in}
+use Rattle.nm_model.specs.Memory.{Memory, child, is_leaf, node, opening}
+use Rattle.nm_model.specs.Ordered.{HasKey, after_in, ordered, trace_in}
 use Rattle.nm_model.specs.Reports.{counts, keys}
 use Rattle.nm_order.specs.Hands.{IsPooled}
 use Rattle.nm_order.proofs.PinNumbers.{length_trace}
 use Rattle.nm_theorem.proofs.Hands.{run_hands}
 use Rattle.nm_theorem.proofs.WrittenWords.{run_words}
 use Rattle.nm_steps.specs.declared.view.Stored.{Stored}
+use Rattle.nm_steps.specs.Packing.{words_of}
 use Rattle.nm_steps.specs.Rules.{ComesBefore, Extends, LinksHaveValues, WereHeld, knowledge, value_of}
 use Rattle.nm_steps.specs.Steps.{EndedWords, HasSeen, IsInRun, TreeView}
 use Rattle.nm_steps.specs.Values.{EndsWithValues}
@@ -29,40 +34,44 @@ use Rattle.nm_steps.proofs.ValueStays.{NobodyHolds, value_stays}
 use Rattle.nm_epoch.specs.declared.collecting.Entry.{Entry}
 use Rattle.nm_epoch.specs.declared.collecting.HeldQueue.{HeldQueue}
 use Rattle.nm_epoch.specs.Collecting.{AreHeld, IsQueueOf, queued}
-use Rattle.nm_epoch.specs.Handing.{is_odd, leaves_of}
 use Rattle.nm_epoch.proofs.Fronts.{shown_queue}
 use Rattle.nm_calls.specs.HandedBack.{WasCutWith}
 use Rattle.nm_calls.specs.Maps.{HoldsStores, IsInMap}
-use Rattle.nm_calls.proofs.HandedBack.{waits_with_its_value}
-use Rattle.nm_calls.proofs.StoresInTurns.{linked_leaves, were_in_hands}
+use Rattle.nm_calls.proofs.HandedBack.{CutBy, cut_by, kind_at_end, kind_by_left, waiting_passes, waits_with_its_value, was_reached}
+use Rattle.nm_calls.proofs.StoresInTurns.{linked_leaves, swapped_leaves, were_in_hands}
 use Rattle.nm_tree.specs.declared.closing.Ended.{Ended}
 use Rattle.nm_tree.specs.declared.closing.Report.{Report}
 use Rattle.nm_tree.specs.declared.map_closing.MapReport.{MapReport}
 use Rattle.nm_tree.specs.Closing.{GoesOnFromAll, IsClosed, StandsForAll, all_merged, given_in}
 use Rattle.nm_tree.specs.Ended.{IsEndOf, end_of}
-use Rattle.nm_tree.specs.MapReports.{AreInMap, AreLeavesOf, EndsMap, IsLeafOf, LeavesValues, SaysMapClosed, StoresGoOnFromAll, WaitsWith, leaves_in, value_in}
+use Rattle.nm_tree.specs.MapReports.{AreInMap, AreLeavesOf, EndsMap, IsLeafOf, LeavesValues, SaysMapClosed, StoresGoOnFromAll, Waits, bare_of, is_bare_in, value_in}
 use Rattle.nm_tree.specs.Workers.{IsWorker, WorkerView}
 use Rattle.nm_tree.proofs.Closed.{closed, stores_from_earlier, turns_are}
 use Rattle.nm_tree.proofs.EndWorkers.{are as logs_shown}
+use Rattle.nm_tree.proofs.Ends.{edge_told}
 
 -- ---- lists
 
--- what holds of each entry at which an odd number wait holds of all leaves
-all_leaves : (P : Entry → Type 0) (items : List Entry) → ((early later : List Entry) (e : Entry) → items ≡ early ++ e ∷ later → is_odd (suc (length later)) ≡ true → P e) → All P (leaves_of 0 items)
-all_leaves P [] each = All-nil P
-all_leaves P (e ∷ es) each =
-    by (is_odd (suc (length es + 0))) refl (all_leaves P es (λ early later x is odd. each (e ∷ early) later x (ap (λ (l : List Entry). e ∷ l) is) odd))
-  where
-    none_more : length es + 0 ≡ length es
-    none_more = omega arith
+-- what holds of each entry holds of all
+all_entries : (P : Entry → Type 0) (items : List Entry)
+    → ((early later : List Entry) (e : Entry) → items ≡ early ++ e ∷ later → P e) → All P items
+all_entries P [] each = All-nil P
+all_entries P (e ∷ es) each = All-cons P e es (each [] es e refl)
+    (all_entries P es (λ early later x is. each (e ∷ early) later x (ap (λ (l : List Entry). e ∷ l) is)))
 
-    by : (b : Bool) → is_odd (suc (length es + 0)) ≡ b → All P (leaves_of 0 es) → All P (if b then e ∷ leaves_of 0 es else leaves_of 0 es)
-    by true is rest = All-cons P e (leaves_of 0 es) (each [] es e refl (subst (λ (n : ℕ). is_odd (suc n) ≡ true) none_more is)) rest
-    by false is rest = rest
+all_waiting : (P : Entry → Type 0) (hs : List HeldQueue)
+    → ((u : ℕ) (h : HeldQueue) → slice_get hs u ≡ Some h → All P h.queue.items)
+    → All (λ (h : HeldQueue). All P h.queue.items) hs
+all_waiting P [] each = All-nil (λ (h : HeldQueue). All P h.queue.items)
+all_waiting P (h ∷ hs) each = All-cons (λ (g : HeldQueue). All P g.queue.items) h hs (each 0 h refl)
+    (all_waiting P hs (λ u g at. each (suc u) g at))
 
-all_waiting : (P : Entry → Type 0) (hs : List HeldQueue) → ((u : ℕ) (h : HeldQueue) → slice_get hs u ≡ Some h → All P (leaves_of 0 h.queue.items)) → All P (leaves_in hs)
-all_waiting P [] each = All-nil P
-all_waiting P (h ∷ hs) each = All-append P (leaves_of 0 h.queue.items) (leaves_in hs) (each 0 h refl) (all_waiting P hs (λ u g at. each (suc u) g at))
+-- a number is below 4 if its fourth is 0
+below_four : (n : ℕ) → nat_lt n 4 ≡ (n / 4 == 0)
+below_four n = elim (cases_lt n 4) [
+  | inl less ↦ lt-ltb n 4 less ∙ sym (eq-eqb (n / 4) 0 (omega (arith, less)))
+  | inr more ↦ le-ltb n 4 more ∙ sym (ne_eqb (n / 4) 0 (λ e. omega (arith, more, e)))
+]
 
 held_there : (k : Knowledge) (hs : List HeldQueue) (u : ℕ) (h : HeldQueue) → AreHeld k hs → slice_get hs u ≡ Some h → IsQueueOf k h.origin h.queue.items
 held_there k [] u h are at = absurd (none-some h at)
@@ -85,7 +94,10 @@ leaves_within L m n (k ∷ ks) (x ∷ xs) long are =
 
 -- ---- the stores at the end of a run, at which nobody has a slot in hands
 
-module _ (L : Layout) (fits : IsLayout L) (events : List (ℕ × Event)) (all_keys : All (λ t. HasKey t.1) events) (stores : List Stored) (were : WereHeld L events stores) (linked : LinksHaveValues L events stores) (order : AllPairs ComesBefore stores) (slots : List ℕ)
+module _ (L : Layout) (fits : IsLayout L) (events : List (ℕ × Event)) (all_keys : All (λ t. HasKey t.1) events)
+    (stores : List Stored) (were : WereHeld L events stores) (linked : LinksHaveValues L events stores)
+    (order : AllPairs ComesBefore stores) (slots core : List ℕ)
+    (core_is : core ≡ words_of L (after_in (ordered L) events).state.memory)
     (each : (i : ℕ) → i < L.nodes → slice_index slots i ≡ value_of stores (i + 1)) (no_hands : (u x : ℕ) → has_after (opening L) u x false (trace_in (ordered L) events) ≡ false) where
   abbrev turns : List Turn
   turns = trace_in (ordered L) events
@@ -97,6 +109,7 @@ module _ (L : Layout) (fits : IsLayout L) (events : List (ℕ × Event)) (all_ke
     ends = goes_on_itself turns;
     held = were_in_hands L fits events stores were;
     linked = linked_leaves L fits events all_keys stores linked;
+    swapped = swapped_leaves L events all_keys stores linked;
     order = order;
   }
 
@@ -136,26 +149,61 @@ module _ (L : Layout) (fits : IsLayout L) (events : List (ℕ × Event)) (all_ke
   all_in_map (k ∷ ks) [] are = absurd are
   all_in_map (k ∷ ks) (x ∷ xs) are = (in_map k x are.0, all_in_map ks xs are.1)
 
+  -- a bare slot is one whose left edge leads to no node
+  bare_is : (x : ℕ) → IsSlot L x → is_bare_in L core x ≡ (child (after_in (ordered L) events).state.memory x Left == 0)
+  bare_is x is =
+      let e : IsEndOf L core = record { fits = fits; turns = events; keys = all_keys; words_are = core_is } in
+      below_four (slice_index core (word L (at_edge x Left)))
+      ∙ ap (λ (y : Edge). y.slot == 0) (edge_told L core e x Left is)
+
   -- a leaf that waits has its value
-  pub waits_with : (u : ℕ) (items early later : List Entry) (e : Entry) → map (λ (n : Entry). n.node) items ≡ waits_of u turns → items ≡ early ++ e ∷ later → is_odd (suc (length later)) ≡ true → IsPooled L e.node.slot → WaitsWith L turns stores slots e
-  waits_with u items early later e waiting are odd pooled = record {
+  pub waits : (u : ℕ) (items early later : List Entry) (e : Entry)
+      → map (λ (n : Entry). n.node) items ≡ waits_of u turns → items ≡ early ++ e ∷ later → IsPooled L e.node.slot
+      → Waits L turns stores slots (is_bare_in L core) e
+  waits u items early later e waiting are pooled = record {
     slot = slot;
-    cut = subst (λ (v : ℕ). WasCutWith L turns stores e.node v) (sym (value_is e.node.slot slot))
-        (waits_with_its_value L fits events all_keys u (map (λ (n : Entry). n.node) early) e.node (map (λ (n : Entry). n.node) later)
-        (sym waiting ∙ (ap (λ (l : List Entry). map (λ (n : Entry). n.node) l) are ∙ map-append (λ (n : Entry). n.node) early (e ∷ later)))
-        (subst (λ (n : ℕ). is_odd (suc n) ≡ true) (sym (length-map later (λ (n : Entry). n.node))) odd) pooled stores were all_stores);
+    leaf = λ yes'. subst (λ (v : ℕ). WasCutWith L turns stores e.node v) (sym (value_is e.node.slot slot))
+        (waits_with_its_value L fits events all_keys u e.node c there pooled (sym kind ∙ yes') stores were all_stores);
+    inner = λ no'. record {
+      before = c.before;
+      cut = c.cut;
+      since = c.since;
+      are = c.are;
+      cuts = c.there;
+      high = pooled.0;
+      reached = was_reached L fits events all_keys u e.node c there pooled;
+      inner = sym kind ∙ no';
+    };
   }
     where
       slot : IsSlot L e.node.slot
       slot = let low = pooled.0 in let high = pooled.1 in (omega (arith, low), omega (arith, high))
 
+      there : Contains (waits_of u turns) e.node
+      there =
+          subst (λ (ns : List NodeId). Contains ns e.node)
+          (sym (map-append (λ (n : Entry). n.node) early (e ∷ later))
+          ∙ (ap (map (λ (n : Entry). n.node)) (sym are) ∙ waiting))
+          (Contains-append_right (map (λ (n : Entry). n.node) early)
+          (e.node ∷ map (λ (n : Entry). n.node) later) e.node (0, omega arith, refl))
+
+      c : CutBy u turns e.node
+      c = cut_by u turns e.node (waiting_passes u turns e.node there).0
+
+      kind : is_bare_in L core e.node.slot ≡ is_leaf (node (words_after L c.before) e.node.slot)
+      kind = bare_is e.node.slot slot ∙ (kind_by_left L fits events all_keys u e.node c there pooled
+          ∙ kind_at_end L fits events all_keys u e.node c there pooled)
+
 -- ---- the whole
 
-module _ (b : TreeView) (w : WorkerView) (home r : ℕ) (ws : List WorkerView) (kept leaves : List ℕ) (free reached : ℕ) (left : EndedWords) (is : IsWorker w home r)
+module _ (b : TreeView) (w : WorkerView) (home : ℕ) (ws : List WorkerView) (kept leaves : List ℕ) (free reached : ℕ) (left : EndedWords) (is : IsWorker w home)
     (view : StandsForAll ws w.pass.view) (seen : GoesOnFromAll w.pass.view.past ws) (stores_seen : StoresGoOnFromAll w.pass.view.stores ws) (queues : w.queues ≡ all_merged ws) (enough : b.layout.workers ≤ given_in ws)
     (of_runs : All (λ (u : WorkerView). HasSeen u.pass.view) ws) (v : EndsWithValues b.layout left w.pass.view) (run : IsInRun w.pass) (keys_are : (e' : IsEndOf b.layout left.core) → kept ≡ keys (end_of b.layout left.core e'))
     (free_are : (e' : IsEndOf b.layout left.core) → free ≡ (counts (end_of b.layout left.core e')).pool) (reached_are : (e' : IsEndOf b.layout left.core) → reached ≡ (counts (end_of b.layout left.core e')).reached)
-    (leaves_are : (e' : IsEndOf b.layout left.core) → AreLeavesOf b.layout (end_of b.layout left.core e').memory kept leaves) (nodes : ℕ) (size : nodes ≡ b.layout.nodes) where
+    (leaves_are : (e' : IsEndOf b.layout left.core)
+    → AreLeavesOf b.layout (end_of b.layout left.core e').memory kept leaves) (layout : Layout)
+    (same_layout_as : layout ≡ b.layout)
+    (laid : length left.core ≡ all_words b.layout) where
   abbrev L : Layout
   L = b.layout
 
@@ -163,11 +211,11 @@ module _ (b : TreeView) (w : WorkerView) (home r : ℕ) (ws : List WorkerView) (
   T = trace_in (ordered L) v.ends.turns
 
   c : IsClosed b ws w.queues kept free reached
-  c = closed b w home r ws kept free reached left.core is view seen queues enough of_runs v.ends run keys_are free_are reached_are
+  c = closed b w home ws kept free reached left.core is view seen queues enough of_runs v.ends run keys_are free_are reached_are
 
   same : c.says.turns ≡ T
   unfolding c
-  same = turns_are b w home r ws kept free reached left.core is view seen queues enough of_runs v.ends run keys_are free_are reached_are
+  same = turns_are b w home ws kept free reached left.core is view seen queues enough of_runs v.ends run keys_are free_are reached_are
 
   the_end : IsEndOf L left.core
   the_end = record { fits = v.ends.fits; turns = v.ends.turns; keys = v.ends.keys; words_are = v.ends.words_are }
@@ -184,7 +232,7 @@ module _ (b : TreeView) (w : WorkerView) (home r : ℕ) (ws : List WorkerView) (
 
   same_layout : w.pass.view.layout ≡ L
   unfolding the_end
-  same_layout = (logs_shown L left.core the_end w home r is v.ends.shown c.says.each c.says.all).0
+  same_layout = (logs_shown L left.core the_end w home is v.ends.shown c.says.each c.says.all).0
 
   pooled : (u : ℕ) (h : HeldQueue) (early later : List Entry) (e : Entry) → slice_get w.queues u ≡ Some h → h.queue.items ≡ early ++ e ∷ later → IsPooled L e.node.slot
   pooled u h early later e at are =
@@ -192,36 +240,52 @@ module _ (b : TreeView) (w : WorkerView) (home r : ℕ) (ws : List WorkerView) (
       ((apart_in_run w.pass run).waiting h.origin (length early) (queued e)
       (ap (λ (q : List Queued). slice_get q (length early)) (shown_queue (held (knowledge w.pass.view).ledgers h.origin) (map queued h.queue.items) (held_there (knowledge w.pass.view) w.queues u h is.between.queues at) ∙ ap (λ (l : List Entry). map queued l) are) ∙ get_after early e later))
 
-  values : LeavesValues L ws T w.queues kept (map (value_in left.values) leaves) left.values
+  values : LeavesValues L ws T w.queues kept (map (value_in left.values) leaves) left.values (is_bare_in L left.core)
   values = record {
     stores = v.stores;
     go_on = stores_from_earlier v.stores w.pass.view.stores ws v.extends stores_seen;
-    holds = all_stores L v.ends.fits v.ends.turns v.ends.keys v.stores v.held v.linked v.order left.values v.are no_hands T (goes_on_itself T);
+    holds = all_stores L v.ends.fits v.ends.turns v.ends.keys v.stores v.held v.linked v.order left.values left.core
+        v.ends.words_are v.are no_hands T (goes_on_itself T);
     long = v.long;
-    each = all_in_map L v.ends.fits v.ends.turns v.ends.keys v.stores v.held v.linked v.order left.values v.are no_hands kept leaves leaves_now;
-    waiting = all_waiting (WaitsWith L T v.stores left.values) w.queues (λ u h at. all_leaves (WaitsWith L T v.stores left.values) h.queue.items (λ early later e are odd.
-        waits_with L v.ends.fits v.ends.turns v.ends.keys v.stores v.held v.linked v.order left.values v.are no_hands u h.queue.items early later e (waiting u h at) are odd (pooled u h early later e at are)));
+    each = all_in_map L v.ends.fits v.ends.turns v.ends.keys v.stores v.held v.linked v.order left.values left.core
+        v.ends.words_are v.are no_hands kept leaves leaves_now;
+    waiting = all_waiting (Waits L T v.stores left.values (is_bare_in L left.core)) w.queues
+        (λ u h at. all_entries (Waits L T v.stores left.values (is_bare_in L left.core)) h.queue.items
+        (λ early later e are.
+        waits L v.ends.fits v.ends.turns v.ends.keys v.stores v.held v.linked v.order left.values left.core
+        v.ends.words_are v.are no_hands u h.queue.items early later e (waiting u h at) are
+        (pooled u h early later e at are)));
   }
 
-  pub ends_map : EndsMap b ws w.queues kept leaves left.values nodes free reached
-  ends_map = record {
-    says = c.says;
-    all = size ∙ sym v.long;
-    within = leaves_within L (words_after L T) (length left.values) kept leaves v.long leaves_now;
-    values = subst (λ (ts : List Turn). LeavesValues L ws ts w.queues kept (map (value_in left.values) leaves) left.values) (sym same) values;
-  }
+  pub ends_map : EndsMap b ws w.queues kept leaves left layout free reached
+  ends_map = subst (λ (l : Layout). EndsMap b ws w.queues kept leaves left l free reached) (sym same_layout_as)
+      (record {
+        says = c.says;
+        all = sym v.long;
+        laid = laid;
+        within = leaves_within L (words_after L T) (length left.values) kept leaves v.long leaves_now;
+        values = subst (λ (ts : List Turn). LeavesValues L ws ts w.queues kept
+            (map (value_in left.values) leaves) left.values (is_bare_in L left.core)) (sym same) values;
+      })
 
 -- ---- the report of a map
 
 -- the report that is made of what the end of a map has left
-module _ (b : TreeView) (ws : List WorkerView) (e : Ended) (r : MapReport) (report : r.report ≡ e.report) (keyed : r.values.keyed ≡ map (value_in e.words.values) e.leaves.items) (slots : r.values.slots ≡ e.words.values) where
-  pub map_said : EndsMap b ws e.report.queues.items e.report.keys.items e.leaves.items e.words.values e.nodes e.report.free e.report.reached
-      → SaysMapClosed b ws r.report.queues.items r.report.keys.items r.values.keyed r.values.slots r.report.free r.report.reached
+module _ (b : TreeView) (ws : List WorkerView) (e : Ended) (r : MapReport) (report : r.report ≡ e.report)
+    (keyed : r.values.keyed ≡ map (value_in e.words.values) e.leaves.items) (slots : r.values.slots ≡ e.words.values)
+    (bare : bare_of r.values ≡ is_bare_in e.layout e.words.core) where
+  pub map_said : EndsMap b ws e.report.queues.items e.report.keys.items e.leaves.items e.words e.layout e.report.free
+      e.report.reached
+      → SaysMapClosed b ws r.report.queues.items r.report.keys.items r.values.keyed r.values.slots
+      (bare_of r.values) r.report.free r.report.reached
   map_said ends =
-      let P : Report → Type 0 = λ x. SaysMapClosed b ws x.queues.items x.keys.items r.values.keyed r.values.slots x.free x.reached in
-      let Q : List ℕ → Type 0 = λ vs. SaysMapClosed b ws e.report.queues.items e.report.keys.items vs r.values.slots e.report.free e.report.reached in
-      let R : List ℕ → Type 0 = λ vs. SaysMapClosed b ws e.report.queues.items e.report.keys.items (map (value_in e.words.values) e.leaves.items) vs e.report.free e.report.reached in
-      subst P (sym report) (subst Q (sym keyed) (subst R (sym slots) (record { says = ends.says; values = ends.values })))
-
-  pub map_closed : IsClosed b ws e.report.queues.items e.report.keys.items e.report.free e.report.reached → IsClosed b ws r.report.queues.items r.report.keys.items r.report.free r.report.reached
-  map_closed closed' = let P : Report → Type 0 = λ x. IsClosed b ws x.queues.items x.keys.items x.free x.reached in subst P (sym report) closed'
+      let P : Report → Type 0 = λ x. SaysMapClosed b ws x.queues.items x.keys.items r.values.keyed r.values.slots
+      (bare_of r.values) x.free x.reached in
+      let Q : List ℕ → Type 0 = λ vs. SaysMapClosed b ws e.report.queues.items e.report.keys.items vs r.values.slots
+      (bare_of r.values) e.report.free e.report.reached in
+      let R : List ℕ → Type 0 = λ vs. SaysMapClosed b ws e.report.queues.items e.report.keys.items
+      (map (value_in e.words.values) e.leaves.items) vs (bare_of r.values) e.report.free e.report.reached in
+      let S : (ℕ → Bool) → Type 0 = λ f. SaysMapClosed b ws e.report.queues.items e.report.keys.items
+      (map (value_in e.words.values) e.leaves.items) e.words.values f e.report.free e.report.reached in
+      subst P (sym report) (subst Q (sym keyed) (subst R (sym slots)
+      (subst S (sym bare) (record { says = ends.says; values = ends.values }))))

@@ -61,7 +61,7 @@ queue_waits L fits ts u k h knows has = go (held k.ledgers h.origin) refl has
         nodes_of h.queue.items ∙ (ap (λ (q : List Queued). map node_in q) (sym (same_Some l.queue (map queued h.queue.items) queue))
         ∙ sym (waits_is L fits true ts u h.origin l (ap (λ (x : Knowledge). held x.ledgers h.origin) knows ∙ there)))
 
-module _ (L : Layout) (words : List ℕ) (e : IsEndOf L words) (w : WorkerView) (home r : ℕ) (is : IsWorker w home r) (is_shown : IsShown L (trace_in (ordered L) e.turns) w.pass.view)
+module _ (L : Layout) (words : List ℕ) (e : IsEndOf L words) (w : WorkerView) (home : ℕ) (is : IsWorker w home) (is_shown : IsShown L (trace_in (ordered L) e.turns) w.pass.view)
     (each : AreFrom 0 w.queues) (all : length w.queues ≡ L.workers) where
   abbrev turns : List Turn
   turns = trace_in (ordered L) e.turns
@@ -70,10 +70,10 @@ module _ (L : Layout) (words : List ℕ) (e : IsEndOf L words) (w : WorkerView) 
   waiting o h at =
       let from = origin_at 0 w.queues each o h at in
       let own : h.origin ≡ o = omega (arith, from) in
-      queue_waits L e.fits e.turns w.pass.view.number (knowledge w.pass.view) h (known L words e w home r is is_shown each all) (held_at (knowledge w.pass.view) w.queues is.between.queues o h at) ∙ ap (λ (n : ℕ). waits_of n turns) own
+      queue_waits L e.fits e.turns w.pass.view.number (knowledge w.pass.view) h (known L words e w home is is_shown each all) (held_at (knowledge w.pass.view) w.queues is.between.queues o h at) ∙ ap (λ (n : ℕ). waits_of n turns) own
 
   no_hands : (u x : ℕ) → has_after (opening L) u x false turns ≡ false
-  no_hands u x = run_hands u x L e.fits true e.turns ∙ false_from_ne_true (is_private (of (end_of L words e) u) x) (none_private L words e w home r is is_shown each all u x)
+  no_hands u x = run_hands u x L e.fits true e.turns ∙ false_from_ne_true (is_private (of (end_of L words e) u) x) (none_private L words e w home is is_shown each all u x)
 
   module _ (kept : List ℕ) (keys_are : kept ≡ keys (end_of L words e)) where
     pub of_turns_at_end : IsOfTurns L turns words w.queues kept

@@ -1,6 +1,6 @@
 -- A key that was found, and then was not there to be deleted: some turn in between cut its leaf off.
-use Rattle.std.proofs.Common.{◌≡◌, ◌∙◌, ℕ, zero, suc, ◌+◌, ◌<◌, ◌≤◌, Bool, true, false, cond, List, [], ◌∷◌, ◌++◌, append_assoc, length, length-append, refl, sym, ap, subst, arith, true≢false}
-use Rattle.std.specs.Prelude.{All, unwrap_or, Option, Some, Ok}
+use Rattle.std.proofs.Common.{◌≡◌, ◌∙◌, ◌⊎◌, inl, inr, ℕ, zero, suc, ◌+◌, ◌<◌, ◌≤◌, Bool, true, false, cond, List, [], ◌∷◌, ◌++◌, append_assoc, length, length-append, refl, sym, ap, subst, arith, true≢false}
+use Rattle.std.specs.Prelude.{All, unwrap_or, Option, Some, Ok, Result, ◌↔◌}
 use Rattle.nm_edge.specs.Layouts.{Layout, IsLayout}
 use Rattle.nm_edge.specs.declared.node.NodeId.{NodeId}
 use Rattle.nm_model.specs.Acts.{InSet}
@@ -12,13 +12,17 @@ use Rattle.nm_model.specs.Searches.{Search}
 use Rattle.nm_model.specs.declared.event.Event.{Event}
 use Rattle.nm_model.specs.declared.event.Event.TheVariants.{LeaveWith}
 use Rattle.nm_model.specs.declared.event.Op.TheVariants.{Delete}
+use Rattle.nm_model.specs.declared.reply.Reply.{Reply}
 use Rattle.nm_model.specs.declared.reply.Reply.TheVariants.{Cut}
+use Rattle.nm_model.specs.declared.reply.Refused.{Refused}
 use Rattle.nm_model.specs.declared.trace.Turn.{Turn}
 use Rattle.nm_laws.proofs.Configurations.{after_in-append}
 use Rattle.nm_order.specs.History.{pin_of}
 use Rattle.nm_order.specs.Intervals.{HasKey}
 use Rattle.nm_order.specs.Legal.{WasLegal}
-use Rattle.nm_order.proofs.CutTurns.{cut_is_splice, uncut_stays}
+use Rattle.nm_laws.proofs.Stays.{IsSplice, SpliceOrSwap}
+use Rattle.nm_order.proofs.CutTurns.{cut_is, uncut_stays}
+use Rattle.nm_order.proofs.SwapTurns.{swap_turn}
 use Rattle.nm_order.proofs.OrderedLaws.{IsOrdered, each_ordered}
 use Rattle.nm_order.proofs.OrderedMoments.{Lasting}
 use Rattle.nm_order.proofs.OwnTurns.{own_search}
@@ -49,6 +53,14 @@ begins {X = X} (x ∷ xs) (y ∷ ys) us vs e less =
 
 -- ---- turns that cut nothing off
 
+abbrev is_cut_outcome : Result Reply Refused → Bool
+is_cut_outcome (Ok (Cut ns)) = true
+is_cut_outcome _ = false
+
+cut_outcome_is : (o : Result Reply Refused) → is_cut_outcome o ≡ true → (ns : List NodeId) × (o ≡ Ok (Cut ns))
+cut_outcome_is (Ok (Cut ns)) is = (ns, refl)
+cut_outcome_is o is = absurd (true≢false (sym is))
+
 module _ (L : Layout) (enough : 5 ≤ L.nodes) where
   stays_uncut : (c : Configuration) (t : ℕ × Event) → HasKey t.1 → IsOrdered L c → ((ns : List NodeId) → outcome_in c t ≡ Ok (Cut ns) → ⊥) → (k : ℕ) → InSet c.state.memory k → InSet (next_in c t).state.memory k
   stays_uncut c t has o uncut k s = record {
@@ -58,10 +70,34 @@ module _ (L : Layout) (enough : 5 ≤ L.nodes) where
     has_key = ap (λ (l : Lasting). l.key) (turn_lasts L enough c t has o s.slot s.reached) ∙ s.has_key;
   }
 
-  cuts_none : (c : Configuration) (t : ℕ × Event) → IsOrdered L c → cuts_on t.1 (outcome_in c t) ≡ false → (ns : List NodeId) → outcome_in c t ≡ Ok (Cut ns) → ⊥
-  cuts_none c t o none ns is =
-      let e = cut_is_splice L enough c t o ns is in
-      true≢false (sym (ap (λ (v : Event). cuts_on v (Ok (Cut ns))) e.5) ∙ (ap (cuts_on t.1) (sym is) ∙ none))
+  -- a turn that is no won splice cuts nothing, or is a swap, which leaves the set as it is
+  pub uncut_or_same : (c : Configuration) (t : ℕ × Event) → IsOrdered L c
+      → ((ns : List NodeId) → outcome_in c t ≡ Ok (Cut ns) → IsSplice t.1 → ⊥)
+      → ((ns : List NodeId) → outcome_in c t ≡ Ok (Cut ns) → ⊥)
+      ⊎ ((k : ℕ) → InSet (next_in c t).state.memory k ↔ InSet c.state.memory k)
+  uncut_or_same c t o plain = on (is_cut_outcome (outcome_in c t)) refl
+    where
+      on : (b : Bool) → is_cut_outcome (outcome_in c t) ≡ b → ((ns : List NodeId) → outcome_in c t ≡ Ok (Cut ns) → ⊥)
+          ⊎ ((k : ℕ) → InSet (next_in c t).state.memory k ↔ InSet c.state.memory k)
+      on false is = inl (λ ns told. true≢false (sym (ap is_cut_outcome told) ∙ is))
+      on true is = let cut = cut_outcome_is (outcome_in c t) is in by cut.0 cut.1 (cut_is L enough c t o cut.0 cut.1)
+        where
+          by : (ns : List NodeId) → outcome_in c t ≡ Ok (Cut ns) → SpliceOrSwap t.1
+              → ((ns : List NodeId) → outcome_in c t ≡ Ok (Cut ns) → ⊥)
+              ⊎ ((k : ℕ) → InSet (next_in c t).state.memory k ↔ InSet c.state.memory k)
+          by ns told (inl splice) = absurd (plain ns told splice)
+          by ns told (inr (p, d, leaf, new, swap)) = inr (swap_turn L enough c t o p d leaf new swap ns told).set
+
+  stays_unspliced : (c : Configuration) (t : ℕ × Event) → HasKey t.1 → IsOrdered L c
+      → cuts_on t.1 (outcome_in c t) ≡ false
+      → (k : ℕ) → InSet c.state.memory k → InSet (next_in c t).state.memory k
+  stays_unspliced c t has o none k s =
+      elim (uncut_or_same c t o
+      (λ ns told e. true≢false (sym (ap (λ (v : Event). cuts_on v (Ok (Cut ns))) e.5)
+      ∙ (ap (cuts_on t.1) (sym told) ∙ none)))) [
+        | inl uncut ↦ stays_uncut c t has o uncut k s
+        | inr same ↦ (same k).1 s
+      ]
 
   -- if no turn cuts, no key goes
   keeps : (ts : List (ℕ × Event)) (c : Configuration) → IsOrdered L c → All (λ t. HasKey t.1) ts → cuts_in (trace_in c ts) ≡ 0 → (k : ℕ) → InSet c.state.memory k → InSet (after_in c ts).state.memory k
@@ -74,7 +110,7 @@ module _ (L : Layout) (enough : 5 ≤ L.nodes) where
 
       go : (b : Bool) → cuts_on t.1 (outcome_in c t) ≡ b → cond b 1 0 + cuts_in (trace_in (next_in c t) ts) ≡ 0 → (cuts_in (trace_in (next_in c t) ts) ≡ 0 → (j : ℕ) → InSet (next_in c t).state.memory j → InSet (after_in (next_in c t) ts).state.memory j) → InSet (after_in (next_in c t) ts).state.memory k
       go true is none rest = absurd (omega (arith, none))
-      go false is none rest = rest (omega (arith, none)) k (stays_uncut c t has o (cuts_none c t o is) k there)
+      go false is none rest = rest (omega (arith, none)) k (stays_unspliced c t has o is k there)
 
 -- ---- a moment at which it was found, and one at which it was gone
 

@@ -14,7 +14,9 @@ use Rattle.nm_epoch.specs.declared.collecting.Collected.{Collected}
 use Rattle.nm_epoch.specs.declared.collecting.Tally.{Tally}
 use Rattle.nm_epoch.specs.declared.handing.HandedOut.{HandedOut}
 use Rattle.nm_epoch.specs.Collecting.{AreHeld, AreTrimmed, Collects, HaveLost, IsQueueOf, KeepsOtherLedgers, KeepsRetired, capped, freed_more, freeing, ripe_of, ripe_part}
-use Rattle.nm_epoch.specs.Handing.{CollectsValues, HaveHandedOut}
+use Rattle.nm_epoch.specs.Handing.{CollectsValues, HaveHandedOut, WasFound, WasRead, WereRead}
+use Rattle.nm_calls.specs.HandedBack.{WasCutInner, WasCutWith}
+use Rattle.nm_tree.specs.Handing.{GiveBack, WereCutWith}
 use Rattle.nm_epoch.specs.Scans.{IsSightOf}
 use Rattle.nm_epoch.specs.Resting.{Settles, epochs}
 use Rattle.nm_walks.specs.WonCounts.{CountsWon}
@@ -22,7 +24,7 @@ use Rattle.nm_edge.specs.declared.placement.Fit.{Fit}
 use Rattle.nm_epoch.proofs.OneQueue.{both_parts}
 use Rattle.nm_tree.specs.Workers.{WorkerView, IsWorker, IsCounted, AreCounted, HasOrigin, AreAbove, Ascend, QueueStandsAt, log_held_of, ledger_in}
 use Rattle.nm_tree.proofs.HeldLedgers.{split_in_run, retired_alike}
-use Rattle.nm_tree.proofs.Numbers.{numbers_stay, resigned_stay, room_stays}
+use Rattle.nm_tree.proofs.Numbers.{numbers_stay, resigned_stay}
 use Rattle.nm_tree.proofs.OwnQueue.{quiet_of}
 use Rattle.nm_tree.proofs.Quiet.{Quiet, collected as collected_quietly}
 use Rattle.nm_tree.proofs.QueueLists.{few_trimmed, has_or_none, not_both}
@@ -57,7 +59,41 @@ have_lost epoch (h ∷ hs) (g ∷ gs) lost = (
   have_lost epoch hs gs lost.1,
 )
 
--- what was handed out
+-- what was handed out: each value that was read for a leaf is one with which the leaf was cut off
+were_cut : (o : ℕ) (p q : PassView) (es : List Entry) (vs : List ℕ)
+    → ((e : Entry) (v : ℕ) → WasRead o p q e v → WasCutWith q.view.layout q.view.past q.view.stores e.node v)
+    → ((e : Entry) → WasFound o p q e false → WasCutInner q.view.layout q.view.past e.node) → WereRead o p q es vs
+    → WereCutWith q.view es vs
+were_cut o p q [] vs back inner r = r
+were_cut o p q (e ∷ es) vs back inner (inl (other, rest)) = inl (inner e other, were_cut o p q es vs back inner rest)
+were_cut o p q (e ∷ es) vs back inner (inr (v, later, are, one, rest)) = inr
+    (v, later, are, back e v one, were_cut o p q es later back inner rest)
+
+pub gives_back : (epoch : ℕ) (p q : PassView) (hs gs : List HeldQueue) (es : List Entry) (vs : List ℕ)
+    → ((o : ℕ) (e : Entry) (v : ℕ) → WasRead o p q e v → WasCutWith q.view.layout q.view.past q.view.stores e.node v)
+    → ((o : ℕ) (e : Entry) → WasFound o p q e false → WasCutInner q.view.layout q.view.past e.node)
+    → HaveHandedOut epoch p q hs gs es vs → GiveBack epoch q.view hs gs es vs
+gives_back epoch p q [] [] es vs back inner d = d
+gives_back epoch p q [] (g ∷ gs) es vs back inner d = absurd d
+gives_back epoch p q (h ∷ hs) [] es vs back inner d = absurd d
+gives_back epoch p q (h ∷ hs) (g ∷ gs) es vs back inner (fs, ws, more, later, freed, values, one, rest) = (
+  fs,
+  ws,
+  more,
+  later,
+  freed,
+  values,
+  record {
+    parts = one.parts;
+    ripe = one.ripe;
+    back = were_cut h.origin p q fs ws (back h.origin)
+        (inner h.origin) one.read;
+    origin = one.origin;
+    counts = one.counts;
+  },
+  gives_back epoch p q hs gs more later back inner rest,
+)
+
 pub have_handed : (epoch : ℕ) (p q : PassView) (hs gs : List HeldQueue) (es : List Entry) (vs : List ℕ) → HaveHandedOut epoch p q hs gs es vs → HaveShed hs gs
 have_handed epoch p q [] [] es vs d = tt
 have_handed epoch p q [] (g ∷ gs) es vs d = absurd d
@@ -160,10 +196,10 @@ all_freed_counted p q (h ∷ hs) (g ∷ gs) same begun run quiet' retired was is
 
 -- a worker that was in a run, after a collection of all its queues: it freed these nodes, after a sight
 -- of this epoch
-shed : {r r' : ℕ} {f : Fit} (w : WorkerView) (home epoch : ℕ) (q : PassView) (gs : List HeldQueue) (es : List Entry) → r' ≡ r → IsWorker w home r → IsInRun w.pass → Continues w.pass q → HaveShed w.queues gs → AreTrimmed w.queues gs → AreHeld (knowledge q.view) gs
+shed : {f : Fit} (w : WorkerView) (home epoch : ℕ) (q : PassView) (gs : List HeldQueue) (es : List Entry) → IsWorker w home → IsInRun w.pass → Continues w.pass q → HaveShed w.queues gs → AreTrimmed w.queues gs → AreHeld (knowledge q.view) gs
     → (part : (mid : List LogEntry) × IsSightOf epoch w.pass.view.log mid × (q.view.log ≡ mid ++ map freeing es)) → KeepsOtherLedgers epoch w.queues (knowledge w.pass.view) (knowledge q.view) → KeepsRetired (knowledge w.pass.view) (knowledge q.view) → Settles w.pass q
-    → (knowledge q.view).drafts ≡ (knowledge w.pass.view).drafts → IsWorker (record { pass = q; queues = gs; pending = w.pending; held = w.held; fit = f }) home r'
-shed {r} {r'} {f} w home epoch q gs es same_room is begun on lost trimmed queues part others retired settles private' =
+    → (knowledge q.view).drafts ≡ (knowledge w.pass.view).drafts → IsWorker (record { pass = q; queues = gs; pending = w.pending; held = w.held; fit = f }) home
+shed {f} w home epoch q gs es is begun on lost trimmed queues part others retired settles private' =
     let same = on.same in
     let was = is.between.stands in
     let quiet' : Quiet w.pass.view.log q.view.log = collected_quietly w.pass.view.log part.0 q.view.log part.1.0 es part.1.2 part.2 in
@@ -183,15 +219,14 @@ shed {r} {r'} {f} w home epoch q gs es same_room is begun on lost trimmed queues
       numbers = numbers_stay w.pass q gs same (record { each = λ o has. is.numbers.each o (had_it o w.queues gs lost has); all = λ o has. has_still o w.queues gs lost (is.numbers.all o has) });
       resigned = resigned_stay w.pass q same is.resigned;
       alive = ap (λ (x : PassView). x.view.resigned) same ∙ is.alive;
-      room = let now = room_stays w.pass q r same is.room in omega (arith, now, same_room);
     }
 
-pub collected : {r r' nodes : ℕ} {f : Fit} {c : Collected} (w : WorkerView) (home : ℕ) (q : PassView) (gs : List HeldQueue) → r' ≡ r → IsWorker w home r → IsInRun w.pass → Collects nodes w.pass q w.queues gs c
-    → IsWorker (record { pass = q; queues = gs; pending = w.pending; held = w.held; fit = f }) home r'
-collected {c = c} w home q gs same_room is begun does =
-    shed w home c.epoch q gs (ripe_of c.epoch w.queues) same_room is begun does.on (have_lost c.epoch w.queues gs does.lost) does.blocks does.queues does.part does.others does.retired does.settles does.private
+pub collected : {nodes : ℕ} {f : Fit} {c : Collected} (w : WorkerView) (home : ℕ) (q : PassView) (gs : List HeldQueue) → IsWorker w home → IsInRun w.pass → Collects nodes w.pass q w.queues gs c
+    → IsWorker (record { pass = q; queues = gs; pending = w.pending; held = w.held; fit = f }) home
+collected {c = c} w home q gs is begun does =
+    shed w home c.epoch q gs (ripe_of c.epoch w.queues) is begun does.on (have_lost c.epoch w.queues gs does.lost) does.blocks does.queues does.part does.others does.retired does.settles does.private
 
-pub handed_out : {r r' nodes : ℕ} {f : Fit} {c : HandedOut} {room : Bool} {vs : List ℕ} (w : WorkerView) (home : ℕ) (q : PassView) (gs : List HeldQueue) → r' ≡ r → IsWorker w home r → IsInRun w.pass → CollectsValues nodes room w.pass q w.queues gs vs c
-    → IsWorker (record { pass = q; queues = gs; pending = w.pending; held = w.held; fit = f }) home r'
-handed_out {c = c} {vs = vs} w home q gs same_room is begun does =
-    shed w home c.epoch q gs does.freed same_room is begun does.on (have_handed c.epoch w.pass q w.queues gs does.freed vs does.handed) does.blocks does.queues does.part does.others does.retired does.settles does.private
+pub handed_out : {nodes : ℕ} {f : Fit} {c : HandedOut} {room : Bool} {vs : List ℕ} (w : WorkerView) (home : ℕ) (q : PassView) (gs : List HeldQueue) → IsWorker w home → IsInRun w.pass → CollectsValues nodes room w.pass q w.queues gs vs c
+    → IsWorker (record { pass = q; queues = gs; pending = w.pending; held = w.held; fit = f }) home
+handed_out {c = c} {vs = vs} w home q gs is begun does =
+    shed w home c.epoch q gs does.freed is begun does.on (have_handed c.epoch w.pass q w.queues gs does.freed vs does.handed) does.blocks does.queues does.part does.others does.retired does.settles does.private

@@ -43,3 +43,5 @@ pub mod Answered
 pub mod Unfreed
 pub mod MadeInTurns
 pub mod FullPools
+pub mod RunSums
+pub mod AddedUp

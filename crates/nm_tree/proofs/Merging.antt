@@ -1,5 +1,5 @@
 -- Queues of one worker among those of another, by origin.
-use Rattle.std.proofs.Common.{◌≡◌, ◌≢◌, ℕ, suc, ◌+◌, ◌<◌, ◌⊎◌, inl, inr, Bool, true, false, List, [], ◌∷◌, length, refl, sym, ap, arith}
+use Rattle.std.proofs.Common.{◌≡◌, ◌≢◌, ℕ, suc, ◌+◌, ◌<◌, ◌⊎◌, inl, inr, Bool, true, false, List, [], ◌∷◌, length, refl, sym, ap, ◌∙◌, arith}
 use Rattle.std.specs.Prelude.{nat_lt, if◌then◌else◌, insert}
 use Rattle.std.proofs.lemmas.Bool.Decides.{nat_tests}
 use Rattle.nm_model.specs.Knowledge.{Knowledge}
@@ -159,3 +159,16 @@ held_merged k hs (g ∷ gs) apart are more = held_inserted k g (merged hs gs) mo
 pub counted_merged : (v : View) (hs gs : List HeldQueue) → AreCounted v hs → AreCounted v gs → AreCounted v (merged hs gs)
 counted_merged v hs [] are more = are
 counted_merged v hs (g ∷ gs) are more = counted_inserted v g (merged hs gs) more.0 (counted_merged v hs gs are more.1)
+
+-- ---- all of them
+
+-- queues that ascend, among none
+pub merged_with_none : (hs : List HeldQueue) → Ascend hs → merged [] hs ≡ hs
+merged_with_none [] up = refl
+merged_with_none (g ∷ []) up = refl
+merged_with_none (g ∷ h ∷ hs) up =
+    ap (λ (l : List HeldQueue). inserted g l) (merged_with_none (h ∷ hs) up.1) ∙ first (nat_lt h.origin g.origin) refl
+  where
+    first : (b : Bool) → nat_lt h.origin g.origin ≡ b → (if b then h ∷ inserted g hs else g ∷ h ∷ hs) ≡ g ∷ h ∷ hs
+    first true is = let less = up.0 in absurd (grind (arith, nat_tests, is, less))
+    first false is = refl

@@ -1,5 +1,5 @@
--- The workers for whom a pass stands, and the room for their queues.
-use Rattle.std.proofs.Common.{◌≡◌, ℕ, ◌≤◌, ◌⊎◌, inl, inr, List, sym, ap, ◌∙◌, subst, arith}
+-- The workers for whom a pass stands.
+use Rattle.std.proofs.Common.{◌≡◌, ℕ, ◌⊎◌, inl, inr, List, sym, ap, ◌∙◌, subst}
 use Rattle.nm_edge.specs.Layouts.{Layout}
 use Rattle.nm_steps.specs.declared.view.Held.{Held}
 use Rattle.nm_steps.specs.Steps.{PassView, IsSamePass}
@@ -24,6 +24,3 @@ resigned_stay p q same are =
     let P : Layout → Type 0 = λ L. HoldNoSlot L p.view.others in
     let Q : List Held → Type 0 = λ hs. HoldNoSlot q.view.layout hs in
     subst Q (sym (ap (λ (x : PassView). x.view.others) same)) (subst P (sym (ap (λ (x : PassView). x.view.layout) same)) are)
-
-pub room_stays : (p q : PassView) (r : ℕ) → IsSamePass p q → p.view.layout.workers ≤ r → q.view.layout.workers ≤ r
-room_stays p q r same room = let e = ap (λ (x : PassView). x.view.layout.workers) same in omega (arith, e, room)

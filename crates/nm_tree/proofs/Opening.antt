@@ -1,5 +1,5 @@
 -- Workers that have done nothing yet.
-use Rattle.std.proofs.Common.{◌≡◌, ℕ, zero, suc, ◌<◌, ◌≤◌, List, [], ◌∷◌, ◌++◌, length, refl, sym, ap, ◌∙◌, subst, arith}
+use Rattle.std.proofs.Common.{◌≡◌, ℕ, zero, suc, ◌<◌, List, [], ◌∷◌, ◌++◌, length, refl, sym, ap, ◌∙◌, subst, arith}
 use Rattle.std.specs.Prelude.{reverse, slice_index_or}
 use Rattle.std.proofs.lemmas.List.{reverse-append}
 use Rattle.nm_edge.specs.Layouts.{Layout}
@@ -7,7 +7,7 @@ use Rattle.nm_steps.specs.declared.view.View.{View}
 use Rattle.nm_steps.specs.Steps.{TreeView, PassView, AreFresh, fresh_view}
 use Rattle.nm_edge.specs.declared.placement.Fit.{Fit}
 use Rattle.nm_tree.specs.Calls.{MayCall}
-use Rattle.nm_tree.specs.Workers.{WorkerView, HaveFit, HaveWorkers, IsFresh, AreAllFresh, IsNewWorker, AreMade, AreNew}
+use Rattle.nm_tree.specs.Workers.{WorkerView, HaveFit, IsFresh, AreAllFresh, IsNewWorker, AreMade, AreNew}
 
 -- ---- one worker
 
@@ -21,15 +21,6 @@ pub all_fresh : (b : TreeView) (k : ℕ) (ps : List PassView) → AreFresh b k p
 all_fresh b k [] are = tt
 all_fresh b k (p ∷ ps) are =
     ((k, are.1 ∙ ap (λ (L : Layout). fresh_view L k) (sym (ap (λ (v : View). v.layout) are.1))), all_fresh b (suc k) ps are.2)
-
--- their tree has as many workers as there are passes
-pub have_workers : (b : TreeView) (k n : ℕ) (ps : List PassView) → b.layout.workers ≤ n → AreFresh b k ps → HaveWorkers n ps
-have_workers b k n [] enough are = tt
-have_workers b k n (p ∷ ps) enough are = ((let e = ap (λ (v : View). v.layout.workers) are.1 in omega (arith, e, enough)), have_workers b (suc k) n ps enough are.2)
-
-pub have_before : (n : ℕ) (ps : List PassView) (p : PassView) → HaveWorkers n (ps ++ p ∷ []) → HaveWorkers n ps × (p.view.layout.workers ≤ n)
-have_before n [] p are = (tt, are.0)
-have_before n (q ∷ ps) p are = let rest = have_before n ps p are.1 in ((are.0, rest.0), rest.1)
 
 pub all_new : (f : Fit) (b : TreeView) (k : ℕ) (ps : List PassView) (ws : List WorkerView) → AreFresh b k ps → AreMade f ps ws → AreNew b k ws
 all_new f b k [] [] fresh made = tt

@@ -93,7 +93,7 @@ resting_workers_have_nothing_pending w seen none others =
 
 -- ---- the end of a tree
 
-module _ (L : Layout) (words : List ℕ) (e : IsEndOf L words) (w : WorkerView) (home r : ℕ) (is : IsWorker w home r) (is_shown : IsShown L (trace_in (ordered L) e.turns) w.pass.view)
+module _ (L : Layout) (words : List ℕ) (e : IsEndOf L words) (w : WorkerView) (home : ℕ) (is : IsWorker w home) (is_shown : IsShown L (trace_in (ordered L) e.turns) w.pass.view)
     (each : AreFrom 0 w.queues) (all : length w.queues ≡ L.workers) (ws : List WorkerView) (stands : StandsForAll ws w.pass.view) (some : 1 ≤ length ws) where
   quiet : (us : List WorkerView) → 1 ≤ length us → HaveNothingPending us → AreQuiet (logs (all_joined us))
   quiet [] none rest = absurd (omega (arith, none))
@@ -103,5 +103,5 @@ module _ (L : Layout) (words : List ℕ) (e : IsEndOf L words) (w : WorkerView) 
   settles rest u less =
       let told : AreQuiet (logs w.pass.view) = subst (λ (v : View). AreQuiet (logs v)) (sym stands) (quiet ws some rest) in
       leaf_is_told u idle (trace_in (ordered L) e.turns)
-      ∙ one_quiet w.pass.view.layout L (trace_in (ordered L) e.turns) (logs w.pass.view) (are L words e w home r is is_shown each all) told u
-      (there L words e w home r is is_shown each all u less)
+      ∙ one_quiet w.pass.view.layout L (trace_in (ordered L) e.turns) (logs w.pass.view) (are L words e w home is is_shown each all) told u
+      (there L words e w home is is_shown each all u less)

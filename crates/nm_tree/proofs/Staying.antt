@@ -30,7 +30,7 @@ use Rattle.nm_tree.specs.declared.worker.Standing.{Standing}
 use Rattle.nm_tree.specs.declared.worker.Standing.TheVariants as standing
 use Rattle.nm_calls.specs.declared.deleting.Unfinished.{Unfinished}
 use Rattle.nm_tree.specs.Workers.{WorkerView, pending_in, held_in, IsAs, IsHolding, IsWorker, QueueStandsAt}
-use Rattle.nm_tree.proofs.Numbers.{numbers_stay, resigned_stay, room_stays}
+use Rattle.nm_tree.proofs.Numbers.{numbers_stay, resigned_stay}
 use Rattle.nm_tree.proofs.OwnQueue.{all_counted_still, quiet_of}
 use Rattle.nm_tree.proofs.Quiet.{Quiet}
 
@@ -44,10 +44,10 @@ all_held k l (h ∷ hs) same are = (queue_stays k l h.origin h.queue.items (ap (
 -- ---- a whole worker
 
 -- nothing in its hands has changed, and nothing was won
-pub stays : {r : ℕ} {f : Fit} (w : WorkerView) (home : ℕ) (q : PassView) (n : Option Unfinished) (e : Option ℕ) → IsWorker w home r → IsSamePass w.pass q → Quiet w.pass.view.log q.view.log
+pub stays : {f : Fit} (w : WorkerView) (home : ℕ) (q : PassView) (n : Option Unfinished) (e : Option ℕ) → IsWorker w home → IsSamePass w.pass q → Quiet w.pass.view.log q.view.log
     → (knowledge q.view).drafts ≡ (knowledge w.pass.view).drafts → (knowledge q.view).ledgers ≡ (knowledge w.pass.view).ledgers → IsAs q n e
-    → IsWorker (record { pass = q; queues = w.queues; pending = n; held = e; fit = f }) home r
-stays {r} w home q n e is same none' drafts ledgers stands =
+    → IsWorker (record { pass = q; queues = w.queues; pending = n; held = e; fit = f }) home
+stays w home q n e is same none' drafts ledgers stands =
     let P : ℕ → Type 0 = λ number. QueueStandsAt home number w.queues in
     record {
       between = record {
@@ -64,7 +64,6 @@ stays {r} w home q n e is same none' drafts ledgers stands =
       numbers = numbers_stay w.pass q w.queues same is.numbers;
       resigned = resigned_stay w.pass q same is.resigned;
       alive = ap (λ (x : PassView). x.view.resigned) same ∙ is.alive;
-      room = room_stays w.pass q r same is.room;
     }
 
 -- ---- where it stands
@@ -159,10 +158,10 @@ pub rests_as : (p : PassView) (s : Standing) → s ≡ standing.Resting → IsRe
 rests_as p s is rests = let P : Standing → Type 0 = λ x. IsAs p (pending_in x) (held_in x) in subst P (sym is) rests
 
 -- nor does it have or win anything behind a call with which it rests again
-pub stays_resting : {r : ℕ} {f g : Fit} (p q : PassView) (hs : List HeldQueue) (s : Standing) (home : ℕ) → s ≡ standing.Resting
-    → IsWorker (record { pass = p; queues = hs; pending = pending_in s; held = held_in s; fit = f }) home r → IsSamePass p q → Quiet p.view.log q.view.log → KeepsHands p q → IsResting q
-    → IsWorker (record { pass = q; queues = hs; pending = pending_in s; held = held_in s; fit = g }) home r
-stays_resting {r} {f} {g} p q hs s home at is same quiet hands rests =
+pub stays_resting : {f g : Fit} (p q : PassView) (hs : List HeldQueue) (s : Standing) (home : ℕ) → s ≡ standing.Resting
+    → IsWorker (record { pass = p; queues = hs; pending = pending_in s; held = held_in s; fit = f }) home → IsSamePass p q → Quiet p.view.log q.view.log → KeepsHands p q → IsResting q
+    → IsWorker (record { pass = q; queues = hs; pending = pending_in s; held = held_in s; fit = g }) home
+stays_resting {f} {g} p q hs s home at is same quiet hands rests =
     stays (record { pass = p; queues = hs; pending = pending_in s; held = held_in s; fit = f }) home q (pending_in s) (held_in s) is same quiet hands.private (hands.ledgers (rests_in p s at is.between.stands).labelled) (rests_as q s at rests)
 
 -- and then no delete was pending, and none is
@@ -195,7 +194,7 @@ as_was q p (Some n) None is = record {
 as_was q p (Some n) (Some e) is = absurd is
 
 -- it has done nothing, and is a worker as it was
-pub sees_more : {r : ℕ} (q : PassView) (w : WorkerView) (home : ℕ) → IsWorker w home r → IsWorker (record w { pass = seeing q w.pass }) home r
+pub sees_more : (q : PassView) (w : WorkerView) (home : ℕ) → IsWorker w home → IsWorker (record w { pass = seeing q w.pass }) home
 sees_more q w home is =
     stays w home (seeing q w.pass) w.pending w.held is refl (record { links = refl; flags = refl; splices = refl }) refl refl (as_was q w.pass w.pending w.held is.between.stands)
 

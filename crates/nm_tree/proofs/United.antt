@@ -47,6 +47,13 @@ no_drafts (d ∷ ds) none' = absurd (none-some d.1 (sym (none' d.0) ∙ first (a
 pub empty_hands : (u : WorkerView) → IsBetweenCalls u → HasEmptyHands (knowledge u.pass.view)
 empty_hands u is = record { drafts = no_drafts (knowledge u.pass.view).drafts is.private; labelled = labelled u.pass u.pending u.held is.stands }
 
+-- ---- how many queues it has
+
+pub few_own : (p : WorkerView) (home : ℕ) → IsWorker p home → IsInRun p.pass → length p.queues ≤ p.pass.view.layout.workers
+few_own p home is run =
+    let L = p.pass.view.layout in
+    few L (knowledge p.pass.view) (hands_are_apart L (let least = run.fits.least in omega (arith, least)) p.pass.view.number p.pass.view.log run.run.is_part) p.queues is.between.queues
+
 -- ---- who has resigned
 
 gone : (w : View) → known_by w.layout w.number (w.log ++ passing w ∷ []) ≡ resigned (knowledge w)
@@ -96,7 +103,7 @@ logs_have v w o (inr has) = elim (part v.others has) [
       | inr back ↦ inr back
     ]
 
-module _ {r r' : ℕ} (p u : WorkerView) (home home' : ℕ) (is : IsWorker p home r) (more : IsWorker u home' r') (same : p.pass.view.layout ≡ u.pass.view.layout)
+module _ (p u : WorkerView) (home home' : ℕ) (is : IsWorker p home) (more : IsWorker u home') (same : p.pass.view.layout ≡ u.pass.view.layout)
     (run : StandsInRun (joined p.pass.view u.pass.view)) where
   abbrev v : View
   v = p.pass.view
@@ -168,7 +175,7 @@ module _ {r r' : ℕ} (p u : WorkerView) (home home' : ℕ) (is : IsWorker p hom
     | inr second ↦ has_merged o p.queues u.queues (inr (more.numbers.all o second))
   ]
 
-  pub united : IsWorker (record { pass = q; queues = all; pending = p.pending; held = p.held; fit = p.fit }) (place_in v.number all) r
+  pub united : IsWorker (record { pass = q; queues = all; pending = p.pending; held = p.held; fit = p.fit }) (place_in v.number all)
   united = record {
     between = record {
       queues = are_held;
@@ -186,5 +193,4 @@ module _ {r r' : ℕ} (p u : WorkerView) (home home' : ℕ) (is : IsWorker p hom
     resigned = let P : Layout → Type 0 = λ L. HoldNoSlot L (held_log w.number (w.log ++ passing w ∷ []) ∷ w.others) in
         hold_no_slot v.layout v.others (held_log w.number (w.log ++ passing w ∷ []) ∷ w.others) is.resigned (subst P (sym same) (no_slot w (empty_hands u more.between), more.resigned));
     alive = is.alive;
-    room = is.room;
   }

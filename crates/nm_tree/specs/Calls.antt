@@ -24,7 +24,7 @@ use Rattle.nm_walks.specs.AddedLooks.{AddsLooks}
 use Rattle.nm_walks.specs.Bounds.{reach}
 use Rattle.nm_calls.specs.Bounds.{IsWithinBound, IsWithinClaims}
 use Rattle.nm_calls.specs.InTurns.{WasSo, key_of, GiveUp as GiveUpInTurns}
-use Rattle.nm_calls.specs.Maps.{MapGave, MapGivesUnderPin}
+use Rattle.nm_calls.specs.Maps.{MapGave, MapGaveUnderPin}
 use Rattle.nm_calls.specs.Moments.{AnswerHasMoment}
 use Rattle.nm_calls.specs.NearKeys.{WasNear, GiveUp}
 use Rattle.nm_calls.specs.PlainWalks.{most_looks}
@@ -150,13 +150,14 @@ pub record LeavesGet (L : Layout) (tries k : ℕ) (w z : WorkerView) (r : Result
   pub fit : z.fit ≡ w.fit
 
 -- `LeavesPinnedGet`: the same for a look-up of a value by a worker that its caller has pinned. The map
--- gave its answer at a moment of that pin. The call is busy only if its walk gave up
+-- gave its answer at a moment (linearization point) of the call. The call is busy only if its walk
+-- gave up
 pub record LeavesPinnedGet (L : Layout) (k : ℕ) (w z : WorkerView) (r : Result (Option ℕ) CallFault) : Type 0 where
   pub same : IsSamePass w.pass z.pass
   pub past : HasSeenAllOf z.pass w.pass
   pub did : AddsLooks (most_looks (reach L) 1) w.pass.view.log z.pass.view.log
   pub gave : IfErr r (λ e. (e ≡ fault.Busy) × GiveUpInTurns L (k ∷ []) w.pass.view.log z.pass.view.log)
-  pub moment : IfOk r (MapGivesUnderPin z.pass k)
+  pub moment : IfOk r (MapGaveUnderPin w.pass z.pass k)
   pub won : HasWon w.pass.view.log z.pass.view.log 0 0
   pub place : KeepsPlace w z
   pub queues : z.queues ≡ w.queues
@@ -172,7 +173,7 @@ pub record LeavesPinnedGetMany (L : Layout) (old new : List Query) (w z : Worker
   pub gave : IfErr r
       (λ e. (e ≡ fault.Busy) × GiveUpInTurns L (map key_of old) w.pass.view.log z.pass.view.log)
   pub keys : map key_of new ≡ map key_of old
-  pub moment : IfOk r (λ u. All (λ q. MapGivesUnderPin z.pass q.key (answer_of q)) new)
+  pub moment : IfOk r (λ u. All (λ q. MapGaveUnderPin w.pass z.pass q.key (answer_of q)) new)
   pub won : HasWon w.pass.view.log z.pass.view.log 0 0
   pub place : KeepsPlace w z
   pub queues : z.queues ≡ w.queues

@@ -1,5 +1,5 @@
 -- The close of a tree: what the report says, and what follows from it.
-use Rattle.std.specs.Prelude.{◌≡◌, ◌<◌, ◌≤◌, ◌↔◌, ◌+◌, ◌-◌, ◌==◌, ◌&&◌, ℕ, suc, true, false, length, filter, sum_by, List, [], ◌∷◌, ◌++◌, map, Bool, Option, Some, option_map, unwrap_or, Ok, All, AllPairs, Contains, slice_get, if◌then◌else◌}
+use Rattle.std.specs.Prelude.{◌≡◌, ◌<◌, ◌≤◌, ◌↔◌, ◌+◌, ◌-◌, ◌==◌, ◌&&◌, ℕ, suc, true, false, length, filter, sum_by, List, [], ◌∷◌, ◌++◌, map, Bool, Option, None, Some, option_map, unwrap_or, Ok, All, AllPairs, Contains, slice_get, if◌then◌else◌}
 use Rattle.nm_edge.specs.Keys.{IsKey}
 use Rattle.nm_edge.specs.Layouts.{Layout}
 use Rattle.nm_edge.specs.declared.edge.Side.{Side}
@@ -124,6 +124,17 @@ abbrev pub KeysAreTheTotals : Layout → List Turn → List ℕ → Type 0
 KeysAreTheTotals L turns kept = NonePends L turns → (k : ℕ) → IsKey k
     → Agree (how_often Insert k [] turns) (how_often Delete k [] turns) (Contains kept k)
 
+-- how many links (`Insert`) or flags (`Delete`) were won in these turns
+abbrev pub won_in : Op → List Turn → ℕ
+won_in op [] = 0
+won_in op (t ∷ ts) = (if wins op t.event t.outcome then 1 else 0) + won_in op ts
+
+-- if no worker has a call after these turns, they have won as many links as flags and keys that are
+-- left
+abbrev pub KeysAddUp : List Turn → List ℕ → Type 0
+KeysAddUp turns kept = ((w : ℕ) → call_begun w turns ≡ None)
+    → won_in Insert turns ≡ won_in Delete turns + length kept
+
 -- What a caller learns from a closed tree. There are turns that extend what each worker that was
 -- given had seen, and after which it made only joins. So these turns have all answers that it got,
 -- and no others. The theorem holds for these turns and the report. The report has one queue for
@@ -131,7 +142,7 @@ KeysAreTheTotals L turns kept = NonePends L turns → (k : ℕ) → IsKey k
 -- order. It counts the slots in the pool, and the slots reached from the root without the five
 -- fixed ones. These and the waiting nodes are all nodes but the five. If the workers that were
 -- given had nothing pending, no delete is pending. If no delete is pending, the links and flags
--- decide which keys the report has
+-- decide which keys the report has, and if no worker has a call, how many
 pub record SaysClosed (b : TreeView) (ws : List WorkerView) (queues : List HeldQueue) (kept : List ℕ)
     (free reached : ℕ) : Type 0 where
   pub words : List ℕ
@@ -148,6 +159,7 @@ pub record SaysClosed (b : TreeView) (ws : List WorkerView) (queues : List HeldQ
   pub sum : free + reached + waiting_in queues ≡ b.layout.nodes - 5
   pub rested : HaveNothingPending ws → NonePends b.layout turns
   pub totals : KeysAreTheTotals b.layout turns kept
+  pub add_up : KeysAddUp turns kept
 
 -- ---- what follows for each closed tree
 

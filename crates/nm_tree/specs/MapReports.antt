@@ -1,17 +1,17 @@
 -- The close of a map: the value under each key that is left, and the values that wait.
-use Rattle.std.specs.Prelude.{◌≡◌, ◌-◌, ◌≤◌, ℕ, zero, suc, true, List, [], ◌∷◌, ◌++◌, length, map, slice_get, slice_index, All, Option, None}
+use Rattle.std.specs.Prelude.{◌≡◌, ◌-◌, ◌≤◌, ◌&&◌, ℕ, zero, suc, nat_lt, Bool, true, false, List, [], ◌∷◌, length, map, slice_get, slice_index, All, Option, None}
 use Rattle.nm_edge.specs.Layouts.{Layout}
-use Rattle.nm_edge.specs.Words.{IsSlot}
+use Rattle.nm_edge.specs.Words.{IsSlot, at_edge, word, words as all_words}
+use Rattle.nm_edge.specs.declared.edge.Side.TheVariants.{Left}
 use Rattle.nm_model.specs.declared.trace.Turn.{Turn}
 use Rattle.nm_model.specs.Memory.{Memory, is_leaf, node}
 use Rattle.nm_model.specs.Paths.{Reached}
 use Rattle.nm_steps.specs.declared.view.Stored.{Stored}
 use Rattle.nm_steps.specs.Rules.{ExtendsStores}
-use Rattle.nm_steps.specs.Steps.{TreeView}
+use Rattle.nm_steps.specs.Steps.{EndedWords, TreeView}
 use Rattle.nm_epoch.specs.declared.collecting.Entry.{Entry}
 use Rattle.nm_epoch.specs.declared.collecting.HeldQueue.{HeldQueue}
-use Rattle.nm_epoch.specs.Handing.{leaves_of}
-use Rattle.nm_calls.specs.HandedBack.{WasCutWith}
+use Rattle.nm_calls.specs.HandedBack.{WasCutInner, WasCutWith}
 use Rattle.nm_calls.specs.Maps.{HoldsStores, IsInMap}
 use Rattle.nm_tree.specs.Closing.{SaysClosed}
 use Rattle.nm_tree.specs.Workers.{WorkerView}
@@ -40,11 +40,26 @@ abbrev pub value_at_slot : List ℕ → ℕ → Option ℕ
 value_at_slot values zero = None
 value_at_slot values (suc x) = slice_get values x
 
+-- the left edge of a slot leads to no node, by these words of a closed tree
+abbrev pub is_bare_in : Layout → List ℕ → ℕ → Bool
+is_bare_in L core x = nat_lt (slice_index core (word L (at_edge x Left))) 4
+
 -- what clauses see of the values of a closed map: the value under each key, in the order of the
--- keys, and the value of each slot, from 1 on
+-- keys, the value of each slot, from 1 on, and the other words of the tree, with its sizes
 pub record MapValuesView : Type 0 where
   pub keyed : List ℕ
   pub slots : List ℕ
+  pub core : List ℕ
+  pub layout : Layout
+
+-- `bare_of`, `is_leaf_at`: whether the left edge of a slot leads to no node; and whether there is such a
+-- slot too
+abbrev pub bare_of : MapValuesView → ℕ → Bool
+bare_of v x = is_bare_in v.layout v.core x
+
+abbrev pub is_leaf_at : MapValuesView → ℕ → Bool
+is_leaf_at v zero = false
+is_leaf_at v (suc x) = nat_lt x (length v.slots) && bare_of v (suc x)
 
 -- ---- what a closed map says
 
@@ -59,38 +74,40 @@ AreInMap L turns stores _ _ = ⊥
 abbrev pub StoresGoOnFromAll : List Stored → List WorkerView → Type 0
 StoresGoOnFromAll stores ws = All (λ (w : WorkerView). ExtendsStores stores w.pass.view.stores) ws
 
--- the leaf waits: it was cut off, and its slot has the value that it had right before the cut
-pub record WaitsWith (L : Layout) (turns : List Turn) (stores : List Stored) (slots : List ℕ) (e : Entry) : Type 0 where
+-- the node waits: it was cut off. If its slot is bare, it was a leaf then, and its slot has the value
+-- that it had right before the cut. If not, it was no leaf
+pub record Waits (L : Layout) (turns : List Turn) (stores : List Stored) (slots : List ℕ) (bare : ℕ → Bool)
+    (e : Entry) : Type 0 where
   pub slot : IsSlot L e.node.slot
-  pub cut : WasCutWith L turns stores e.node (value_in slots e.node.slot)
-
--- all leaves that wait in these queues, queue by queue
-abbrev pub leaves_in : List HeldQueue → List Entry
-leaves_in [] = []
-leaves_in (h ∷ hs) = leaves_of 0 h.queue.items ++ leaves_in hs
+  pub leaf : bare e.node.slot ≡ true
+      → WasCutWith L turns stores e.node (value_in slots e.node.slot)
+  pub inner : bare e.node.slot ≡ false → WasCutInner L turns e.node
 
 -- The values of a closed map, by all stores of its run. These extend what each worker that was given
 -- had seen of stores. Each key of the report is in the map with the value at its place. Each slot has
--- a value. That of a leaf which waits is the one that the leaf had right before it was cut off
+-- a value. That of a leaf which waits is the one that the leaf had right before it was cut off. A node
+-- that waits is a leaf if its slot is bare
 pub record LeavesValues (L : Layout) (ws : List WorkerView) (turns : List Turn)
-    (queues : List HeldQueue) (kept keyed slots : List ℕ) : Type 0 where
+    (queues : List HeldQueue) (kept keyed slots : List ℕ) (bare : ℕ → Bool) : Type 0 where
   pub stores : List Stored
   pub go_on : StoresGoOnFromAll stores ws
   pub holds : HoldsStores L turns turns stores
   pub long : length slots ≡ L.nodes
   pub each : AreInMap L turns stores kept keyed
-  pub waiting : All (WaitsWith L turns stores slots) (leaves_in queues)
+  pub waiting : All (λ h. All (Waits L turns stores slots bare) h.queue.items) queues
 
--- what the end of a map leaves, with the slot of the leaf of each key, and the number of slots
+-- what the end of a map leaves, with the slot of the leaf of each key, its words, and its sizes
 pub record EndsMap (b : TreeView) (ws : List WorkerView) (queues : List HeldQueue)
-    (kept leaves slots : List ℕ) (nodes free reached : ℕ) : Type 0 where
+    (kept leaves : List ℕ) (words : EndedWords) (layout : Layout) (free reached : ℕ) : Type 0 where
   pub says : SaysClosed b ws queues kept free reached
-  pub all : nodes ≡ length slots
-  pub within : All (λ (x : ℕ). (1 ≤ x) × (x ≤ length slots)) leaves
-  pub values : LeavesValues b.layout ws says.turns queues kept (map (value_in slots) leaves) slots
+  pub all : layout.nodes ≡ length words.values
+  pub laid : length words.core ≡ all_words layout
+  pub within : All (λ (x : ℕ). (1 ≤ x) × (x ≤ length words.values)) leaves
+  pub values : LeavesValues b.layout ws says.turns queues kept (map (value_in words.values) leaves)
+      words.values (is_bare_in layout words.core)
 
 -- what a caller learns from a closed map: what it learns from a closed tree, and the values
 pub record SaysMapClosed (b : TreeView) (ws : List WorkerView) (queues : List HeldQueue)
-    (kept keyed slots : List ℕ) (free reached : ℕ) : Type 0 where
+    (kept keyed slots : List ℕ) (bare : ℕ → Bool) (free reached : ℕ) : Type 0 where
   pub says : SaysClosed b ws queues kept free reached
-  pub values : LeavesValues b.layout ws says.turns queues kept keyed slots
+  pub values : LeavesValues b.layout ws says.turns queues kept keyed slots bare

@@ -39,10 +39,11 @@ pub record HasResigned (heir leaver z : WorkerView) : Type 0 where
   pub fit : z.fit ≡ heir.fit
   pub between : IsBetweenCalls z
 
--- why a worker may not resign (Fraser, section 5.2.3, lists of nodes that are passed on; by origin
--- ours)
+-- why a worker may not resign; for want of memory for the queues, if it is free (Fraser, section
+-- 5.2.3, lists of nodes that are passed on; by origin ours)
 abbrev pub IsReason : WorkerView → ResignReason → Type 0
 IsReason leaver because.Held = IsSome leaver.held
 IsReason leaver because.Pending = (leaver.held ≡ None) × IsSome leaver.pending
 IsReason leaver because.Number = ⊥
 IsReason leaver because.Attached = ⊥
+IsReason leaver because.NoMemory = (leaver.held ≡ None) × (leaver.pending ≡ None)

@@ -220,8 +220,8 @@ HoldNoSlot L (h ∷ hs) = (length (known_by L h.number h.log).drafts ≡ 0) × H
 
 -- the worker has at most 64 queues, with the right counts, and its own one has the index `home`; it
 -- has not resigned; the queues are those of the workers that its view covers, and those that
--- resigned hold no private slots; there is room for r queues, enough for one of each worker
-pub record IsWorker (w : WorkerView) (home r : ℕ) : Type 0 where
+-- resigned hold no private slots
+pub record IsWorker (w : WorkerView) (home : ℕ) : Type 0 where
   pub between : IsBetweenCalls w
   pub counted : AreCounted w.pass.view w.queues
   pub few : length w.queues ≤ 64
@@ -229,7 +229,6 @@ pub record IsWorker (w : WorkerView) (home r : ℕ) : Type 0 where
   pub alive : w.pass.view.resigned ≡ false
   pub numbers : AreOf w.pass.view w.queues
   pub resigned : HoldNoSlot w.pass.view.layout w.pass.view.others
-  pub room : w.pass.view.layout.workers ≤ r
 
 -- these are worker k, worker k + 1, and so on, which have done nothing yet
 abbrev pub AreNew : TreeView → ℕ → List WorkerView → Type 0
@@ -246,11 +245,6 @@ IsFresh p = (k : ℕ) × (p.view ≡ fresh_view p.view.layout k)
 abbrev pub AreAllFresh : List PassView → Type 0
 AreAllFresh [] = Unit {0}
 AreAllFresh (p ∷ ps) = IsFresh p × AreAllFresh ps
-
--- each of these passes is of a tree with at most n workers
-abbrev pub HaveWorkers : ℕ → List PassView → Type 0
-HaveWorkers n [] = Unit {0}
-HaveWorkers n (p ∷ ps) = (p.view.layout.workers ≤ n) × HaveWorkers n ps
 
 -- each of these workers claims by that fit
 abbrev pub HaveFit : Fit → List WorkerView → Type 0

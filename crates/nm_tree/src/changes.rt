@@ -113,9 +113,10 @@ impl Tree {
     }
 
     /// Deletes `key` as `delete` does. In a tree with values it writes the value that the key had to
-    /// `taken`, if it returns true or `Unfinished`. Proved (`takes`): the worker has then flagged a
-    /// leaf with the key, and the map had the key with the value, in the slot of this leaf, at a
-    /// moment of the call. The value comes back by `collect_values` too, once nobody can read it.
+    /// `taken`, if it returns true or `Unfinished`. Proved (`takes`): this call has then flagged a
+    /// leaf, and right before that the map had the key with the value in this very leaf. So it is the
+    /// value of this delete in each history of the map (`taken_values_are_of_their_acts` of
+    /// `nm_calls`). It comes back by `collect_values` too, once nobody can read it.
     ///
     /// Errors and cost are those of `delete`. (The delete of Natarajan and Mittal, section 3.2.)
     pub fn delete_with_value(

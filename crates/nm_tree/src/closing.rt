@@ -1,5 +1,5 @@
 //! The close of a tree.
-ghost use Rattle.std.specs.Prelude.{◌≡◌, ◌<◌, ◌≤◌, All, length, min, IfOk, IfErr};
+ghost use Rattle.std.specs.Prelude.{◌≡◌, ◌<◌, ◌≤◌, [], All, length, min, vec_capacity, IfOk, IfErr};
 ghost use Rattle.nm_steps.specs.Steps.{HasSeen, IsOf};
 ghost use Rattle.nm_steps.specs.Values.{HasValues};
 ghost use Rattle.nm_order.specs.History.{RunHasHistory};
@@ -12,10 +12,10 @@ ghost use Rattle.nm_tree.specs.Once.{EachReachedNodeEndsOnce, EachStoredValueEnd
 ghost use Rattle.nm_tree.specs.Workers.{WorkerView};
 
 use crate::reporting::{Found, ReportRoom, read};
-use crate::resigning::unite;
+use crate::resigning::{Heir, unite};
 use crate::tree::Tree;
 use crate::worker::Worker;
-use nm_edge::Key;
+use nm_edge::{Key, Layout};
 use nm_epoch::HeldQueue;
 use nm_steps::{Shared, Words};
 use thiserror::Error;
@@ -26,7 +26,7 @@ pub enum CloseReason {
     /// Fewer workers were given than the tree has. Those that resigned count with their heirs.
     #[error("{given} of {made} workers were given")]
     NotAll { given: u32, made: u32 },
-    /// The room of the report was refused.
+    /// The room of the report, or of its queues, was refused.
     #[error("there is no memory for the report")]
     NoMemory,
     /// A member of the set is not closed yet, or is being closed at this moment. Only the close of
@@ -66,8 +66,8 @@ pub struct Ended {
     pub leaves: Vec<u32>,
     /// The words of the tree, with the value of each slot, if it has values.
     pub words: Words,
-    /// The number of slots of the tree.
-    pub nodes: u32,
+    /// The sizes of the tree.
+    pub layout: Layout,
 }
 
 impl Ended {
@@ -79,7 +79,7 @@ impl Ended {
             report,
             leaves: _,
             words: _,
-            nodes: _,
+            layout: _,
         } = self;
         report
     }
@@ -91,7 +91,7 @@ impl Tree {
     /// given with its heir.
     ///
     /// Errors: `NotAll`: fewer workers were given than the tree has. `NoMemory`: the room of the
-    /// report was refused. The tree and its workers are given back unchanged.
+    /// report, or of its queues, was refused. The tree and its workers are given back unchanged.
     ///
     /// Cost: at most one step for each worker, and none for the last. All memory is taken before
     /// the first step.
@@ -99,8 +99,6 @@ impl Tree {
         requires own { AreAllOf self workers.items }
         ensures says { IfOk result
             (λ r. SaysClosed self workers.items r.queues.items r.keys.items r.free r.reached) }
-        ensures closed { IfOk result
-            (λ r. IsClosed self workers.items r.queues.items r.keys.items r.free r.reached) }
         ensures refused { IfErr result
             (λ e. IsCloseReason self workers.items e.reason × (e.tree ≡ self)
             × (e.workers.items ≡ workers.items)) }
@@ -119,7 +117,7 @@ impl Tree {
         ensures closed { IfOk result (λ r. IsClosed self workers.items r.report.queues.items
             r.report.keys.items r.report.free r.report.reached) }
         ensures values { HasValues self → IfOk result (λ r. EndsMap self workers.items
-            r.report.queues.items r.report.keys.items r.leaves.items r.words.values r.nodes
+            r.report.queues.items r.report.keys.items r.leaves.items r.words r.layout
             r.report.free r.report.reached) }
         ensures refused { IfErr result
             (λ e. IsCloseReason self workers.items e.reason × (e.tree ≡ self)
@@ -135,40 +133,50 @@ impl Tree {
                 workers,
             });
         }
-        let Ok(room) = ReportRoom::new(*workers.allocator(), layout) else {
+        let alloc = *workers.allocator();
+        let Ok(queues) = Vec::with_capacity(alloc, made as usize) else {
             return Err(CloseError {
                 reason: CloseReason::NoMemory,
                 tree: self,
                 workers,
             });
         };
-        Ok(close_all(self, workers, room))
+        let Ok(room) = ReportRoom::new(alloc, layout) else {
+            return Err(CloseError {
+                reason: CloseReason::NoMemory,
+                tree: self,
+                workers,
+            });
+        };
+        Ok(close_all(self, workers, room, queues))
     }
 }
 
-/// Closes the tree, given all its workers.
-fn close_all(tree: Tree, workers: Vec<Worker>, room: ReportRoom) -> Ended
+/// Closes the tree, given all its workers, and room for all their queues.
+fn close_all(tree: Tree, workers: Vec<Worker>, room: ReportRoom, queues: Vec<HeldQueue>) -> Ended
     requires own { AreAllOf tree workers.items }
     requires all { tree.layout.workers ≤ given_in workers.items }
     requires room { room ≡ tree.layout }
+    requires empty { queues.items ≡ [] }
+    requires queues { tree.layout.workers ≤ vec_capacity queues }
     ensures says { SaysClosed tree workers.items result.report.queues.items
         result.report.keys.items result.report.free result.report.reached }
     ensures closed { IsClosed tree workers.items result.report.queues.items
         result.report.keys.items result.report.free result.report.reached }
     ensures values { HasValues tree → EndsMap tree workers.items result.report.queues.items
-        result.report.keys.items result.leaves.items result.words.values result.nodes result.report.free
+        result.report.keys.items result.leaves.items result.words result.layout result.report.free
         result.report.reached }
 {
     let Tree { shared } = tree;
-    let Worker {
+    let Heir {
         pass,
         queues,
         home: _,
         standing: _,
         workspace: _,
-    } = unite_all(&shared, workers);
+    } = unite_all(&shared, workers, queues);
     pass.know_run();
-    let nodes = shared.layout().nodes();
+    let layout = shared.layout();
     let words = shared.close(pass);
     let Found {
         keys,
@@ -185,7 +193,7 @@ fn close_all(tree: Tree, workers: Vec<Worker>, room: ReportRoom) -> Ended
         },
         leaves,
         words,
-        nodes,
+        layout,
     }
 }
 
@@ -221,10 +229,12 @@ pub fn runs_of_closed_trees_are_runs()
     ensures logs { OfEachClosedRun TotalsAreInTheLogs }
 {}
 
-/// Unites these workers in one, which holds all their queues.
-fn unite_all(shared: &Shared, mut workers: Vec<Worker>) -> Worker
+/// Unites these workers in one, which holds all their queues, in this room.
+fn unite_all(shared: &Shared, mut workers: Vec<Worker>, room: Vec<HeldQueue>) -> Heir
     requires own { AreAllOf shared.now workers.items }
     requires some { 1 ≤ length workers.items }
+    requires empty { room.items ≡ [] }
+    requires room { shared.now.layout.workers ≤ vec_capacity room }
     ensures own { IsOf shared.now result.pass }
     ensures joined { StandsForAll workers.items result.pass.view }
     ensures seen { GoesOnFromAll result.pass.view.past workers.items }
@@ -232,10 +242,11 @@ fn unite_all(shared: &Shared, mut workers: Vec<Worker>) -> Worker
     ensures runs { All (λ (w : WorkerView). HasSeen w.pass.view) workers.items }
     ensures queues { result.queues ≡ all_merged workers.items }
 {
-    let Some(mut heir) = workers.pop() else {
+    let Some(last) = workers.pop() else {
         unreachable!()
     };
-    heir.know_run();
+    last.know_run();
+    let mut heir = Heir::of(last, room);
     while let Some(leaver) = workers.pop() {
         leaver.know_run();
         heir = unite(shared, heir, leaver);

@@ -51,8 +51,8 @@ impl Tree {
 
     /// Looks up the value of each of these keys like `get_pinned`, for a worker that its caller has
     /// pinned, and writes the answers into their `found` and `value`. It walks for all keys in turns,
-    /// like `has_many`. Proved (`moment`): each answer was right at a moment of that pin. Two answers
-    /// may have different moments. The keys are unchanged. Takes no memory. The tree must have values.
+    /// like `has_many`. Proved (`moment`): each answer was right at a moment (linearization point) of
+    /// this call. Two answers may have different moments. The keys are unchanged. Takes no memory. The tree must have values.
     ///
     /// So no value that the call finds comes back by `collect_values` before `unpin`.
     ///

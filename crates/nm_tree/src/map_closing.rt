@@ -1,12 +1,10 @@
 //! The close of a map, which hands out its values.
-ghost use Rattle.std.specs.Prelude.{◌≡◌, ◌≤◌, ℕ, All, length, map, slice_get, IfOk, IfErr};
-ghost use Rattle.nm_steps.specs.Values.{HasValues};
-ghost use Rattle.nm_tree.specs.Closing.{AreAllOf, IsClosed, IsCloseReason};
-ghost use Rattle.nm_tree.specs.MapReports.{SaysMapClosed, value_at_slot, value_in};
+ghost use Rattle.std.specs.Prelude.{◌≡◌, ◌≤◌, ℕ, All, length, map, slice_get};
+ghost use Rattle.nm_edge.specs.Words.{words};
+ghost use Rattle.nm_tree.specs.MapReports.{is_leaf_at, value_at_slot, value_in};
 
-use crate::closing::{CloseError, Ended, Report};
-use crate::tree::Tree;
-use crate::worker::Worker;
+use crate::closing::{Ended, Report};
+use nm_edge::{Layout, Side};
 use nm_steps::Words;
 use std::marker::Model;
 
@@ -20,18 +18,20 @@ pub struct MapReport {
 }
 
 /// The values of a closed map: the one under each key that was left, and the one of each slot. A
-/// leaf that waits in a queue has the value of its slot.
+/// leaf that waits in a queue has the value of its slot. `is_leaf` returns whether a node that waits
+/// is a leaf.
 #[derive(Drop)]
 pub struct MapValues {
     words: Words,
     // The slot of the leaf of each key.
     leaves: Vec<u32>,
-    // The number of slots.
-    nodes: u32,
+    // The sizes of the tree.
+    layout: Layout,
 }
 
 impl Model for MapValues {
     ghost use Rattle.std.specs.Prelude.{◌≡◌, ◌≤◌, ℕ, All, length, map};
+    ghost use Rattle.nm_edge.specs.Words.{words as all_words};
     ghost use Rattle.nm_tree.specs.MapReports.{MapValuesView, value_in};
 
     ghost Value = { MapValuesView };
@@ -39,9 +39,12 @@ impl Model for MapValues {
     ghost view = { λ v. record {
       keyed = map (value_in v.words.values) v.leaves.items;
       slots = v.words.values;
+      core = v.words.core;
+      layout = v.layout;
     } };
 
-    ghost invariant = { λ v. (v.nodes ≡ length v.words.values)
+    ghost invariant = { λ v. (v.layout.nodes ≡ length v.words.values)
+        × (length v.words.core ≡ all_words v.layout)
         × All (λ (x : ℕ). (1 ≤ x) × (x ≤ length v.words.values)) v.leaves.items };
 }
 
@@ -62,63 +65,51 @@ impl MapValues {
     pub fn of_slot(&self, slot: u32) -> Option<u64>
         ensures { result ≡ value_at_slot self.now.slots slot }
     {
-        if slot == 0 || slot > self.nodes {
+        if slot == 0 || slot > self.layout.nodes() {
             return None;
         }
         Some(self.words.value(slot))
+    }
+
+    /// Returns whether there is such a slot, and its left edge leads to no node. A node that waits in
+    /// a queue of the report is a leaf exactly if this is true of its slot.
+    pub fn is_leaf(&self, slot: u32) -> bool
+        ensures { result ≡ is_leaf_at self.now slot }
+    {
+        if slot == 0 || slot > self.layout.nodes() {
+            return false;
+        }
+        let word = self.layout.edge(slot, Side::Left) as usize;
+        self.words.word(word) < 4
     }
 }
 
 impl Ended {
     /// Returns the report of a map: this one, with its values.
     pub fn into_map_report(self) -> MapReport
-        requires all { self.nodes ≡ length self.words.values }
+        requires all { self.layout.nodes ≡ length self.words.values }
+        requires laid { length self.words.core ≡ words self.layout }
         requires within { All (λ (x : ℕ). (1 ≤ x) × (x ≤ length self.words.values))
             self.leaves.items }
         ensures report { result.report ≡ self.report }
         ensures keyed { result.values.keyed ≡ map (value_in self.words.values) self.leaves.items }
         ensures slots { result.values.slots ≡ self.words.values }
+        ensures words_are { result.values.core ≡ self.words.core }
+        ensures layout_is { result.values.layout ≡ self.layout }
     {
         let Self {
             report,
             leaves,
             words,
-            nodes,
+            layout,
         } = self;
         MapReport {
             report,
             values: MapValues {
                 words,
                 leaves,
-                nodes,
+                layout,
             },
-        }
-    }
-}
-
-impl Tree {
-    /// Closes a map and all its workers, like `close`, and returns its values too. The value under
-    /// each key that is left, and those of the leaves that wait in the queues, have not come back by
-    /// `collect_values`. With these, each inserted value has come back exactly once.
-    ///
-    /// Errors: `NotAll`: fewer workers were given than the tree has. `NoMemory`: the room of the
-    /// report was refused. The tree and its workers are given back unchanged.
-    ///
-    /// Cost: that of `close`. The words of the tree are kept until the values are dropped.
-    pub fn close_with_values(self, workers: Vec<Worker>) -> Result<MapReport, CloseError>
-        requires own { AreAllOf self workers.items }
-        requires values { HasValues self }
-        ensures says { IfOk result (λ r. SaysMapClosed self workers.items r.report.queues.items
-            r.report.keys.items r.values.keyed r.values.slots r.report.free r.report.reached) }
-        ensures closed { IfOk result (λ r. IsClosed self workers.items r.report.queues.items
-            r.report.keys.items r.report.free r.report.reached) }
-        ensures refused { IfErr result
-            (λ e. IsCloseReason self workers.items e.reason × (e.tree ≡ self)
-            × (e.workers.items ≡ workers.items)) }
-    {
-        match self.end(workers) {
-            Ok(ended) => Ok(ended.into_map_report()),
-            Err(error) => Err(error),
         }
     }
 }

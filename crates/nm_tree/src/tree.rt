@@ -1,10 +1,10 @@
 //! The tree that workers share.
-ghost use Rattle.std.specs.Prelude.{◌≡◌, ◌≤◌, ◌↔◌, length, IfOk, IfErr, IsErrOf};
+ghost use Rattle.std.specs.Prelude.{◌≡◌, ◌↔◌, length, IfOk, IfErr, IsErrOf};
 ghost use Rattle.nm_edge.specs.Layouts.{IsLayoutFault, dense};
 ghost use Rattle.nm_steps.specs.Steps.{AreFresh};
 ghost use Rattle.nm_steps.specs.Values.{HasValues};
 ghost use Rattle.nm_tree.specs.Trees.{IsNewTree};
-ghost use Rattle.nm_tree.specs.Workers.{AreAllFresh, AreMade, HaveWorkers, IsFresh, IsNewWorker};
+ghost use Rattle.nm_tree.specs.Workers.{AreAllFresh, AreMade, IsFresh, IsNewWorker};
 
 use crate::worker::{Standing, Worker};
 use nm_edge::{FIRST_SLOT, Fit, Layout, LayoutError, MOST_NODES, Placement};
@@ -110,29 +110,23 @@ fn with_workers(
     Ok((Tree { shared }, made))
 }
 
-/// Makes the worker of a pass that has done nothing yet, with room for the queues of all origins.
-/// Its cursor begins at the first slot plus one share of the slots for each lesser number.
-fn worker_of(
-    alloc: Global,
-    pass: Pass,
-    workers: usize,
-    fit: Fit,
-    share: u32,
-) -> Result<Worker, AllocError>
+/// Makes the worker of a pass that has done nothing yet, with room for its own queue alone. Its
+/// cursor begins at the first slot plus one share of the slots for each lesser number.
+fn worker_of(alloc: Global, pass: Pass, fit: Fit, share: u32) -> Result<Worker, AllocError>
     requires fresh { IsFresh pass }
-    requires room { pass.view.layout.workers ≤ workers }
     ensures { IfOk result (IsNewWorker fit pass) }
 {
-    let mut queues = Vec::with_capacity(alloc, workers)?;
+    let mut queues = Vec::with_capacity(alloc, 1)?;
     let origin = pass.number();
     queues.push(HeldQueue::new(origin, alloc))?;
     let cursor = share.saturating_mul(origin).saturating_add(FIRST_SLOT);
+    let workspace = Box::new(alloc, Workspace::new(Placement::new(fit, cursor)))?;
     Ok(Worker {
         pass,
         queues,
         home: 0,
         standing: Standing::Resting,
-        workspace: Workspace::new(Placement::new(fit, cursor)),
+        workspace,
     })
 }
 
@@ -144,13 +138,11 @@ fn workers_of(
     share: u32,
 ) -> Result<Vec<Worker>, AllocError>
     requires fresh { AreAllFresh passes.items }
-    requires all { HaveWorkers (length passes.items) passes.items }
     ensures { IfOk result (λ ws. AreMade fit passes.items ws.items) }
 {
-    let room = passes.len();
-    let mut workers = Vec::with_capacity(alloc, room)?;
+    let mut workers = Vec::with_capacity(alloc, passes.len())?;
     while let Some(pass) = passes.pop() {
-        workers.push(worker_of(alloc, pass, room, fit, share)?)?;
+        workers.push(worker_of(alloc, pass, fit, share)?)?;
     }
     workers.reverse();
     Ok(workers)

@@ -47,8 +47,8 @@ impl Tree {
     }
 
     /// Returns the value that the map has under `key`, or `None` if it does not have the key, to a
-    /// worker that its caller has pinned (`pin`). Proved (`moment`): it was so at a moment of that
-    /// pin. The tree must have values.
+    /// worker that its caller has pinned (`pin`). Proved (`moment`): it was so at a moment
+    /// (linearization point) of this call. The tree must have values.
     ///
     /// So no value that the call returns comes back by `collect_values` before `unpin`: the worker is
     /// pinned when its leaf is cut off. Until then the caller may use what the value refers to.
@@ -72,17 +72,17 @@ impl Tree {
 
     /// Reads the epoch, frees ripe nodes at the front of each queue that the worker holds, like
     /// `collect`, and writes the value of each freed leaf to `out`, in the order in which the leaves
-    /// are freed. It stops before a leaf if `out` is full, and a later call goes on there. If it
+    /// are freed. It stops if `out` is full, and a later call goes on there. If it
     /// returns fewer values than `out` has room for, it has freed all that `collect` would free. The
     /// tree must have values.
     ///
-    /// Proved (`back`): each value is the one that its leaf had right before the leaf was cut off.
+    /// Proved (`handed`): each value is the one that its leaf had right before the leaf was cut off.
     /// Proved (`grace`): each worker that was pinned then has unpinned since, in what this
     /// worker has now seen. Each leaf is freed once, so the value under a removed key comes back
     /// once. A `collect` frees leaves too, and their values are lost.
     ///
     /// It may be called at any time, and takes no memory. Cost: at most as many steps as the tree has
-    /// nodes, and a look for each value. (Fraser, Practical lock-freedom, 2004, section 5.2.3.)
+    /// nodes, a look for each freed node, and one for each value. (Fraser, Practical lock-freedom, 2004, section 5.2.3.)
     pub fn collect_values(&self, worker: &mut Worker, out: &mut [u64]) -> HandedOut
         requires own { IsOf self.now worker.old.pass }
         requires values { HasValues self.now }

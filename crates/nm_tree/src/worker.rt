@@ -2,6 +2,7 @@
 ghost use Rattle.std.specs.Prelude.{◌≡◌, ◌<◌, length, option_map, IfSome, IfNone, None};
 ghost use Rattle.nm_edge.specs.Layouts.{IsLayout};
 ghost use Rattle.nm_steps.specs.Steps.{HasSeen, IsOfRun};
+ghost use Rattle.nm_calls.specs.MapHistories.{AreOfMaps};
 ghost use Rattle.nm_calls.specs.declared.deleting.Unfinished.{Unfinished as Delete};
 ghost use Rattle.nm_progress.specs.Pending.{HasDeletePending, leaf_after};
 ghost use Rattle.nm_epoch.specs.Collecting.{NoneHas};
@@ -70,11 +71,11 @@ pub struct Worker {
     pub(crate) queues: Vec<HeldQueue>,
     pub(crate) home: usize,
     pub(crate) standing: Standing,
-    pub(crate) workspace: Workspace,
+    // In a block of its own, because it has some 3,200 bytes: so a worker moves as a few words.
+    pub(crate) workspace: Box<Workspace>,
 }
 
 impl Model for Worker {
-    ghost use Rattle.std.specs.Prelude.{vec_capacity};
     ghost use Rattle.nm_tree.specs.Workers.{WorkerView, IsWorker, pending_in, held_in};
 
     ghost Value = { WorkerView };
@@ -84,7 +85,7 @@ impl Model for Worker {
       queues = w.queues.items;
       pending = pending_in w.standing;
       held = held_in w.standing;
-      fit = w.workspace.placement;
+      fit = w.workspace.value.placement;
     } };
 
     ghost invariant = { λ w. IsWorker
@@ -93,8 +94,8 @@ impl Model for Worker {
           queues = w.queues.items;
           pending = pending_in w.standing;
           held = held_in w.standing;
-          fit = w.workspace.placement;
-        }) w.home (vec_capacity w.queues) };
+          fit = w.workspace.value.placement;
+        }) w.home };
 }
 
 impl Worker {
@@ -190,6 +191,15 @@ impl Worker {
         ensures run { IsOfRun self.now.pass.view.layout self.now.pass.view.number
             self.now.pass.view.log }
         ensures fits { IsLayout self.now.pass.view.layout }
+    {
+        self.pass.know_run();
+    }
+
+    /// Proof only: establishes what the laws of maps say of all that the worker has seen. Up to each
+    /// moment up to which there are stores, the turns have a history, and each history of them is one
+    /// of a plain map. A true delete has taken the value that its act has there. No run-time effect.
+    pub fn know_map(&self)
+        ensures { AreOfMaps self.now.pass.view.layout self.now.pass.view.past }
     {
         self.pass.know_run();
     }

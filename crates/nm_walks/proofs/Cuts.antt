@@ -198,9 +198,10 @@ only_cuts p q a side s x keep (Ok u) step =
       private = ap (λ (y : Knowledge). y.drafts) k;
       call = ap (λ (y : Search). y.call) S;
       linked = ap (λ (y : Search). y.linked) S;
+      swapped = ap (λ (y : Search). y.swapped) S;
       flagged = ap (λ (y : Search). y.flagged) S;
     }
 only_cuts p q a side s x keep (Err e) step =
     let k = known_after_step p q (Splice a side s x keep) (Lost e) step ∙ learn_splice_lost p.view.number (knowledge p.view) a side s x keep e in
     let all = only_reads p q a side e k (search_is p q (Splice a side s x keep) (Lost e) step) in
-    record { private = all.private; call = all.call; linked = all.linked; flagged = all.flagged }
+    record { private = all.private; call = all.call; linked = all.linked; swapped = all.swapped; flagged = all.flagged }

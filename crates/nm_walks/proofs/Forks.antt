@@ -60,6 +60,8 @@ inserting p r q key e f i may between is on only new others on' only' fresh othe
   other = e.key;
   call = on'.keeps (CallIs Insert key) (on.keeps (CallIs Insert key) may.call);
   not_linked = ap (λ (s : Search). s.linked) only'.search ∙ (ap (λ (s : Search). s.linked) only.search ∙ may.unlinked);
+  not_swapped = ap (λ (s : Search). s.swapped) only'.search
+      ∙ (ap (λ (s : Search). s.swapped) only.search ∙ may.unswapped);
   place = place_later r q key e.seek_record.edge.slot e.seek_record.parent e.seek_record.side e.key on' (place_later p r key e.seek_record.edge.slot e.seek_record.parent e.seek_record.side e.key on may.place);
   apart = may.other;
   new_nodes = record {

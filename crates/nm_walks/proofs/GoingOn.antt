@@ -35,6 +35,7 @@ only_then o p q a b = record {
   ledgers = b.ledgers ∙ a.ledgers;
   call = b.call ∙ a.call;
   linked = b.linked ∙ a.linked;
+  swapped = b.swapped ∙ a.swapped;
   flagged = b.flagged ∙ a.flagged;
   cut = b.cut ∙ a.cut;
 }

@@ -19,7 +19,7 @@ use Rattle.nm_model.specs.declared.arrivals.Call.{Call}
 use Rattle.nm_model.specs.Knowledge.{Knowledge, knows, is_private, draft_of, knows_leaf, beside}
 use Rattle.nm_model.specs.Learning.{linked_in, read_edge}
 use Rattle.nm_model.specs.Maps.{get, without, is_number}
-use Rattle.nm_model.specs.Ordered.{disorder, links_in_order, may_link_at, may_link_between, shows_place, narrows, is_covered, parts, parts_from, forks_over, new_leaf}
+use Rattle.nm_model.specs.Ordered.{disorder, links_in_order, has_put_in, may_link_at, may_link_between, shows_place, narrows, is_covered, parts, parts_from, forks_over, new_leaf}
 use Rattle.nm_model.specs.Searches.{Search, idle, searched, is_by, is_first, is_side, goes_on as goes_by, turns}
 use Rattle.nm_model.specs.Step.{refusal, outside, is_leaf_draft, is_fork_over, is_linkable, may_be_over, node_linked}
 use Rattle.nm_model.specs.Walks.{Entry, begins_anew, search_after}
@@ -34,6 +34,7 @@ use Rattle.nm_order.specs.Told.TellsEdge.{ByLink}
 use Rattle.nm_order.proofs.TaughtFacts.{edges_are_learned}
 use Rattle.nm_steps.specs.Rules.{knowledge}
 use Rattle.nm_steps.specs.Steps.{PassView, MayStep, Stepped, HasSeenAllOf, link_reply}
+use Rattle.nm_steps.proofs.Extending.{neither}
 use Rattle.nm_steps.proofs.AfterSteps.{TellsRun}
 use Rattle.nm_walks.specs.Telling.{Tells, IsInRun, GoesOn, IsPinnedSomewhere}
 use Rattle.nm_walks.specs.Making.{draft, IsFork, IsInserting, IsPlace, IsRouter, IsWithin, HasLinked, HasLost}
@@ -210,7 +211,7 @@ module _ (p : PassView) (parent : ℕ) (side : Side) (leaf new fresh : ℕ) (i :
   in_order : disorder p.view.layout (knowledge p.view) (search_after idle p.view.log) (Link parent side leaf new) ≡ None
   in_order = cond-false (not (links_in_order p.view.layout k search search.call parent side leaf new)) (Some NotOrdered) None (ap not
       (ap (λ (c : Option Call). links_in_order p.view.layout k search c parent side leaf new) i.call
-      ∙ and_from (not search.linked) _ (ap not i.not_linked)
+      ∙ and_from (not (has_put_in search)) _ (ap not (neither search.linked search.swapped i.not_linked i.not_swapped))
       (and_from (is_number (new_leaf k leaf new).key i.key) _ (ap (λ (x : ℕ). is_number (draft_of k x).key i.key) is_fresh ∙ number_there (draft_of k fresh).key i.key i.new_nodes.as_leaf.has_key) walked)))
 
   pub may_link : IsInRun p → IsPinnedSomewhere p → Tells p (KnowsSlot parent) → Tells p (KnowsSlot leaf) → ((x : ℕ) → is_private (knowledge p.view) x ≡ true → IsPooled p.view.layout x) → MayStep p (Link parent side leaf new)
@@ -289,6 +290,7 @@ module _ (p q : PassView) (parent : ℕ) (side : Side) (leaf new fresh : ℕ) wh
           ledgers = ap (λ (x : Knowledge). x.ledgers) at;
           call = ap (λ (x : Search). x.call) search_now;
           linked = ap (λ (x : Search). x.linked) search_now;
+          swapped = ap (λ (x : Search). x.swapped) search_now;
           flagged = ap (λ (x : Search). x.flagged) search_now;
           cut = ap (λ (x : Search). x.cut) search_now;
         };

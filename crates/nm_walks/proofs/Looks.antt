@@ -175,12 +175,13 @@ looked w k x f r shared = subst (λ (l : Knowledge). SameBut k l) (sym (learn_lo
 record SameSearch (s t : Search) : Type 0 where
   call : t.call ≡ s.call
   linked : t.linked ≡ s.linked
+  swapped : t.swapped ≡ s.swapped
   flagged : t.flagged ≡ s.flagged
   cut : t.cut ≡ s.cut
 
 searching : (s : Search) (o : Option Call) (x : ℕ) (f : Field) (r : Reply) → SameSearch s (look_for s o x f r)
-searching s None x f r = record { call = refl; linked = refl; flagged = refl; cut = refl }
-searching s (Some c) x f r = record { call = refl; linked = refl; flagged = refl; cut = refl }
+searching s None x f r = record { call = refl; linked = refl; swapped = refl; flagged = refl; cut = refl }
+searching s (Some c) x f r = record { call = refl; linked = refl; swapped = refl; flagged = refl; cut = refl }
 
 pub only_looks : (p q : PassView) (x : ℕ) (f : Field) (r : Reply) → Stepped p q (Look x f) r → IsInRun p → Tells p (KnowsSlot x) → OnlyLooks p q
 unfolding searched
@@ -197,6 +198,7 @@ only_looks p q x f r step run known =
       ledgers = ap (λ (y : Knowledge). y.ledgers) known_is ∙ k.ledgers;
       call = ap (λ (y : Search). y.call) search_is ∙ s.call;
       linked = ap (λ (y : Search). y.linked) search_is ∙ s.linked;
+      swapped = ap (λ (y : Search). y.swapped) search_is ∙ s.swapped;
       flagged = ap (λ (y : Search). y.flagged) search_is ∙ s.flagged;
       cut = ap (λ (y : Search). y.cut) search_is ∙ s.cut;
     }

@@ -56,6 +56,7 @@ only_reads p q x side e k s = record {
   ledgers = ap (λ (y : Knowledge). y.ledgers) k;
   call = ap (λ (y : Search). y.call) s;
   linked = ap (λ (y : Search). y.linked) s;
+  swapped = ap (λ (y : Search). y.swapped) s;
   flagged = ap (λ (y : Search). y.flagged) s;
   cut = ap (λ (y : Search). y.cut) s;
 }
@@ -202,9 +203,18 @@ only_flags p q x side leaf (Ok u) step =
       ledgers = ap (λ (y : Knowledge). y.ledgers) k;
       call = ap (λ (y : Search). y.call) s;
       linked = ap (λ (y : Search). y.linked) s;
+      swapped = ap (λ (y : Search). y.swapped) s;
       cut = ap (λ (y : Search). y.cut) s;
     }
 only_flags p q x side leaf (Err e) step =
     let k = known_after_step p q (Flag x side leaf) (Lost e) step ∙ learn_flag_lost p.view.number (knowledge p.view) x side leaf e in
     let all = only_reads p q x side e k (search_is p q (Flag x side leaf) (Lost e) step) in
-    record { epochs = all.epochs; private = all.private; ledgers = all.ledgers; call = all.call; linked = all.linked; cut = all.cut }
+    record {
+      epochs = all.epochs;
+      private = all.private;
+      ledgers = all.ledgers;
+      call = all.call;
+      linked = all.linked;
+      swapped = all.swapped;
+      cut = all.cut;
+    }

@@ -55,6 +55,7 @@ looks_by_value p q l = record {
   ledgers = ap (λ (z : PassView). (knowledge z.view).ledgers) l.same;
   call = ap (λ (z : PassView). (search_after idle z.view.log).call) l.same;
   linked = ap (λ (z : PassView). (search_after idle z.view.log).linked) l.same;
+  swapped = ap (λ (z : PassView). (search_after idle z.view.log).swapped) l.same;
   flagged = ap (λ (z : PassView). (search_after idle z.view.log).flagged) l.same;
   cut = ap (λ (z : PassView). (search_after idle z.view.log).cut) l.same;
 }

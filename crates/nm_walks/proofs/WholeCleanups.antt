@@ -154,6 +154,7 @@ only_cleans s c ns epoch p m q run cut cuts labels step = record {
   private = labels.private ∙ cuts.private;
   call = ap (λ (S : Search). S.call) labels.search ∙ cuts.call;
   linked = ap (λ (S : Search). S.linked) labels.search ∙ cuts.linked;
+  swapped = ap (λ (S : Search). S.swapped) labels.search ∙ cuts.swapped;
   flagged = ap (λ (S : Search). S.flagged) labels.search ∙ cuts.flagged;
   ledgers = cut_ledgers s c ns epoch p m q run cut step;
 }

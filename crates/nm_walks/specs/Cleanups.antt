@@ -170,5 +170,6 @@ pub record OnlyCleans (p q : PassView) : Type 0 where
   pub private : (knowledge q.view).drafts ≡ (knowledge p.view).drafts
   pub call : (search_after idle q.view.log).call ≡ (search_after idle p.view.log).call
   pub linked : (search_after idle q.view.log).linked ≡ (search_after idle p.view.log).linked
+  pub swapped : (search_after idle q.view.log).swapped ≡ (search_after idle p.view.log).swapped
   pub flagged : (search_after idle q.view.log).flagged ≡ (search_after idle p.view.log).flagged
   pub ledgers : KeepsLedgers p q

@@ -90,6 +90,7 @@ inner_of key other router leaf fresh =
 pub record MayGrow (p : PassView) (key : ℕ) (r : WalkEnd) (f : NewNodes) : Type 0 where
   pub call : Tells p (CallIs Insert key)
   pub unlinked : (search p).linked ≡ false
+  pub unswapped : (search p).swapped ≡ false
   pub parent : Tells p (KnowsSlot r.seek_record.parent)
   pub known : Tells p (KnowsSlot r.seek_record.edge.slot)
   pub within : r.seek_record.edge.slot ≤ p.view.layout.nodes
@@ -104,11 +105,12 @@ Grows radix key r f reply old new = (i : Contents) × IsRouter radix key r.key i
     × (new ≡ ((old ++ fills f.internal.slot i.key i.left i.right) ++ fills f.leaf.slot key 0 0)
     ++ (Link r.seek_record.parent r.seek_record.side r.seek_record.edge.slot f.internal.slot, reply) ∷ [])
 
--- the worker's epochs and queues, its call and what the call flagged are unchanged
+-- the worker's epochs and queues, its call, whether it has swapped and what it flagged are unchanged
 pub record KeepsCall (p q : PassView) : Type 0 where
   pub epochs : epochs q ≡ epochs p
   pub ledgers : (knowledge q.view).ledgers ≡ (knowledge p.view).ledgers
   pub call : (search q).call ≡ (search p).call
+  pub swapped : (search q).swapped ≡ (search p).swapped
   pub flagged : (search q).flagged ≡ (search p).flagged
 
 -- the link was won: the call has linked, and the new nodes are no longer private

@@ -118,7 +118,7 @@ IsPlace false p k x parent side key = Tells p (KnowsLeaf x)
 IsPlace true p k x parent side key = IsOver p k x key
     × Tells p (ReadKey ThePin k x parent side key) × IsWithin p k parent side
 
--- the call is to insert a key and has not linked yet. A walk of it came to the slot by that edge
+-- the call is to insert a key and has neither linked nor swapped yet. A walk of it came to the slot by that edge
 -- and may put the key there. The new nodes put the key beside the slot (Natarajan and Mittal,
 -- section 3.2, insert)
 pub record IsInserting (p : PassView) (parent : ℕ) (side : Side) (leaf new fresh : ℕ) : Type 0 where
@@ -126,6 +126,7 @@ pub record IsInserting (p : PassView) (parent : ℕ) (side : Side) (leaf new fre
   pub other : ℕ
   pub call : Tells p (CallIs Insert key)
   pub not_linked : (search_after idle p.view.log).linked ≡ false
+  pub not_swapped : (search_after idle p.view.log).swapped ≡ false
   pub place : IsPlace p.view.layout.radix p key leaf parent side other
   pub apart : other ≢ key
   pub new_nodes : IsFork p key other leaf new fresh

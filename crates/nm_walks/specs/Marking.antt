@@ -66,6 +66,7 @@ pub record OnlyFlags (p q : PassView) : Type 0 where
   pub ledgers : (knowledge q.view).ledgers ≡ (knowledge p.view).ledgers
   pub call : (search_after idle q.view.log).call ≡ (search_after idle p.view.log).call
   pub linked : (search_after idle q.view.log).linked ≡ (search_after idle p.view.log).linked
+  pub swapped : (search_after idle q.view.log).swapped ≡ (search_after idle p.view.log).swapped
   pub cut : (search_after idle q.view.log).cut ≡ (search_after idle p.view.log).cut
 
 -- the flag is won: the edge is known as flagged, and the node is the one that the call flagged
@@ -100,6 +101,7 @@ pub record OnlyCuts (p q : PassView) : Type 0 where
   pub private : (knowledge q.view).drafts ≡ (knowledge p.view).drafts
   pub call : (search_after idle q.view.log).call ≡ (search_after idle p.view.log).call
   pub linked : (search_after idle q.view.log).linked ≡ (search_after idle p.view.log).linked
+  pub swapped : (search_after idle q.view.log).swapped ≡ (search_after idle p.view.log).swapped
   pub flagged : (search_after idle q.view.log).flagged ≡ (search_after idle p.view.log).flagged
 
 -- the splice is won: these nodes are appended to the worker's own queue without a label, and wait

@@ -44,6 +44,7 @@ pub record OnlyLooks (p q : PassView) : Type 0 where
   pub ledgers : (knowledge q.view).ledgers ≡ (knowledge p.view).ledgers
   pub call : (search_after idle q.view.log).call ≡ (search_after idle p.view.log).call
   pub linked : (search_after idle q.view.log).linked ≡ (search_after idle p.view.log).linked
+  pub swapped : (search_after idle q.view.log).swapped ≡ (search_after idle p.view.log).swapped
   pub flagged : (search_after idle q.view.log).flagged ≡ (search_after idle p.view.log).flagged
   pub cut : (search_after idle q.view.log).cut ≡ (search_after idle p.view.log).cut
 

@@ -2,7 +2,7 @@
 //! own.
 use nm_edge::Key;
 use nm_set::{
-    CallFault, CloseReason, Map, MapEndError, MapEntry, MapMember, MemberFault, NotPinned,
+    CallFault, CloseReason, EndError, Map, MapEntry, MapMember, MemberFault, NotPinned,
     ObserveFault, Options, PinFault, PinnedGetFault, ResignReason, Stamp,
 };
 use std::process::Abort;
@@ -387,7 +387,7 @@ fn a_map_closes_with_the_workers_that_it_keeps(rt: HostRuntime) -> Result<(), Fa
     let reason;
     (reason, map) = match map.close() {
         Ok(_) => panic!(rt; "the map was closed"),
-        Err(error) => (error.reason, error.map),
+        Err(error) => (error.reason, error.set),
     };
     assert_eq!(rt; reason, CloseReason::Attached);
     assert!(rt; map.keep_returned(second.close()).is_ok());
@@ -446,7 +446,7 @@ fn the_last_member_ends_its_map(rt: HostRuntime) -> Result<(), Fail> {
     let map = Map::new(rt.alloc(), 64, 1)?;
     let mut last = map.member(0)?;
     assert_eq!(rt; last.try_insert(key(&rt, 5), 50, TRIES), Ok(true));
-    let Err(MapEndError::Attached(last)) = last.end() else {
+    let Err(EndError::Attached(last)) = last.end() else {
         panic!(rt; "the map was ended")
     };
     drop(map);

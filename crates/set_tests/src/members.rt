@@ -2,8 +2,9 @@
 //! own.
 use nm_edge::Key;
 use nm_set::{
-    CallFault, CloseReason, EndError, Fit, Fullness, InsertFault, Member, MemberFault, NotPinned,
-    ObserveFault, OfKeysError, Options, PinFault, Report, ResignReason, Set, SetOfKeys, Stamp,
+    CallFault, CloseReason, EndError, Fit, Fullness, InsertFault, Keys, Member, MemberFault,
+    NotPinned, ObserveFault, OfKeysError, Options, PinFault, Report, ResignReason, Set, SetOfKeys,
+    Stamp,
 };
 use std::process::Abort;
 use std::test::Fail;
@@ -162,7 +163,7 @@ fn a_set_is_made_of_keys(rt: HostRuntime) -> Result<(), Fail> {
 
 #[test]
 fn a_full_set_tells_who_holds_memory_back(rt: HostRuntime) -> Result<(), Fail> {
-    let set = Set::new(rt.alloc(), 7, 2)?;
+    let set = Set::<Keys>::new(rt.alloc(), 7, 2)?;
     let mut first = set.member(0)?;
     let mut reader = set.member(1)?;
     let options = Options::default();

@@ -1,6 +1,6 @@
 //! Scans of ranges and bounded pops by a member, with each answer compared.
 use nm_edge::Key;
-use nm_set::{CallFault, Member, Options, Scanned, Set};
+use nm_set::{CallFault, Keys, Member, Options, Scanned, Set};
 use std::process::Abort;
 use std::test::Fail;
 
@@ -33,7 +33,7 @@ fn scanned(count: usize, next: Option<Key>) -> Result<Scanned, CallFault> {
 
 #[test]
 fn a_range_is_read_in_order(rt: HostRuntime) -> Result<(), Fail> {
-    let set = Set::new(rt.alloc(), 4096, 1)?;
+    let set = Set::<Keys>::new(rt.alloc(), 4096, 1)?;
     let mut member = set.member(0)?;
     insert_thirds(&rt, &mut member, 200);
     let mut out = [1; 4];
@@ -69,7 +69,7 @@ fn a_range_is_read_in_order(rt: HostRuntime) -> Result<(), Fail> {
 
 #[test]
 fn a_range_is_read_back(rt: HostRuntime) -> Result<(), Fail> {
-    let set = Set::new(rt.alloc(), 4096, 1)?;
+    let set = Set::<Keys>::new(rt.alloc(), 4096, 1)?;
     let mut member = set.member(0)?;
     insert_thirds(&rt, &mut member, 200);
     let mut out = [1; 3];
@@ -104,7 +104,7 @@ fn a_range_is_read_back(rt: HostRuntime) -> Result<(), Fail> {
 
 #[test]
 fn scans_go_on_where_the_last_one_stopped(rt: HostRuntime) -> Result<(), Fail> {
-    let set = Set::new(rt.alloc(), 8192, 1)?;
+    let set = Set::<Keys>::new(rt.alloc(), 8192, 1)?;
     let mut member = set.member(0)?;
     insert_thirds(&rt, &mut member, 1500);
     let mut out = [0; 64];
@@ -129,7 +129,7 @@ fn scans_go_on_where_the_last_one_stopped(rt: HostRuntime) -> Result<(), Fail> {
 
 #[test]
 fn no_scan_returns_more_than_1024_keys(rt: HostRuntime) -> Result<(), Fail> {
-    let set = Set::new(rt.alloc(), 8192, 1)?;
+    let set = Set::<Keys>::new(rt.alloc(), 8192, 1)?;
     let mut member = set.member(0)?;
     insert_thirds(&rt, &mut member, 1500);
     let mut out = [0; 1500];
@@ -144,7 +144,7 @@ fn no_scan_returns_more_than_1024_keys(rt: HostRuntime) -> Result<(), Fail> {
 #[test]
 fn a_key_is_popped_only_up_to_its_bound(rt: HostRuntime) -> Result<(), Fail> {
     let options = Options::default();
-    let set = Set::new(rt.alloc(), 4096, 1)?;
+    let set = Set::<Keys>::new(rt.alloc(), 4096, 1)?;
     let mut member = set.member(0)?;
     insert_thirds(&rt, &mut member, 4);
     assert_eq!(rt; member.pop_first_below(7, &options), Ok(None));

@@ -2,8 +2,8 @@
 ghost use Rattle.nm_shared.specs.Sharing.{IsCallerOf};
 
 use nm_edge::Key;
-use nm_set::Options;
-use nm_shared::{Caller, SharedSet};
+use nm_set::{Keys, Options};
+use nm_shared::{Caller, SharedMap, SharedSet};
 use std::process::Abort;
 use std::test::Fail;
 use std::thread::join;
@@ -19,7 +19,7 @@ fn key(rt: &impl Abort, number: u64) -> Key {
 /// One caller inserts, looks up, removes and pops, by the one worker that there is.
 #[test]
 fn a_caller_needs_no_member(rt: HostRuntime) -> Result<(), Fail> {
-    let set = SharedSet::new(rt.alloc(), 64, 1)?;
+    let set = SharedSet::<Keys>::new(rt.alloc(), 64, 1)?;
     let options = Options::default();
     assert_eq!(rt; set.workers(), 1);
     let (caller, told) = set.insert(set.caller(), key(&rt, 5), &options);
@@ -34,6 +34,34 @@ fn a_caller_needs_no_member(rt: HostRuntime) -> Result<(), Fail> {
     assert_eq!(rt; told, Some(Ok(Some(key(&rt, 9)))));
     let (_, told) = set.pop_first(caller, &options);
     assert_eq!(rt; told, Some(Ok(None)));
+    Ok(())
+}
+
+/// One caller of a map puts, gets, takes and pops values, and gets back what it took.
+#[test]
+fn a_caller_of_a_map_needs_no_member(rt: HostRuntime) -> Result<(), Fail> {
+    let map = SharedMap::new(rt.alloc(), 64, 1)?;
+    let options = Options::default();
+    let (mut found, mut taken, mut out) = (0, 0, [0; 8]);
+    let (caller, told) = map.insert(map.caller(), key(&rt, 5), 50, &mut found, &options);
+    assert_eq!(rt; told, Some(Ok(true)));
+    let (caller, told) = map.insert(caller, key(&rt, 5), 51, &mut found, &options);
+    assert_eq!(rt; (told, found), (Some(Ok(false)), 50));
+    let (caller, told) = map.insert(caller, key(&rt, 9), 90, &mut found, &options);
+    assert_eq!(rt; told, Some(Ok(true)));
+    let (caller, told) = map.get(caller, key(&rt, 9), &options);
+    assert_eq!(rt; told, Some(Ok(Some(90))));
+    let (caller, told) = map.next_with_value(caller, key(&rt, 6), &mut found, &options);
+    assert_eq!(rt; (told, found), (Some(Ok(Some(key(&rt, 9)))), 90));
+    let (caller, told) = map.remove(caller, key(&rt, 5), &mut taken, &options);
+    assert_eq!(rt; (told, taken), (Some(Ok(true)), 50));
+    let (caller, told) = map.pop_first(caller, &mut taken, &options);
+    assert_eq!(rt; (told, taken), (Some(Ok(Some(key(&rt, 9)))), 90));
+    let (_, told) = map.reclaim(caller, &mut out);
+    let Some(reclaimed) = told else {
+        panic!(rt; "the worker was borrowed")
+    };
+    assert_eq!(rt; (reclaimed.handed.values, out[0], out[1]), (2, 50, 90));
     Ok(())
 }
 

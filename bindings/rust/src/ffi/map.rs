@@ -152,7 +152,18 @@ extern "C" {
     fn nm_map_counts_free(counts: *mut RawCounts);
     fn nm_map_count_insert(counts: *mut RawCounts, worker: u32, outcome: c_int);
     fn nm_map_count_remove(counts: *mut RawCounts, worker: u32, outcome: c_int);
+    fn nm_map_count_released(counts: *mut RawCounts, worker: u32, values: u64);
     fn nm_map_counts_keys(counts: *const RawCounts) -> u64;
+    fn nm_map_counts_waiting(counts: *const RawCounts) -> u64;
+    fn nm_map_wait_first(
+        worker: *mut Word,
+        below: u64,
+        options: *const CallOptions,
+        counts: *mut RawCounts,
+        found: *mut u64,
+        value: *mut u64,
+        timeout_ms: u32,
+    ) -> c_int;
     fn nm_map_is_forked(counts: *const RawCounts) -> c_int;
     fn nm_map_fullness(nodes: u64, keys: u64, behind: u32, fullness: *mut Fullness);
     fn nm_map_pending(worker: *mut Word, key: *mut u64) -> c_int;
@@ -269,6 +280,17 @@ impl Counts {
         unsafe { nm_map_counts_keys(self.0.as_ptr()) }
     }
 
+    fn waiting(&self) -> u64 {
+        // SAFETY: the counts exist as long as `self`.
+        unsafe { nm_map_counts_waiting(self.0.as_ptr()) }
+    }
+
+    /// Counts values that came back in a call by the worker of a number. One thread has that worker.
+    fn released(&self, worker: u32, values: u64) {
+        // SAFETY: the counts exist as long as `self`.
+        unsafe { nm_map_count_released(self.0.as_ptr(), worker, values) }
+    }
+
     fn is_forked(&self) -> bool {
         // SAFETY: the counts exist as long as `self`.
         unsafe { nm_map_is_forked(self.0.as_ptr()) != 0 }
@@ -351,6 +373,14 @@ impl<V> MapHandle<V> {
             return Err(FORKED);
         }
         Ok(self.counts.keys())
+    }
+
+    /// Returns how many removed nodes wait, or the outcome of an error.
+    pub(crate) fn waiting(&self) -> Result<u64, Outcome> {
+        if self.counts.is_forked() {
+            return Err(FORKED);
+        }
+        Ok(self.counts.waiting())
     }
 
     /// Attaches a worker, or returns the outcome of an error.
@@ -437,6 +467,7 @@ impl<V> WorkerHandle<'_, V> {
             })
         });
         self.map.counts.insert(self.number, outcome);
+        self.map.counts.released(self.number, taken.values);
         // SAFETY: after any other outcome than yes the map does not have the pointer.
         let left = (outcome != YES).then(|| unsafe { Box::from_raw(pointer) });
         taken.resume();
@@ -465,6 +496,7 @@ impl<V> WorkerHandle<'_, V> {
             })
         });
         self.map.counts.remove(self.number, outcome);
+        self.map.counts.released(self.number, taken.values);
         taken.resume();
         outcome
     }
@@ -516,6 +548,19 @@ impl<V> WorkerHandle<'_, V> {
         // SAFETY: the handle exists, and `self` and the places are borrowed for this call.
         let outcome = self.by(|worker, options| unsafe {
             nearest(worker, key, options, &mut entry.key, &mut entry.value)
+        });
+        (outcome, entry)
+    }
+
+    /// Finds the least key that is below a bound, after a wait for one.
+    pub(crate) fn wait_first(&mut self, below: u64, timeout_ms: u32) -> (Outcome, Entry) {
+        let mut entry = Entry::default();
+        let counts = self.map.counts.0.as_ptr();
+        // SAFETY: the handle and the counts exist, and `self` and the places are borrowed for this
+        // call.
+        let outcome = self.by(|worker, options| unsafe {
+            let (key, value) = (&mut entry.key, &mut entry.value);
+            nm_map_wait_first(worker, below, options, counts, key, value, timeout_ms)
         });
         (outcome, entry)
     }
@@ -587,6 +632,7 @@ impl<V> WorkerHandle<'_, V> {
             })
         });
         let values = taken.values;
+        self.map.counts.released(self.number, values);
         taken.resume();
         (outcome, values, behind)
     }
@@ -619,6 +665,9 @@ impl<V> Drop for WorkerHandle<'_, V> {
             self.by(|worker, _| unsafe {
                 nm_map_unpin(worker);
                 nm_map_take_back(worker, release::<V>, context, null_mut());
+                self.map
+                    .counts
+                    .released(self.number, (*context.cast::<Taken>()).values);
                 nm_drop(worker)
             })
         });

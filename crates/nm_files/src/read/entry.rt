@@ -8,6 +8,7 @@ ghost use Rattle.nm_files.specs.Kinds.{Kind, events, calls, with_view};
 ghost use Rattle.nm_files.specs.Kinds as spec;
 
 use crate::read::fault::Reason;
+use crate::read::header::Forms;
 use crate::read::value::{Arguments, worker_of};
 use nm_edge::Key;
 use nm_model::Event;
@@ -33,12 +34,12 @@ pub(crate) trait FileEntry: Copy {
 
     ghost few: { list_all spec.is_short kinds ≡ true };
 
-    /// Parses a word and the fields after it, in a file with this number of workers, and with the
-    /// lines of later versions or not. Errors: `Kind` for a word of no kind; the least reason for
+    /// Parses a word and the fields after it, in a file with this number of workers, and with these
+    /// forms of lines. Errors: `Kind` for a word of no kind; the least reason for
     /// which the fields are not those of the kind.
-    fn made(workers: u32, is_extended: bool, word: &[u8], fields: &[&[u8]]) -> Result<Self, Reason>
+    fn made(workers: u32, forms: Forms, word: &[u8], fields: &[&[u8]]) -> Result<Self, Reason>
         ensures { result
-            ≡ spec.made_by kinds workers is_extended word.now (map (λ f. f.now) fields.now) };
+            ≡ spec.made_by kinds workers forms word.now (map (λ f. f.now) fields.now) };
 }
 
 /// Returns whether a word is this one.
@@ -62,9 +63,9 @@ impl FileEntry for Event {
     ghost few = { refl };
 
     #[tactic(auto, unfolding(crate::specs::Kinds::made_by))]
-    fn made(_: u32, is_extended: bool, word: &[u8], fields: &[&[u8]]) -> Result<Event, Reason> {
+    fn made(_: u32, forms: Forms, word: &[u8], fields: &[&[u8]]) -> Result<Event, Reason> {
         use Event::*;
-        let is_of_operation = is_extended && !fields.is_empty();
+        let is_of_operation = forms.is_extended && !fields.is_empty();
         match word {
             _ if is(word, b"sight") && is_of_operation => values(fields).map(|(
                 op,
@@ -96,6 +97,10 @@ impl FileEntry for Event {
                 ancestor,
                 (side, (successor, (parent, (keep, ())))),
             )| Splice(ancestor, side, successor, parent, keep)),
+            _ if is(word, b"swap") && forms.has_swaps => values(fields).map(|(
+                parent,
+                (side, (leaf, (new, ()))),
+            )| Swap(parent, side, leaf, new)),
             _ => Err(Reason::Kind),
         }
     }
@@ -121,15 +126,15 @@ impl FileEntry for ScriptCall {
     #[tactic(auto, unfolding(crate::specs::Kinds::made_by))]
     fn made(
         workers: u32,
-        is_extended: bool,
+        forms: Forms,
         word: &[u8],
         fields: &[&[u8]],
     ) -> Result<ScriptCall, Reason> {
         use ScriptCall::*;
         match word {
-            _ if is(word, b"resign") && is_extended => heir(workers, fields).map(|heir| Resign(
-                heir,
-            )),
+            _ if is(word, b"resign") && forms.is_extended => heir(workers, fields).map(
+                |heir| Resign(heir),
+            ),
             _ if is(word, b"has") => values(fields).map(|(key, ())| Has(key)),
             _ if is(word, b"insert") => values(fields).map(|(key, ())| Insert(key)),
             _ if is(word, b"delete") => values(fields).map(|(key, ())| Delete(key)),

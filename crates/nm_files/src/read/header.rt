@@ -34,13 +34,23 @@ impl Command {
     }
 }
 
-/// The greatest sizes that a version of the format allows, whether it has the lines of later
-/// versions, and whether its tree is a radix tree.
+/// The forms of lines that a version of the format has besides those of version 1.
+#[derive(Clone, Copy, Debug, PartialEq, Eq)]
+pub struct Forms {
+    /// Whether it has the lines of later versions. Such a schedule is run by an ordered core, and
+    /// its sights and leaves may be of operations. In such a script a worker may resign.
+    pub is_extended: bool,
+    /// Whether a step of a schedule may be a swap.
+    pub has_swaps: bool,
+}
+
+/// The greatest sizes that a version of the format allows, the forms of its lines, and whether its
+/// tree is a radix tree.
 #[derive(Clone, Copy, Debug, PartialEq, Eq)]
 pub struct Limits {
     pub nodes: u32,
     pub workers: u32,
-    pub is_extended: bool,
+    pub forms: Forms,
     pub is_radix: bool,
 }
 
@@ -51,35 +61,55 @@ pub struct Header {
     pub layout: Layout,
     /// The number of tries of each call that takes tries, 1 to 1,000,000; 1 in a schedule.
     pub tries: u32,
-    /// Whether the file has the lines of later versions. Such a schedule is run by an ordered core,
-    /// and its sights and leaves may be of operations. In such a script a worker may resign.
-    pub is_extended: bool,
+    /// The forms of its lines.
+    pub forms: Forms,
+}
+
+/// Returns the forms of lines of a version without swaps.
+fn without_swaps(is_extended: bool) -> Forms
+    ensures { result ≡ spec.without_swaps is_extended }
+{
+    Forms {
+        is_extended,
+        has_swaps: false,
+    }
+}
+
+/// Returns the forms of lines of a version with swaps.
+fn with_swaps() -> Forms
+    ensures { result ≡ spec.with_swaps }
+{
+    Forms {
+        is_extended: true,
+        has_swaps: true,
+    }
 }
 
 /// Returns the limits with as many nodes and workers as a layout can have.
-fn greatest(is_extended: bool, is_radix: bool) -> Limits
+fn greatest(forms: Forms, is_radix: bool) -> Limits
     ensures { result ≡ record {
       nodes = MOST_NODES;
       workers = MOST_WORKERS;
-      is_extended = is_extended;
+      forms = forms;
       is_radix = is_radix;
     } }
 {
     Limits {
         nodes: MOST_NODES,
         workers: MOST_WORKERS,
-        is_extended,
+        forms,
         is_radix,
     }
 }
 
 /// Returns the limits of a version of a command's format. Version 1 has 65,536 nodes and 32
-/// workers; later ones have as many as a layout can have. Versions 3 and 4 of a schedule are for an
-/// ordered core, and workers of `serial` may resign from version 2 on. The tree is a radix tree in
-/// version 4 of a schedule, and in version 3 of a script.
+/// workers; later ones have as many as a layout can have. Schedules of
+/// versions 3 and later are for an ordered core, and workers of `serial` may resign from version 2
+/// on. Version 5 of a schedule has swaps. The tree is a radix tree in schedules of versions 4 and
+/// later, and in version 3 of a script.
 fn limits_of(command: Command, word: &[u8], version: &[u8]) -> Result<Limits, Reason>
     ensures limits { result ≡ spec.limits_of command word.now version.now }
-    ensures stress { IfOk result (λ limits. SerialAlone command limits.is_extended) }
+    ensures stress { IfOk result (λ limits. SerialAlone command limits.forms.is_extended) }
     ensures few { IfOk result (λ limits. (limits.nodes ≤ MOST_NODES)
         × (limits.workers ≤ MOST_WORKERS)) }
 {
@@ -90,16 +120,17 @@ fn limits_of(command: Command, word: &[u8], version: &[u8]) -> Result<Limits, Re
         (_, b"1") => Ok(Limits {
             nodes: 65_536,
             workers: 32,
-            is_extended: false,
+            forms: without_swaps(false),
             is_radix: false,
         }),
-        (Command::Replay, b"2") => Ok(greatest(false, false)),
-        (Command::Replay, b"3") => Ok(greatest(true, false)),
-        (Command::Replay, b"4") => Ok(greatest(true, true)),
-        (Command::Serial, b"2") => Ok(greatest(true, false)),
-        (Command::Serial, b"3") => Ok(greatest(true, true)),
-        (Command::Stress, b"2") => Ok(greatest(false, false)),
-        (Command::Stress, b"3") => Ok(greatest(false, true)),
+        (Command::Replay, b"2") => Ok(greatest(without_swaps(false), false)),
+        (Command::Replay, b"3") => Ok(greatest(without_swaps(true), false)),
+        (Command::Replay, b"4") => Ok(greatest(without_swaps(true), true)),
+        (Command::Replay, b"5") => Ok(greatest(with_swaps(), true)),
+        (Command::Serial, b"2") => Ok(greatest(without_swaps(true), false)),
+        (Command::Serial, b"3") => Ok(greatest(without_swaps(true), true)),
+        (Command::Stress, b"2") => Ok(greatest(without_swaps(false), false)),
+        (Command::Stress, b"3") => Ok(greatest(without_swaps(false), true)),
         _ => Err(Reason::Header),
     }
 }
@@ -135,7 +166,7 @@ fn shaped(layout: Layout, is_radix: bool) -> Layout
 fn header_within(limits: Limits, nodes: u64, workers: u64, tries: u64) -> Result<Header, Reason>
     requires { (limits.nodes ≤ MOST_NODES) × (limits.workers ≤ MOST_WORKERS) }
     ensures says { result ≡ spec.header_within limits nodes workers tries }
-    ensures may { IfOk result (λ h. h.is_extended ≡ limits.is_extended) }
+    ensures may { IfOk result (λ h. h.forms ≡ limits.forms) }
 {
     if nodes < u64::from(LEAST_NODES) || u64::from(limits.nodes) < nodes {
         return Err(Reason::Nodes);
@@ -150,7 +181,7 @@ fn header_within(limits: Limits, nodes: u64, workers: u64, tries: u64) -> Result
         Ok(layout) => Ok(Header {
             layout: shaped(layout, limits.is_radix),
             tries: tries as u32,
-            is_extended: limits.is_extended,
+            forms: limits.forms,
         }),
         Err(LayoutError::Nodes) => Err(Reason::Nodes),
         Err(LayoutError::Workers) => Err(Reason::Workers),
@@ -161,7 +192,7 @@ fn header_within(limits: Limits, nodes: u64, workers: u64, tries: u64) -> Result
 #[tactic(auto, unfolding(crate::specs::Headers::header_of))]
 pub(crate) fn header_of(command: Command, fields: &[&[u8]]) -> Result<Header, Reason>
     ensures says { result ≡ spec.header_of command (map (λ f. f.now) fields.now) }
-    ensures stress { IfOk result (λ h. SerialAlone command h.is_extended) }
+    ensures stress { IfOk result (λ h. SerialAlone command h.forms.is_extended) }
 {
     let [word, version, nodes, workers, tries @ ..] = fields else {
         return Err(Reason::Header);

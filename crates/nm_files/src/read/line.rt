@@ -61,7 +61,7 @@ fn entry_of<T: FileEntry>(header: &Header, fields: &[&[u8]]) -> Result<(u32, T),
     let workers = header.layout.workers();
     both(
         worker_of(workers, worker),
-        T::made(workers, header.is_extended, word, arguments),
+        T::made(workers, header.forms, word, arguments),
     )
 }
 

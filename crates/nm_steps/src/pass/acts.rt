@@ -11,10 +11,12 @@ ghost use prog.Atomic.{either};
 ghost use Rattle.nm_steps.specs.Steps.{IsReadyFor, IsDone, Changes, IsBlind};
 ghost use Rattle.nm_steps.specs.Rows.{CanPass, HasPassed};
 ghost use Rattle.nm_steps.specs.Rules.{HasNotStored};
-ghost use Rattle.nm_steps.specs.Values.{CanReach, HasPutValue, HasSeenValue, MayStore};
+ghost use Rattle.nm_steps.specs.Values.{CanReach, CanReachLeft, HasPutValue, HasSeenLeft, HasSeenValue, MayStore};
 
 use crate::pass::Shared;
-use crate::view::{Does, Doing, LooksAtValue, Passes, Passing, Slotted, StoresValue, WorkerSeat};
+use crate::view::{
+    Does, Doing, LooksAtLeft, LooksAtValue, Passes, Passing, Slotted, StoresValue, WorkerSeat,
+};
 use nm_model::Event;
 
 impl Shared {
@@ -132,6 +134,21 @@ impl Shared {
     {
         let _ = slot;
         self.table.shared.load::<LooksAtValue<D>>(seat, word)
+    }
+
+    /// Reads the word of the left edge of a slot.
+    pub(crate) fn look_at_left<D: Slotted>(
+        &self,
+        seat: &mut WorkerSeat,
+        word: usize,
+        slot: u32,
+    ) -> u64
+        requires pick { D.slot ≡ slot }
+        requires can { CanReachLeft self.now seat.old slot word }
+        ensures { HasSeenLeft seat.old seat.new slot result }
+    {
+        let _ = slot;
+        self.table.shared.load::<LooksAtLeft<D>>(seat, word)
     }
 
     /// Stores the value of a private slot.

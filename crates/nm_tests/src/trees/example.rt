@@ -1,4 +1,4 @@
-//! The examples of `docs/USING.md` and `docs/RATTLE.md`.
+//! The examples of `docs/RATTLE.md`.
 ghost use Rattle.nm_tree.specs.Calls.{MayCall};
 
 use super::*;

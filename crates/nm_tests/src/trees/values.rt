@@ -117,8 +117,9 @@ fn takes_back(tree: &Tree, worker: &mut Worker, out: &mut [u64]) -> usize
     tree.collect_values(worker, out).values
 }
 
-/// The values of removed keys come back once, in the order of the removals. A slice that is full
-/// keeps the next ones for a later call. The value of a key that is in the tree stays there.
+/// The values of removed keys come back once, in the order of the removals. If the slice is full, the
+/// next ones wait for a later call, and no node is freed. The value of a key that is in the tree stays
+/// there.
 #[test]
 fn values_come_back_once(rt: HostRuntime) -> Result<(), Fail> {
     let (tree, mut one, _two) = map_of(&rt, 64)?;
@@ -128,10 +129,11 @@ fn values_come_back_once(rt: HostRuntime) -> Result<(), Fail> {
     puts_and_deletes(&rt, &tree, &mut one, 5, 52);
     let mut none: [u64; 0] = [];
     assert_eq!(rt; takes_back(&tree, &mut one, &mut none), 0);
-    assert_eq!(rt; one.queue_len(), 5);
+    assert_eq!(rt; one.queue_len(), 6);
     let mut two = [0; 2];
     assert_eq!(rt; takes_back(&tree, &mut one, &mut two), 2);
     assert_eq!(rt; two, [50, 51]);
+    assert_eq!(rt; one.queue_len(), 2);
     let mut four = [0; 4];
     assert_eq!(rt; takes_back(&tree, &mut one, &mut four), 1);
     assert_eq!(rt; four, [52, 0, 0, 0]);

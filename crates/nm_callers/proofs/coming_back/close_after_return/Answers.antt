@@ -22,4 +22,5 @@ returns-in-Ok c =
     let r2 = c.know_run-2.ensures in
     let settled : Settled s.tree.layout 0 (x ∷ y ∷ []) = (c.requires.first.number, c.requires.first.settled, r1.idle, r1.turns, (c.requires.second.number, c.requires.second.settled, r2.idle, r2.turns, workers)) in
     subst (λ (ws : List WorkerView). AddUp ws c.in-Ok.report.keys.items) kept
-    (added_up s c.in-Ok.report (subst (λ (ws : List WorkerView). Settled s.tree.layout 0 ws) (sym kept) settled) c.in-Ok.ensures.closed)
+    (added_up s c.in-Ok.report (subst (λ (ws : List WorkerView). Settled s.tree.layout 0 ws) (sym kept) settled)
+    c.in-Ok.ensures.says)

@@ -19,7 +19,7 @@ returns-clause-answers c =
     (λ found gave. record { mid = p; put = c.in-Ok-true.ensures.puts c.requires.values (ap Ok c.in-Ok-true.field-0-test); on = c.get-found.ensures.past; gave = gave }) c.get-found.ensures.moment
 
 pub returns-clause-found : goal.returns-clause-found
-returns-clause-found c none =
+returns-clause-found c none unreplaced =
     let o = c.args.worker.now.pass in
     let p = c.insert_with_value.new.worker.pass in
     let q = c.get-found.new.worker.pass in
@@ -28,7 +28,7 @@ returns-clause-found c none =
     let some = is_found o p q c.args.key (subst IsKey c.get-number.ensures.number c.get-number.ensures.fits) history (sym (ap (λ (z : PassView). z.view.layout) e.same)) e.past
     (subst (λ b. AnswerHasMoment o p Insert c.args.key b) c.in-Ok-true.field-0-test c.in-Ok-true.ensures.says.moment) none in
     of_found c.get-found.result c.ok.result (MapGave p q c.args.key) (λ found. found ≡ Some c.args.value) c.ok.ensures.value
-    (λ found gave. is_kept o p q c.args.key c.args.value c.know_run.ensures.seen c.know_run.ensures.fits history e.same e.past e.stores (c.in-Ok-true.ensures.puts c.requires.values (ap Ok c.in-Ok-true.field-0-test)) none found (some found gave) gave)
+    (λ found gave. is_kept o p q c.args.key c.args.value c.know_run.ensures.seen c.know_run.ensures.fits history e.same e.past e.stores (c.in-Ok-true.ensures.puts c.requires.values (ap Ok c.in-Ok-true.field-0-test)) none unreplaced found (some found gave) gave)
     e.moment
 
 pub returns-clause-one_map : goal.returns-clause-one_map

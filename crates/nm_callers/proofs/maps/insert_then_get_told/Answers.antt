@@ -13,7 +13,7 @@ use Rattle.nm_callers.proofs.OneMap.{told_of_one_map}
 use Rattle.nm_callers.proofs.maps.insert_then_get_told.Goals as goal
 
 pub returns-clause-found : goal.returns-clause-found
-returns-clause-found c none =
+returns-clause-found c none unreplaced =
     let o = c.args.one.now.pass in
     let p = c.insert_with_value.new.worker.pass in
     let m = c.tell_worker.new.to.pass in
@@ -27,7 +27,7 @@ returns-clause-found c none =
     let moment = subst (λ b. AnswerHasMoment o p Insert c.args.key b) c.in-Ok-true.field-0-test c.in-Ok-true.ensures.says.moment in
     of_found c.get-found.result c.ok.result (MapGave m q c.args.key) (λ found. found ≡ Some c.args.value) c.ok.ensures.value
     (λ found later. let gave = gave_earlier p m q c.tell_worker.ensures.heard c.args.key found later in
-    is_kept_told o p q c.args.key c.args.value c.know_run.ensures.seen c.know_run-2.ensures.seen c.know_run-2.ensures.fits history layout on (stores_through p.view.stores m.view.stores q.view.stores c.tell_worker.ensures.heard_stores e.stores) put none found (is_found o p q c.args.key is_key history layout on moment none found gave) gave)
+    is_kept_told o p q c.args.key c.args.value c.know_run.ensures.seen c.know_run-2.ensures.seen c.know_run-2.ensures.fits history layout on (stores_through p.view.stores m.view.stores q.view.stores c.tell_worker.ensures.heard_stores e.stores) put none unreplaced found (is_found o p q c.args.key is_key history layout on moment none found gave) gave)
     e.moment
 
 pub returns-clause-one_map : goal.returns-clause-one_map

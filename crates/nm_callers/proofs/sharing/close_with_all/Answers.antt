@@ -43,4 +43,5 @@ returns-in-Ok-close c =
       ),
     ) in
     subst (λ (ws : List WorkerView). AddUp ws c.in-Ok-close.report.keys.items) kept
-    (added_up s c.in-Ok-close.report (subst (λ (ws : List WorkerView). Settled s.tree.layout 0 ws) (sym kept) settled) c.in-Ok-close.ensures.closed)
+    (added_up s c.in-Ok-close.report (subst (λ (ws : List WorkerView). Settled s.tree.layout 0 ws) (sym kept) settled)
+    c.in-Ok-close.ensures.says)

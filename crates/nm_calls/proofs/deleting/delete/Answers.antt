@@ -84,4 +84,4 @@ returns-clause-few c = few_in_table c.args.shared.now c.args.pass.now c.delete_p
 
 pub returns-clause-taken : goal.returns-clause-taken
 returns-clause-taken c = λ values.
-    if_taken c.args.pass.now c.pin_for.new.pass c.delete_pinned.new.pass c.args.key c.delete_pinned.new.value c.know_run.ensures.seen c.know_run.ensures.fits c.requires.rests.unpinned c.pin_for.ensures.on c.delete_pinned.result (c.delete_pinned.ensures.read values)
+    if_taken c.args.pass.now c.pin_for.new.pass c.delete_pinned.new.pass c.args.key c.delete_pinned.new.value c.know_run.ensures.seen c.know_run.ensures.fits (ap (λ (s : Search). s.call) c.requires.rests.idle) c.pin_for.ensures.on c.delete_pinned.result (c.delete_pinned.ensures.read values)

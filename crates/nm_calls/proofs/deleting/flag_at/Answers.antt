@@ -50,5 +50,5 @@ returns-in-Ok-clause-read c = λ values.
     let r = c.args.end.now in
     let v = c.value_of_slot.result in
     let saw = c.value_of_slot.ensures.sees values in
-    read_flagged o m c.args.key v c.look_birth-birth.result r c.requires.key c.requires.may (returns-in-Ok-clause-on c) (returns-in-Ok-clause-won c).part saw.0
+    read_flagged o m c.args.key v c.look_birth-birth.result r c.requires.key c.requires.may (returns-in-Ok-clause-on c) (returns-in-Ok-clause-won c) saw.0
     (subst (λ (n : ℕ). v ≡ value_of m.view.stores n) c.slot-leaf.ensures saw.1)

@@ -32,6 +32,9 @@ returns-then-not-make_room_for-clause-private c =
 pub try_insert-requires-clause-call : goal.try_insert-requires-clause-call
 try_insert-requires-clause-call c = call_still Insert c.args.key c.args.pass.now c.loop-round.pass c.loop-round.invariant.on c.requires.call
 
+pub try_insert-requires-clause-unswapped : goal.try_insert-requires-clause-unswapped
+try_insert-requires-clause-unswapped c = c.loop-round.invariant.only.swapped ∙ c.requires.unchanged.unswapped
+
 pub give_back_and_read-requires-clause-ready : goal.give_back_and_read-requires-clause-ready
 give_back_and_read-requires-clause-ready c = if_ready c.args.pass.now c.try_insert.new.pass c.try_insert.new.new_nodes (c.try_insert.ensures.has c.args.pass.now c.loop-round.invariant.has)
 

@@ -32,7 +32,10 @@ grow-requires-clause-may c =
     let o = c.requires.new_nodes.0 in
     let has = c.ready.ensures.has o (kept_fork o c.args.pass.now c.stop.new.pass c.args.new_nodes.now c.stop.ensures.on.same c.stop.ensures.only.private c.requires.new_nodes.1) in
     let made = held_fork o c.ready.new.pass c.ready.new.new_nodes c.in-Some-ready.made c.in-Some-ready.ensures.part.0 has in
-    rw c.get-sought.ensures.number (may_grow c.args.shared.now c.args.pass.now c.stop.new.pass c.ready.new.pass c.args.key c.in-Some.end c.stop.new.chain.items c.in-Some-ready.made (search rules) c.requires.call.call c.requires.unlinked
+    rw c.get-sought.ensures.number
+    (may_grow c.args.shared.now c.args.pass.now c.stop.new.pass c.ready.new.pass c.args.key c.in-Some.end
+    c.stop.new.chain.items c.in-Some-ready.made
+    (search rules) c.requires.call.call c.requires.unlinked c.requires.unswapped
     c.stop.ensures.on c.stop.ensures.only (rw c.get-sought.ensures.number at c.in-Some.ensures.came) (rw c.get-sought.ensures.number at c.in-Some.ensures.place) (rw c.get-sought.ensures.number at c.if-end-sought.false) c.ready.ensures.on c.ready.ensures.only made.ready)
 
 pub help-requires-clause-at : goal.help-requires-clause-at

@@ -1,4 +1,4 @@
-use Rattle.nm_calls.proofs.KeptValues.{taken_values_are_cut as proved}
+use Rattle.nm_calls.proofs.TakenUntilCut.{taken_values_are_cut as proved}
 use Rattle.nm_calls.proofs.laws.taken_values_are_cut.Goals as goal
 
 pub returns : goal.returns

@@ -41,7 +41,10 @@ pub unpin-requires-clause-may : goal.unpin-requires-clause-may
 unpin-requires-clause-may c =
     let at = c.in-Ok.ensures.at in
     let only = c.loop-walk.invariant.only in
-    may_leave c.loop-walk.pass (ap (λ (b : Brief). b.unlabelled) only.epochs ∙ at.labelled) (only.linked ∙ ap (λ (s : Search). s.linked) at.begun) (only.flagged ∙ ap (λ (s : Search). s.flagged) at.begun)
+    may_leave c.loop-walk.pass (ap (λ (b : Brief). b.unlabelled) only.epochs ∙ at.labelled)
+    (only.linked ∙ ap (λ (s : Search). s.linked) at.begun)
+    (only.swapped ∙ ap (λ (s : Search). s.swapped) at.begun)
+    (only.flagged ∙ ap (λ (s : Search). s.flagged) at.begun)
 
 pub returns : goal.returns
 returns c =

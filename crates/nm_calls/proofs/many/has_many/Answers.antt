@@ -6,7 +6,7 @@ use Rattle.nm_calls.specs.declared.scan_plan.What.TheVariants.{Keys}
 use Rattle.nm_calls.specs.InTurns.{GiveUp, key_of, most_looks}
 use Rattle.nm_calls.specs.PlainWalks.{LooksUnderPin, WasSo}
 use Rattle.nm_calls.proofs.Adding.{has_won, cuts_none, plain_moved_adds}
-use Rattle.nm_calls.proofs.InTurnsLooks.{all_were_so}
+use Rattle.nm_calls.proofs.InTurnsLooks.{all_in_all, all_were_so}
 use Rattle.nm_calls.proofs.PlainLooks.{was_so, may_end, call_adds, pin_missed, walks_missed}
 use Rattle.nm_calls.proofs.many.has_many.Goals as goal
 
@@ -46,7 +46,11 @@ returns-then-ended c =
           let p = c.walk_all-ended.new.pass in
           let q = c.unpin.new.pass in
           let walked = c.walk_all-ended.ensures in
-          all_were_so Keys p (WasSo o q) (was_so o c.pin.new.pass p q c.know_run.ensures.seen c.know_run.ensures.fits c.requires.rests.unpinned c.pin.ensures.on walked.on c.know_run-2.ensures.seen c.unpin.ensures.took) c.walk_all-ended.new.queries walked.under_way (walked.ended c.if-ended.true)
+          all_were_so Keys p (WasSo o q)
+          (was_so o c.pin.new.pass p q c.know_run.ensures.seen c.know_run.ensures.fits c.requires.rests.unpinned
+          c.pin.ensures.on walked.on c.know_run-2.ensures.seen c.unpin.ensures.took) c.walk_all-ended.new.queries
+          (all_in_all Keys (length c.pin.new.pass.view.log) 0 p c.walk_all-ended.new.queries walked.under_way)
+          (walked.ended c.if-ended.true)
           );
       busy = search rules;
       missed = search rules;

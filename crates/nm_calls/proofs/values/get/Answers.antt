@@ -1,4 +1,4 @@
-use Rattle.std.proofs.Common.{[], ◌∷◌, subst, ℕ}
+use Rattle.std.proofs.Common.{[], ◌∷◌, length, subst, ℕ}
 use Rattle.std.specs.Prelude.{IfErr}
 use Rattle.std.proofs.lemmas.Result.{IfOk-weaker}
 use Rattle.nm_edge.specs.Keys.{IsKey}
@@ -24,6 +24,10 @@ returns c =
     let on = c.look_up-found.ensures.on in
     let k = c.args.key in
     let is_key = subst IsKey c.get.ensures.number c.get.ensures.fits in
-    let moment = IfOk-weaker r _ (WasMapped q.view.layout o.view.past q.view.past q.view.stores q.view.number k) (λ found h. was_mapped o a p c.know_run.ensures.seen c.know_run.ensures.fits c.requires.rests.unpinned c.pin.ensures.on on k is_key q c.unpin.ensures.took c.know_run-2.ensures.seen found (subst (λ (j : ℕ). HasLookedUp p j found) c.get.ensures.number h)) c.look_up-found.ensures.found in
+    let moment = IfOk-weaker r _ (WasMapped q.view.layout o.view.past q.view.past q.view.stores q.view.number k)
+    (λ found h. was_mapped o a p c.know_run.ensures.seen c.know_run.ensures.fits c.requires.rests.unpinned
+    c.pin.ensures.on on k is_key q c.unpin.ensures.took c.know_run-2.ensures.seen (length a.view.log) found
+    (subst (λ (j : ℕ). HasLookedUp (length a.view.log) p j found) c.get.ensures.number h))
+    c.look_up-found.ensures.found in
     get_after_walk c.args.shared.now.layout c.args.tries k c.in-Ok._epoch o a p q r c.pin.ensures.on c.in-Ok.ensures.pinned c.pin.ensures.hands on c.look_up-found.ensures.only c.look_up-found.ensures.looks
     c.unpin.ensures.took c.unpin.ensures.rests c.unpin.ensures.hands moment (subst (λ (j : ℕ). IfErr r (λ e. GiveUp c.args.shared.now.layout (j ∷ []) a.view.log p.view.log)) c.get.ensures.number c.look_up-found.ensures.missed) c.look_up-found.ensures.busy

@@ -9,11 +9,11 @@ use Rattle.nm_steps.specs.Steps.{Continues, MayStep, PassView}
 use Rattle.nm_steps.proofs.Asking.{give_slot}
 use Rattle.nm_steps.proofs.Seeing.{continues_then, continues_by}
 use Rattle.nm_epoch.proofs.OneQueue.{collecting_begins, dropped_front, may_collect}
-use Rattle.nm_epoch.proofs.ReadValues.{collecting_if, continues_if, handed_front, handing_begins, handing_on, more_on, room_on, taken_on}
+use Rattle.nm_epoch.proofs.ReadValues.{handed_collecting, handed_continues, handed_front, handing_begins, handing_on, more_on, room_on, taken_on}
 use Rattle.nm_epoch.proofs.handing.hand_out_front.Goals as goal
 
-pub loop-front-init : goal.loop-front-init
-loop-front-init c =
+pub loop-node-init : goal.loop-node-init
+loop-node-init c =
     record {
       handing = ([], handing_begins c.args.epoch c.args.held.now.origin c.args.pass.now c.args.held.now.queue.items (collecting_begins c.args.epoch c.args.held.now.origin c.args.pass.now c.args.held.now.queue.items c.requires.queue), sym (append-nil (take c.args.count c.args.out.now)));
       on = search rules;
@@ -27,47 +27,62 @@ loop-front-init c =
 
 pub hand_out-written-requires-clause-slot : goal.hand_out-written-requires-clause-slot
 hand_out-written-requires-clause-slot c =
-    let p = c.loop-front.pass in
-    let held = c.loop-front.invariant in
-    let may : MayStep p (Give c.in-Some.front.node.slot) = may_collect c.args.epoch c.args.held.now.origin c.args.pass.now p c.args.held.now.queue.items c.loop-front.held.queue.items c.in-Some.front.node held.on.run held.handing.1.collecting c.requires.seen (c.in-Some.ensures).node in
-    subst (λ (L : Layout). IsSlot L c.in-Some.front.node.slot) (ap (λ (z : PassView). z.view.layout) held.on.same ∙ c.requires.own.layout) (give_slot _ _ _ c.in-Some.front.node.slot may)
+    let p = c.loop-node.pass in
+    let held = c.loop-node.invariant in
+    let may : MayStep p (Give c.in-Some.node.slot) = may_collect c.args.epoch c.args.held.now.origin c.args.pass.now p
+    c.args.held.now.queue.items c.loop-node.held.queue.items c.in-Some.node held.on.run held.handing.1.collecting
+    c.requires.seen (c.in-Some.ensures).node in
+    subst (λ (L : Layout). IsSlot L c.in-Some.node.slot)
+    (ap (λ (z : PassView). z.view.layout) held.on.same ∙ c.requires.own.layout)
+    (give_slot _ _ _ c.in-Some.node.slot may)
 
 pub free-requires-clause-may : goal.free-requires-clause-may
 free-requires-clause-may c =
-    let p = c.loop-front.pass in
+    let p = c.loop-node.pass in
     let r = c.hand_out-written.new.pass in
-    let held = c.loop-front.invariant in
-    let did = c.hand_out-written.ensures in
-    let b = c.in-Some.front.is_leaf in
-    let at_r : Continues p r = continues_if p r b held.on.run (λ e. (did.leaf e).0) (λ e. (did.other e).0) in
-    may_collect c.args.epoch c.args.held.now.origin c.args.pass.now r c.args.held.now.queue.items c.loop-front.held.queue.items c.in-Some.front.node at_r.run (collecting_if c.args.epoch c.args.held.now.origin c.args.pass.now p r c.args.held.now.queue.items c.loop-front.held.queue.items b (λ e. (did.leaf e).0) (λ e. (did.other e).0) held.handing.1.collecting) c.requires.seen
+    let held = c.loop-node.invariant in
+    let did = c.hand_out-written.ensures.after in
+    may_collect c.args.epoch c.args.held.now.origin c.args.pass.now r c.args.held.now.queue.items
+    c.loop-node.held.queue.items c.in-Some.node
+    (handed_continues p r c.in-Some.node.slot _ _ _ _ did held.on.run).run
+    (handed_collecting p r c.in-Some.node.slot _ _ _ _ did c.args.epoch c.args.held.now.origin c.args.pass.now
+    c.args.held.now.queue.items c.loop-node.held.queue.items held.handing.1.collecting) c.requires.seen
     (c.in-Some.ensures).node
 
-pub loop-front-preserved : goal.loop-front-preserved
-loop-front-preserved c =
-    let p = c.loop-front.pass in
+pub loop-node-preserved : goal.loop-node-preserved
+loop-node-preserved c =
+    let p = c.loop-node.pass in
     let r = c.hand_out-written.new.pass in
-    let held = c.loop-front.invariant in
-    let did = c.hand_out-written.ensures in
-    let n = c.in-Some.front.node in
-    let b = c.in-Some.front.is_leaf in
+    let held = c.loop-node.invariant in
+    let did = c.hand_out-written.ensures.after in
+    let n = c.in-Some.node in
+    let b = did.bare in
     let found = c.in-Some.ensures in
-    let at_r : Continues p r = continues_if p r b held.on.run (λ e. (did.leaf e).0) (λ e. (did.other e).0) in
-    let front = dropped_front c.args.epoch c.loop-front.held.queue.items c.drop_front.new.queue.items n c.drop_front.ensures.items found.node in
+    let at_r : Continues p r = handed_continues p r n.slot _ _ _ _ did held.on.run in
+    let front = dropped_front c.args.epoch c.loop-node.held.queue.items c.drop_front.new.queue.items n
+    c.drop_front.ensures.items found.node in
     let v = value_of r.view.stores n.slot in
     let vs = held.handing.0 in
-    let long = did.long in
+    let long = c.hand_out-written.ensures.long in
     record {
       handing = (
         cond b (vs ++ v ∷ []) vs,
-        handing_on c.args.epoch c.args.held.now.origin c.args.pass.now p r c.free.new.pass c.args.held.now.queue.items c.loop-front.held.queue.items c.drop_front.new.queue.items vs (cond b (vs ++ v ∷ []) vs) n b held.on held.handing.1 found.node found.leaf
-            (λ e. ((did.leaf e).0, cond-true b (vs ++ v ∷ []) vs e)) (λ e. ((did.other e).0, cond-false b (vs ++ v ∷ []) vs e)) c.free.ensures front.0 front.1,
-        taken_on b vs (take c.args.count c.args.out.now) (take c.loop-front.written c.loop-front.out) (take c.hand_out-written.result c.hand_out-written.new.out) v held.handing.2 (λ e. (did.leaf e).2)
-            (λ e. ap (λ (m : ℕ). take m c.hand_out-written.new.out) (did.other e).1 ∙ ap (λ (l : List ℕ). take c.loop-front.written l) (did.other e).2),
+        handing_on c.args.epoch c.args.held.now.origin c.args.pass.now p r c.free.new.pass c.args.held.now.queue.items
+            c.loop-node.held.queue.items c.drop_front.new.queue.items vs
+            (cond b (vs ++ v ∷ []) vs) n _ _ _ _ held.on held.handing.1 found.node did
+            (λ e. cond-true b (vs ++ v ∷ []) vs e)
+            (λ e. cond-false b (vs ++ v ∷ []) vs e) c.free.ensures front.0 front.1,
+        taken_on b vs (take c.args.count c.args.out.now) (take c.loop-node.written c.loop-node.out)
+            (take c.hand_out-written.result c.hand_out-written.new.out) v held.handing.2 (λ e. (did.leaf e).2)
+            (λ e. ap (λ (m : ℕ). take m c.hand_out-written.new.out) (did.other e).1
+            ∙ ap (λ (l : List ℕ). take c.loop-node.written l) (did.other e).2),
       );
       on = continues_then _ _ _ (continues_then _ _ _ held.on at_r) (continues_by _ _ _ _ c.free.ensures);
-      more = more_on b c.args.count c.loop-front.written c.hand_out-written.result held.more (λ e. (did.leaf e).1) (λ e. (did.other e).1);
-      room = subst (λ (m : ℕ). c.hand_out-written.result ≤ m) (sym long) (room_on b c.loop-front.written c.hand_out-written.result (length c.loop-front.out) held.room (λ e. ((did.leaf e).1, found.room e)) (λ e. (did.other e).1));
+      more = more_on b c.args.count c.loop-node.written c.hand_out-written.result held.more (λ e. (did.leaf e).1)
+          (λ e. (did.other e).1);
+      room = subst (λ (m : ℕ). c.hand_out-written.result ≤ m) (sym long)
+          (room_on b c.loop-node.written c.hand_out-written.result (length c.loop-node.out) held.room
+          (λ e. ((did.leaf e).1, found.room)) (λ e. (did.other e).1));
       blocks = c.drop_front.ensures.blocks ∙ held.blocks;
       origin = held.origin;
       counts = held.counts;
@@ -76,5 +91,11 @@ loop-front-preserved c =
 
 pub returns-clause-after : goal.returns-clause-after
 returns-clause-after c =
-    let held = c.loop-front.invariant in
-    (held.handing.0, handed_front c.args.epoch _ c.args.pass.now c.loop-front.pass c.args.held.now _ c.loop-front.held.queue.items held.handing.0 held.handing.1 held.on (λ room. (c.in_default.ensures).none refl room) (search rules) held.origin (search rules) (search rules), held.handing.2)
+    let held = c.loop-node.invariant in (
+      held.handing.0,
+      handed_front c.args.epoch _ c.args.pass.now c.loop-node.pass c.args.held.now _
+          c.loop-node.held.queue.items held.handing.0 held.handing.1 held.on
+          (λ room. (c.in_default.ensures).none refl room) (search rules) held.origin (search rules)
+          (search rules),
+      held.handing.2,
+    )

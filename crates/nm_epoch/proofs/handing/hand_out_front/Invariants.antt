@@ -4,8 +4,8 @@ use Rattle.nm_steps.specs.Steps.{Continues}
 use Rattle.nm_epoch.proofs.ReadValues.{IsHanding}
 use Rattle.nm_epoch.proofs.handing.hand_out_front.Given as goal
 
-abbrev pub invariant-loop-front : goal.invariant-loop-front
-invariant-loop-front l = record {
+abbrev pub invariant-loop-node : goal.invariant-loop-node
+invariant-loop-node l = record {
   handing : (values : List ℕ) × IsHanding l.epoch l.fn.held.origin l.fn.pass l.fn.held.queue.items l.pass l.held.queue.items values
       × (take l.written l.out ≡ take l.fn.count l.fn.out ++ values);
   on : Continues l.fn.pass l.pass;
@@ -17,5 +17,5 @@ invariant-loop-front l = record {
   fit : l.placement ≡ l.fn.placement;
 }
 
-abbrev pub decreases-loop-front : goal.decreases-loop-front
-decreases-loop-front l = length l.held.queue.items
+abbrev pub decreases-loop-node : goal.decreases-loop-node
+decreases-loop-node l = length l.held.queue.items

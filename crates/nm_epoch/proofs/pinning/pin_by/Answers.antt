@@ -32,7 +32,8 @@ loop-round-init c = record {
 
 pub leave-requires-clause-may : goal.leave-requires-clause-may
 leave-requires-clause-may c =
-    let t = c.loop-round.invariant.trying in may_leave c.loop-round.pass t.labelled (ap (λ s. s.linked) t.idle) (ap (λ s. s.flagged) t.idle)
+    let t = c.loop-round.invariant.trying in may_leave c.loop-round.pass t.labelled (ap (λ s. s.linked) t.idle)
+    (ap (λ s. s.swapped) t.idle) (ap (λ s. s.flagged) t.idle)
 
 pub returns-clause-moved : goal.returns-clause-moved
 returns-clause-moved c =

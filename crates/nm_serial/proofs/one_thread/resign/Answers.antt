@@ -1,6 +1,6 @@
-use Rattle.std.proofs.Common.{◌≡◌, ◌∙◌, slice_set, Some, inr}
+use Rattle.std.proofs.Common.{◌≡◌, ◌∙◌, slice_set, Some}
 use Rattle.nm_serial.specs.Crews.{worker_at}
-use Rattle.nm_serial.proofs.CrewLemmas.{placed, emptied, stands_at, has_asked, resigning_keeps_whole}
+use Rattle.nm_serial.proofs.CrewLemmas.{placed, emptied, stands_at, has_asked_if, resigning_keeps_whole}
 use Rattle.std.proofs.lemmas.List.{length-set}
 use Rattle.std.proofs.Common.{◌<◌, length, arith}
 use Rattle.nm_serial.proofs.one_thread.resign.Goals as goal
@@ -35,4 +35,4 @@ returns-clause-did c =
     let below : c.args.leaver < length first = omega (arith, long, c.requires.leaver) in
     let heir_is : worker_at crew c.args.heir ≡ Some c.in-Some.taking = stands_at crew c.args.heir c.index_mut.result.now c.requires.heir c.index_mut.ensures.value ∙ taken in
     let leaver_was : worker_at first c.args.leaver ≡ Some c.in-Some-take.leaving = stands_at first c.args.leaver c.index_mut-2.result.now below c.index_mut-2.ensures.value ∙ left in
-    inr (has_asked crew c.args.leaver c.args.heir c.in-Some.taking c.in-Some-take.leaving c.leave-taken.result.0 c.leave-taken.result.1 c.take.new.self c.take-2.new.self c.if-leaver-heir.false heir_is leaver_was c.leave-taken.result.2 c.leave-taken.ensures.did)
+    has_asked_if crew c.args.leaver c.args.heir c.in-Some.taking c.in-Some-take.leaving c.leave-taken.result.0 c.leave-taken.result.1 c.take.new.self c.take-2.new.self c.if-leaver-heir.false heir_is leaver_was c.leave-taken.result.2 c.leave-taken.ensures.did

@@ -6,7 +6,7 @@ use Rattle.nm_set.proofs.NewMembers.{one_member}
 use Rattle.nm_set.proofs.opening.members_of.Goals as goal
 
 pub loop-number-preserved : goal.loop-number-preserved
-loop-number-preserved c =
+loop-number-preserved g c =
     let h : HomeView = arc_value c.args.home.now in
     let n : ℕ = c.loop-number.number in
     let before : List MemberView = c.loop-number.members.items in

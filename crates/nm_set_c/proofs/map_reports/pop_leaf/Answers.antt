@@ -1,11 +1,29 @@
-use Rattle.std.proofs.Common.{◌≡◌, ◌∙◌, refl, sym, ap, ne_eqb}
-use Rattle.std.specs.Prelude.{◌%◌, false, length}
-use Rattle.nm_epoch.specs.Handing.{is_odd}
-use Rattle.nm_set_c.proofs.Leaves.{lost_next}
+use Rattle.std.proofs.Common.{◌≡◌, ◌∙◌, ◌++◌, false, List, [], ◌∷◌, append_assoc, refl, sym, ap}
+use Rattle.std.proofs.lemmas.List.Elements.{All-append, All-cons, All-nil}
+use Rattle.nm_epoch.specs.declared.collecting.Entry.{Entry}
+use Rattle.nm_tree.specs.MapReports.{is_leaf_at}
 use Rattle.nm_set_c.proofs.map_reports.pop_leaf.Goals as goal
 
-pub returns : goal.returns
-returns c =
-    let h = c.args.held.now in
-    let even : is_odd (length h.queue.items) ≡ false = ne_eqb (length h.queue.items % 2) 1 (λ e. c.if-is_leaf.false (ap (λ n. n % 2) c.len.ensures.len ∙ e)) in
-    lost_next h (record h { queue = c.pop-2.new.self }) c.in-Some.first c.pop.new.self.items c.pop-2.result _ _ c.in-Some.ensures.popped.0 even c.pop-2.ensures.popped (λ e p. p.0) refl refl
+pub loop-entry-init : goal.loop-entry-init
+loop-entry-init c = record {
+  before = ([], refl, All-nil (λ (e : Entry). is_leaf_at c.args.values.now e.node.slot ≡ false));
+  origin = refl;
+  counts = refl;
+}
+
+pub loop-entry-preserved : goal.loop-entry-preserved
+loop-entry-preserved c =
+    let inv = c.loop-entry.invariant in
+    let e = c.in-Some.entry in
+    let P : Entry → Type 0 = λ (x : Entry). is_leaf_at c.args.values.now x.node.slot ≡ false in
+    record {
+      before = (
+        inv.before.0 ++ e ∷ [],
+        inv.before.1
+            ∙ (ap (λ (es : List Entry). inv.before.0 ++ es) c.in-Some.ensures.popped.0
+            ∙ sym (append_assoc inv.before.0 (e ∷ []) c.pop.new.self.items)),
+        All-append P inv.before.0 (e ∷ []) inv.before.2 (All-cons P e [] (sym c.if-is_leaf.ensures) (All-nil P)),
+      );
+      origin = inv.origin;
+      counts = inv.counts;
+    }

@@ -5,4 +5,13 @@ use Rattle.nm_set_c.proofs.maps.end.Goals as goal
 
 pub returns-in-Ok : goal.returns-in-Ok
 unfolding EndsOwned
-returns-in-Ok c = inl (c.in-Map.map, c.in-Map.is, inl (refl, record { report = c.in-Ok.left.report; values = Some c.in-Ok.left.values }, refl, (c.in-Ok.ensures.closed, c.in-Ok.left.values, refl, c.in-Ok.ensures.says)))
+returns-in-Ok c = inl (
+  c.in-Map.map,
+  c.in-Map.is,
+  inl (
+    refl,
+    record { report = c.in-Ok.left.report; values = Some c.in-Ok.left.values },
+    refl,
+    (c.in-Ok.left.values, refl, c.in-Ok.ensures.says),
+  ),
+)

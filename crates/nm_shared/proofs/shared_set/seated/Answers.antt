@@ -2,12 +2,12 @@ use Rattle.std.proofs.Common.{◌≡◌, ℕ, suc, List, [], ◌∷◌, length, 
 use Rattle.std.specs.Prelude.{Option, Some}
 use Rattle.nm_lending.specs.Visits.{AreSeated}
 use Rattle.nm_set.specs.Seats.{AreNewMembers, IsNewMember, MemberView, SetView}
-use Rattle.nm_shared.specs.Sharing.{Sits}
+use Rattle.nm_shared.specs.Sharing.{SitsIn}
 use Rattle.nm_shared.proofs.Borrowed.{new_sits, seated_and}
 use Rattle.nm_shared.proofs.shared_set.seated.Goals as goal
 
 pub loop-member-preserved : goal.loop-member-preserved
-loop-member-preserved c =
+loop-member-preserved g c =
     let s : SetView = c.args.set.now in
     let before : List (Option MemberView) = c.loop-member.on_seats.items in
     let m : MemberView = c.in_ok-member.member.value in
@@ -18,7 +18,7 @@ loop-member-preserved c =
     let longer : length c.push_reserved.new.self.items ≡ suc (length before) = omega
     (arith, ap (λ (ms : List (Option MemberView)). length ms) more, length-append before (Some m ∷ [])) in
     record {
-      made = subst (AreSeated Sits s 0) (sym more)
+      made = subst (AreSeated SitsIn s 0) (sym more)
           (seated_and s 0 before (length before) m (omega arith) c.loop-member.invariant.made
           (new_sits s (length before) m (subst (λ (y : MemberView). IsNewMember s.tree s.fit (length before) y)
           (sym same) new.0)));

@@ -1,5 +1,6 @@
 use Rattle.std.proofs.Common.{◌≡◌, ap, sym, ◌∙◌, subst}
 use Rattle.nm_edge.specs.Layouts.{Layout}
+use Rattle.nm_edge.specs.Words.{words as all_words}
 use Rattle.nm_model.specs.Reports.{counts, keys}
 use Rattle.nm_tree.specs.Ended.{IsEndOf, end_of}
 use Rattle.nm_steps.specs.Steps.{TreeView, Ends}
@@ -19,7 +20,7 @@ returns-clause-closed c =
     let Q : Layout → Type 0 = λ L. (e : IsEndOf L c.close-words.result.core) → c.read-keys.result.free ≡ (counts (end_of L c.close-words.result.core e)).pool in
     let R : Layout → Type 0 = λ L. (e : IsEndOf L c.close-words.result.core) → c.read-keys.result.reached ≡ (counts (end_of L c.close-words.result.core e)).reached in
     let S : TreeView → Type 0 = λ b. Ends b.layout c.close-words.result.core c.pass.inside.pass.view in
-    closed c.args.tree _ c.pass.inside.home _ c.args.workers.items c.read-keys.result.keys.items c.read-keys.result.free c.read-keys.result.reached c.close-words.result.core c.pass.invariant
+    closed c.args.tree _ c.pass.inside.home c.args.workers.items c.read-keys.result.keys.items c.read-keys.result.free c.read-keys.result.reached c.close-words.result.core c.pass.invariant.0
     (subst (λ (v : View). StandsForAll c.args.workers.items v) (sym (ap (λ (h : WorkerView). h.pass.view) c.pass.view_is)) c.unite_all.ensures.joined)
     (subst (λ (v : View). GoesOnFromAll v.past c.args.workers.items) (sym (ap (λ (h : WorkerView). h.pass.view) c.pass.view_is)) c.unite_all.ensures.seen)
     (ap (λ (h : WorkerView). h.queues) c.pass.view_is ∙ c.unite_all.ensures.queues)
@@ -42,7 +43,7 @@ returns-clause-values c = λ has.
     let R : Layout → Type 0 = λ L. (e : IsEndOf L c.close-words.result.core) → c.read-keys.result.reached ≡ (counts (end_of L c.close-words.result.core e)).reached in
     let S : Layout → Type 0 = λ L. (e : IsEndOf L c.close-words.result.core) → AreLeavesOf L (end_of L c.close-words.result.core e).memory c.read-keys.result.keys.items c.read-keys.result.leaves.items in
     let V : TreeView → Type 0 = λ b. HasValues b → EndsWithValues b.layout c.close-words.result c.pass.inside.pass.view in
-    ends_map c.args.tree _ c.pass.inside.home _ c.args.workers.items c.read-keys.result.keys.items c.read-keys.result.leaves.items c.read-keys.result.free c.read-keys.result.reached c.close-words.result c.pass.invariant
+    ends_map c.args.tree _ c.pass.inside.home c.args.workers.items c.read-keys.result.keys.items c.read-keys.result.leaves.items c.read-keys.result.free c.read-keys.result.reached c.close-words.result c.pass.invariant.0
     (subst (λ (v : View). StandsForAll c.args.workers.items v) (sym (ap (λ (h : WorkerView). h.pass.view) c.pass.view_is)) c.unite_all.ensures.joined)
     (subst (λ (v : View). GoesOnFromAll v.past c.args.workers.items) (sym (ap (λ (h : WorkerView). h.pass.view) c.pass.view_is)) c.unite_all.ensures.seen)
     (subst (λ (v : View). StoresGoOnFromAll v.stores c.args.workers.items) (sym (ap (λ (h : WorkerView). h.pass.view) c.pass.view_is)) c.unite_all.ensures.stores)
@@ -55,5 +56,6 @@ returns-clause-values c = λ has.
     (subst Q room c.read-keys.ensures.free)
     (subst R room c.read-keys.ensures.reached)
     (subst S room c.read-keys.ensures.leaves)
-    c.nodes-nodes.result
-    (c.nodes-nodes.ensures.nodes ∙ (ap (λ (L : Layout). L.nodes) c.layout.ensures ∙ ap (λ (b : TreeView). b.layout.nodes) c.tree.view_is))
+    c.layout-layout.result
+    (c.layout-layout.ensures ∙ ap (λ (b : TreeView). b.layout) c.tree.view_is)
+    (c.close-words.ensures.long ∙ ap (λ (b : TreeView). all_words b.layout) c.tree.view_is)

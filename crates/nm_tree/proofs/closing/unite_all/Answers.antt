@@ -1,16 +1,30 @@
-use Rattle.std.proofs.Common.{List, [], ◌∷◌, ◌++◌, append_assoc, refl, ap, ◌∙◌, subst}
+use Rattle.std.proofs.Common.{◌≡◌, List, [], ◌∷◌, ◌++◌, append_assoc, refl, sym, ap, ◌∙◌, subst, arith}
 use Rattle.nm_epoch.specs.declared.collecting.HeldQueue.{HeldQueue}
 use Rattle.nm_tree.specs.Workers.{WorkerView}
-use Rattle.nm_tree.specs.Closing.{AreAllOf}
+use Rattle.nm_edge.specs.Layouts.{Layout}
+use Rattle.nm_steps.specs.Steps.{IsOf}
+use Rattle.nm_tree.specs.Closing.{AreAllOf, GoesOnFromAll, StandsForAll, all_merged}
+use Rattle.nm_tree.specs.MapReports.{StoresGoOnFromAll}
 use Rattle.nm_tree.specs.Resigning.{merged}
 use Rattle.nm_tree.proofs.Closed.{all_before, still_of, alone, stands_for_one_more, goes_on_from_one_more, one_seen, one_more_seen, stores_alone, stores_from_one_more}
 use Rattle.nm_tree.proofs.closing.unite_all.Goals as goal
 
+pub of-heir-requires-clause-room : goal.of-heir-requires-clause-room
+of-heir-requires-clause-room c =
+    let last = rw c.in-Some.is at c.pop.ensures.items in
+    let own = (all_before _ c.pop.new.self.items c.in-Some.last (subst (AreAllOf _) last c.requires.own)).1 in
+    let same = ap (λ (L : Layout). L.workers) own.layout in
+    omega (arith, same, c.requires.room)
+
 pub loop-leaver-init : goal.loop-leaver-init
 loop-leaver-init c =
     let last = rw c.in-Some.is at c.pop.ensures.items in
-    let parts = all_before _ c.pop.new.self.items c.in-Some.heir (subst (AreAllOf _) last c.requires.own) in
-    record { own = parts.1; left = parts.0; united = (c.in-Some.heir, [], last, refl, alone c.in-Some.heir, stores_alone c.in-Some.heir, one_seen c.in-Some.heir c.know_run.ensures.seen, refl) }
+    let u = c.in-Some.last in
+    let parts = all_before _ c.pop.new.self.items u (subst (AreAllOf _) last c.requires.own) in
+    let P : WorkerView → Type 0 = λ h. IsOf c.args.shared.now h.pass × StandsForAll (u ∷ []) h.pass.view
+    × GoesOnFromAll h.pass.view.past (u ∷ []) × StoresGoOnFromAll h.pass.view.stores (u ∷ []) × (h.queues ≡ all_merged (u ∷ [])) in
+    let is : P c.of-heir.result = subst P (sym c.of-heir.ensures) (parts.1, refl, alone u, stores_alone u, refl) in
+    record { own = is.0; left = parts.0; united = (u, [], last, is.1, is.2, is.3, one_seen u c.know_run.ensures.seen, is.4) }
 
 pub unite-heir-requires-clause-leaver : goal.unite-heir-requires-clause-leaver
 unite-heir-requires-clause-leaver c =

@@ -1,9 +1,9 @@
-use Rattle.std.proofs.Common.{refl, ◌∙◌, arith}
-use Rattle.nm_tree.proofs.Opening.{new_are_ready, all_fit, all_fresh, all_new, as_many, have_workers}
+use Rattle.std.proofs.Common.{refl, ◌∙◌}
+use Rattle.nm_tree.proofs.Opening.{new_are_ready, all_fit, all_fresh, all_new, as_many}
 use Rattle.nm_tree.proofs.tree.with_workers.Goals as goal
 
 pub workers_of-requires : goal.workers_of-requires
-workers_of-requires c = record { fresh = all_fresh _ 0 _ c.requires.fresh; all = have_workers _ 0 _ _ (let n = c.requires.count in omega (arith, n)) c.requires.fresh }
+workers_of-requires c = record { fresh = all_fresh _ 0 _ c.requires.fresh }
 
 pub returns-clause-new : goal.returns-clause-new
 returns-clause-new c =

@@ -1,12 +1,12 @@
 use Rattle.std.proofs.Common.{List, ◌∷◌, ◌++◌, [], append_assoc, subst, sym, ap, ◌∙◌}
 use Rattle.std.specs.Prelude.{reverse}
 use Rattle.nm_steps.specs.Steps.{PassView}
-use Rattle.nm_tree.specs.Workers.{WorkerView, AreAllFresh, AreMade, HaveWorkers}
-use Rattle.nm_tree.proofs.Opening.{fresh_before, have_before, one_made}
+use Rattle.nm_tree.specs.Workers.{WorkerView, AreAllFresh, AreMade}
+use Rattle.nm_tree.proofs.Opening.{fresh_before, one_made}
 use Rattle.nm_tree.proofs.tree.workers_of.Goals as goal
 
 pub worker_of-requires : goal.worker_of-requires
-worker_of-requires c = record { fresh = (fresh_before c.pop.new.self.items c.in-Some.pass (subst AreAllFresh (rw c.in-Some.is at c.pop.ensures.items) c.loop-pass.invariant.fresh)).1; room = (have_before _ c.pop.new.self.items c.in-Some.pass (subst (HaveWorkers _) (rw c.in-Some.is at c.pop.ensures.items) c.loop-pass.invariant.all)).1 }
+worker_of-requires c = record { fresh = (fresh_before c.pop.new.self.items c.in-Some.pass (subst AreAllFresh (rw c.in-Some.is at c.pop.ensures.items) c.loop-pass.invariant.fresh)).1 }
 
 pub loop-pass-preserved : goal.loop-pass-preserved
 loop-pass-preserved c =
@@ -17,6 +17,5 @@ loop-pass-preserved c =
     let P : List WorkerView → Type 0 = λ ws. AreMade c.args.fit (c.in-Some.pass ∷ made.0) (reverse ws) in
     record {
       fresh = fresh;
-      all = (have_before _ c.pop.new.self.items c.in-Some.pass (subst (HaveWorkers _) last c.loop-pass.invariant.all)).0;
       made = (c.in-Some.pass ∷ made.0, all, subst P (sym c.in_ok-push.ensures.items) (one_made c.args.fit c.in-Some.pass c.in_ok-worker_of.field-0 made.0 c.loop-pass.workers.items c.in_ok-worker_of.ensures made.2));
     }

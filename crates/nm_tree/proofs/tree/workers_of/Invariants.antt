@@ -1,13 +1,12 @@
 use Rattle.std.proofs.Common.{◌≡◌, List, ◌++◌, length}
 use Rattle.std.specs.Prelude.{reverse}
 use Rattle.nm_steps.specs.Steps.{PassView}
-use Rattle.nm_tree.specs.Workers.{AreAllFresh, AreMade, HaveWorkers}
+use Rattle.nm_tree.specs.Workers.{AreAllFresh, AreMade}
 use Rattle.nm_tree.proofs.tree.workers_of.Given as goal
 
 abbrev pub invariant-loop-pass : goal.invariant-loop-pass
 invariant-loop-pass l = record {
   fresh : AreAllFresh l.passes.items;
-  all : HaveWorkers l.room l.passes.items;
   made : (rest : List PassView) × (l.initial.passes.items ≡ l.passes.items ++ rest) × AreMade l.fit rest (reverse l.workers.items);
 }
 

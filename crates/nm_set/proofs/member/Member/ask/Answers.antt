@@ -13,7 +13,7 @@ use Rattle.nm_set.proofs.Managing.{has_answers, insert_answers, delete_answers}
 use Rattle.nm_set.proofs.member.Member.ask.Goals as goal
 
 pub returns-in-Has-clause-says : goal.returns-in-Has-clause-says
-returns-in-Has-clause-says c =
+returns-in-Has-clause-says g c =
     let L = c.args.self.now.tree.layout in
     let w = c.args.self.now.worker in
     let z = c.has.new.worker in
@@ -22,7 +22,7 @@ returns-in-Has-clause-says c =
     subst (λ (op : Op). Answers op c.args.key (round_bound c.args.tries L) c.args.tries w z r) (sym c.in-Has.is) (has_answers L c.args.tries c.args.key w z r c.requires.none did)
 
 pub returns-in-Insert-clause-says : goal.returns-in-Insert-clause-says
-returns-in-Insert-clause-says c =
+returns-in-Insert-clause-says g c =
     let L = c.args.self.now.tree.layout in
     let w = c.args.self.now.worker in
     let z = c.insert_with_value.new.worker in
@@ -31,7 +31,7 @@ returns-in-Insert-clause-says c =
     subst (λ (op : Op). Answers op c.args.key (round_bound c.args.tries L) c.args.tries w z r) (sym c.in-Insert.is) (insert_answers L c.args.tries c.args.key w z r c.requires.none did)
 
 pub returns-in-Delete-clause-says : goal.returns-in-Delete-clause-says
-returns-in-Delete-clause-says c =
+returns-in-Delete-clause-says g c =
     let L = c.args.self.now.tree.layout in
     let w = c.args.self.now.worker in
     let z = c.delete_with_value.new.worker in
@@ -40,30 +40,30 @@ returns-in-Delete-clause-says c =
     subst (λ (op : Op). Answers op c.args.key (round_bound c.args.tries L) c.args.tries w z r) (sym c.in-Delete.is) (delete_answers L c.args.tries c.args.key w z r c.requires.none did)
 
 pub returns-in-Has-clause-frees : goal.returns-in-Has-clause-frees
-returns-in-Has-clause-frees c =
+returns-in-Has-clause-frees g c =
     let z = c.has.new.worker in
     let did = of_member (λ b v. LeavesHas b.layout c.args.tries c.args.key v z c.has.result) _ _ _ c.self.view_is c.tree-tree.ensures c.has.ensures.leaves in
     has_frees_none c.args.self.now.tree.layout c.args.tries c.args.key c.args.self.now.worker z c.has.result did.did
 
 pub returns-in-Insert-clause-frees : goal.returns-in-Insert-clause-frees
-returns-in-Insert-clause-frees c =
+returns-in-Insert-clause-frees g c =
     let z = c.insert_with_value.new.worker in
     let r = c.insert_with_value.result in
     let did = of_member (λ b v. LeavesInsert b.layout c.args.tries c.args.key v z r) _ _ _ c.self.view_is c.tree-tree.ensures c.insert_with_value.ensures.leaves in
     insert_frees_none c.args.self.now.tree.layout c.args.tries c.args.key c.args.self.now.worker z r did.did
 
 pub returns-in-Delete-clause-frees : goal.returns-in-Delete-clause-frees
-returns-in-Delete-clause-frees c =
+returns-in-Delete-clause-frees g c =
     let z = c.delete_with_value.new.worker in
     let r = c.delete_with_value.result in
     let did = of_member (λ b v. LeavesDelete b.layout c.args.tries c.args.key v z r) _ _ _ c.self.view_is c.tree-tree.ensures c.delete_with_value.ensures.leaves in
     delete_frees_none c.args.self.now.tree.layout c.args.tries c.args.key c.args.self.now.worker z r did.did
 
 pub returns-in-Has-clause-moves : goal.returns-in-Has-clause-moves
-returns-in-Has-clause-moves c = λ has. subst (λ (op : Op). MovesValue op c.args.key c.args.value c.args.found.now c.args.self.now.worker.pass c.has.new.worker.pass c.has.result) (sym c.in-Has.is) tt
+returns-in-Has-clause-moves g c = λ has. subst (λ (op : Op). MovesValue op c.args.key c.args.value c.args.found.now c.args.self.now.worker.pass c.has.new.worker.pass c.has.result) (sym c.in-Has.is) tt
 
 pub returns-in-Insert-clause-moves : goal.returns-in-Insert-clause-moves
-returns-in-Insert-clause-moves c =
+returns-in-Insert-clause-moves g c =
     let k = c.args.key in
     let z = c.insert_with_value.new.worker in
     let f = c.insert_with_value.new.found in
@@ -73,7 +73,7 @@ returns-in-Insert-clause-moves c =
     λ has. subst (λ (op : Op). MovesValue op k c.args.value f c.args.self.now.worker.pass z.pass r) (sym c.in-Insert.is) (puts has, finds has)
 
 pub returns-in-Delete-clause-moves : goal.returns-in-Delete-clause-moves
-returns-in-Delete-clause-moves c =
+returns-in-Delete-clause-moves g c =
     let z = c.delete_with_value.new.worker in
     let t = c.delete_with_value.new.taken in
     let r = c.delete_with_value.result in

@@ -12,13 +12,13 @@ use Rattle.nm_set.proofs.Managing.{answered, has_answers, had_none_has, looks_at
 use Rattle.nm_set.proofs.member.Member.contains.Goals as goal
 
 pub contains_after-requires : goal.contains_after-requires
-contains_after-requires c = record {
+contains_after-requires g c = record {
   begun = (c.self.inside.sealed.worker, subst (λ (b : TreeView). LeavesHas b.layout c.args.options.now.tries c.args.key c.self.inside.sealed.worker c.has.new.worker (Err c.in-Err.fault)) c.tree.ensures c.in-Err.ensures.leaves);
 }
 
 -- the first look-up freed no node
 pub returns-in-Ok-clause-frees : goal.returns-in-Ok-clause-frees
-returns-in-Ok-clause-frees c =
+returns-in-Ok-clause-frees g c =
     let b = c.args.self.now.tree in
     let h = c.args.options.now in
     let z = c.has.new.worker in
@@ -27,7 +27,7 @@ returns-in-Ok-clause-frees c =
     has_frees_none b.layout h.tries c.args.key c.args.self.now.worker z r l.did
 
 pub returns-in-Err-clause-frees : goal.returns-in-Err-clause-frees
-returns-in-Err-clause-frees c =
+returns-in-Err-clause-frees g c =
     let b = c.args.self.now.tree in
     let h = c.args.options.now in
     let m = c.has.new.worker in
@@ -36,7 +36,7 @@ returns-in-Err-clause-frees c =
     c.contains_after.ensures.frees ∙ has_frees_none b.layout h.tries c.args.key c.args.self.now.worker m r l.did
 
 pub returns-in-Ok-clause-says : goal.returns-in-Ok-clause-says
-returns-in-Ok-clause-says c =
+returns-in-Ok-clause-says g c =
     let b = c.args.self.now.tree in
     let h = c.args.options.now in
     let k = c.args.key in
@@ -49,7 +49,7 @@ returns-in-Ok-clause-says c =
     inr (free, looks_at_once b h k w z r free none (answered b h Has k w z c.in-Ok.answer (has_answers b.layout h.tries k w z r none l)))
 
 pub returns-in-Err-clause-says : goal.returns-in-Err-clause-says
-returns-in-Err-clause-says c =
+returns-in-Err-clause-says g c =
     let b = c.args.self.now.tree in
     let h = c.args.options.now in
     let k = c.args.key in

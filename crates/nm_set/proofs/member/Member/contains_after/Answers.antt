@@ -11,19 +11,19 @@ use Rattle.nm_set.proofs.Managing.{finish_err, finished, has_failed, looks_at_on
 use Rattle.nm_set.proofs.member.Member.contains_after.Goals as goal
 
 pub retry-requires : goal.retry-requires
-retry-requires c = record { begun = (c.requires.begun.0, (has_failed c.args.self.now.tree.layout c.args.options.now.tries c.args.key c.requires.begun.0 c.args.self.now.worker c.args.fault (c.if-not-is_pending.ensures.no refl) c.requires.begun.1).1) }
+retry-requires g c = record { begun = (c.requires.begun.0, (has_failed c.args.self.now.tree.layout c.args.options.now.tries c.args.key c.requires.begun.0 c.args.self.now.worker c.args.fault (c.if-not-is_pending.ensures.no refl) c.requires.begun.1).1) }
 
 pub finish_with_retries-requires : goal.finish_with_retries-requires
-finish_with_retries-requires c = record { free = c.requires.begun.1.says.held }
+finish_with_retries-requires g c = record { free = c.requires.begun.1.says.held }
 
 pub returns-in_default-clause-frees : goal.returns-in_default-clause-frees
-returns-in_default-clause-frees c = c.in_default.ensures.says.frees
+returns-in_default-clause-frees g c = c.in_default.ensures.says.frees
 
 pub returns-clause-frees : goal.returns-clause-frees
-returns-clause-frees c = c.ask_with_retries.ensures.frees ∙ c.in-Ok.ensures.says.frees
+returns-clause-frees g c = c.ask_with_retries.ensures.frees ∙ c.in-Ok.ensures.says.frees
 
 pub returns-then-not-is_pending-clause-says : goal.returns-then-not-is_pending-clause-says
-returns-then-not-is_pending-clause-says c = λ w free l.
+returns-then-not-is_pending-clause-says g c = λ w free l.
     let b = c.args.self.now.tree in
     let h = c.args.options.now in
     let k = c.args.key in
@@ -31,7 +31,7 @@ returns-then-not-is_pending-clause-says c = λ w free l.
     looks_at_once b h k w c.retry.new.self.worker c.retry.result free failed.0 (c.retry.ensures.says w failed.1)
 
 pub returns-in_default-clause-says : goal.returns-in_default-clause-says
-returns-in_default-clause-says c = λ w free l.
+returns-in_default-clause-says g c = λ w free l.
     let b = c.args.self.now.tree in
     let h = c.args.options.now in
     let k = c.args.key in
@@ -42,7 +42,7 @@ returns-in_default-clause-says c = λ w free l.
     subst (λ (v : WorkerView). Manages b h Has k v z (Err Pending)) (pending_has b.layout h.tries k w x c.args.fault (c.if-not-is_pending.ensures.yes refl) l) (pending_manages b h Has k x z unfinished)
 
 pub returns-clause-says : goal.returns-clause-says
-returns-clause-says c = λ w free l.
+returns-clause-says g c = λ w free l.
     let b = c.args.self.now.tree in
     let h = c.args.options.now in
     let k = c.args.key in

@@ -8,7 +8,7 @@ use Rattle.nm_set.proofs.Inside.{of_member}
 use Rattle.nm_set.proofs.member.Member.finish.Goals as goal
 
 pub returns-clause-says : goal.returns-clause-says
-returns-clause-says c =
+returns-clause-says g c =
     let w = c.args.self.now.worker in
     let z = c.finish.new.worker in
     let r = c.finish.result in

@@ -8,7 +8,7 @@ use Rattle.nm_set.proofs.Managing.{finishes_again, finishes_more, finishes_once}
 use Rattle.nm_set.proofs.member.Member.finish_with_retries.Goals as goal
 
 pub returns-then-not-is_unfinished-clause-says : goal.returns-then-not-is_unfinished-clause-says
-returns-then-not-is_unfinished-clause-says c =
+returns-then-not-is_unfinished-clause-says g c =
     let b = c.args.self.now.tree in
     let h = c.args.options.now in
     let w = c.args.self.now.worker in
@@ -16,7 +16,7 @@ returns-then-not-is_unfinished-clause-says c =
     finishes_more b h 1 (h.rounds + 1) w z c.finish-told.result (omega arith) (finishes_once b h w z c.finish-told.result c.requires.free c.finish-told.ensures.says.alone c.finish-told.ensures.says.frees c.finish-told.ensures.says.says)
 
 pub returns-clause-says : goal.returns-clause-says
-returns-clause-says c =
+returns-clause-says g c =
     let b = c.args.self.now.tree in
     let h = c.args.options.now in
     let w = c.args.self.now.worker in

@@ -9,7 +9,7 @@ use Rattle.nm_set.proofs.Managing.{inserts_at_once, inserts_manage}
 use Rattle.nm_set.proofs.member.Member.insert_untidy.Goals as goal
 
 pub returns-in-Ok-clause-says : goal.returns-in-Ok-clause-says
-returns-in-Ok-clause-says c =
+returns-in-Ok-clause-says g c =
     let b = c.args.self.now.tree in
     let h = c.args.options.now in
     let k = c.args.key in
@@ -23,7 +23,7 @@ returns-in-Ok-clause-says c =
     inserts_manage b h k (h.rounds + 2) w y z (Ok c.in-Ok.answer) (omega arith) known tidy ready.onward (ready.prepares Insert) (inserts_at_once b h k y z c.in-Ok.answer a)
 
 pub returns-in-Err-ask-clause-says : goal.returns-in-Err-ask-clause-says
-returns-in-Err-ask-clause-says c =
+returns-in-Err-ask-clause-says g c =
     let b = c.args.self.now.tree in
     let h = c.args.options.now in
     let k = c.args.key in

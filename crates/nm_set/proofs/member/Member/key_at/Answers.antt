@@ -10,7 +10,7 @@ use Rattle.nm_set.proofs.Inside.{of_member}
 use Rattle.nm_set.proofs.member.Member.key_at.Goals as goal
 
 pub returns-in-First-clause-frees : goal.returns-in-First-clause-frees
-returns-in-First-clause-frees c =
+returns-in-First-clause-frees g c =
     let L = c.args.self.now.tree.layout in
     let k = c.unwrap.result in
     let w = c.args.self.now.worker in
@@ -20,7 +20,7 @@ returns-in-First-clause-frees c =
     seen_frees_none (GiveUp Right L c.args.tries k) (near_unfreed L Right c.args.tries k) c.args.tries (c.args.tries * most_looks (reach L) 1) w z r did.did
 
 pub returns-in-Last-clause-frees : goal.returns-in-Last-clause-frees
-returns-in-Last-clause-frees c =
+returns-in-Last-clause-frees g c =
     let L = c.args.self.now.tree.layout in
     let k = c.unwrap-in-Last.result in
     let w = c.args.self.now.worker in
@@ -30,7 +30,7 @@ returns-in-Last-clause-frees c =
     seen_frees_none (GiveUp Left L c.args.tries k) (near_unfreed L Left c.args.tries k) c.args.tries (c.args.tries * most_looks (reach L) 1) w z r did.did
 
 pub returns-in-First-clause-says : goal.returns-in-First-clause-says
-returns-in-First-clause-says c =
+returns-in-First-clause-says g c =
     let L = c.args.self.now.tree.layout in
     let w = c.args.self.now.worker in
     let z = c.next.new.worker in
@@ -40,7 +40,7 @@ returns-in-First-clause-says c =
     finds_first c.args.end L c.args.tries w z r c.in-First.is (subst (λ (k : ℕ). LeavesNext L c.args.tries k w z r) least did)
 
 pub returns-in-Last-clause-says : goal.returns-in-Last-clause-says
-returns-in-Last-clause-says c =
+returns-in-Last-clause-says g c =
     let L = c.args.self.now.tree.layout in
     let w = c.args.self.now.worker in
     let z = c.prev.new.worker in

@@ -8,7 +8,7 @@ use Rattle.nm_set.proofs.PopRounds.{pops_after}
 use Rattle.nm_set.proofs.member.Member.pop.Goals as goal
 
 pub returns-clause-says : goal.returns-clause-says
-returns-clause-says c =
+returns-clause-says g c =
     let h = c.args.options.now in
     let w = c.args.self.now.worker in
     let x = c.finish_with_retries.new.self.worker in
@@ -19,10 +19,10 @@ returns-clause-says c =
     inr (free, pops_after (among c.args.end) (comes_before c.args.end) c.args.self.now.tree h w x z c.in-Ok._done r c.in-Ok.ensures.says (subst P c.finish_with_retries.ensures.tree c.pop_with_retries.ensures.says))
 
 pub returns-in_default-clause-frees : goal.returns-in_default-clause-frees
-returns-in_default-clause-frees c = λ map. c.in_default.ensures.says.frees
+returns-in_default-clause-frees g c = λ map. c.in_default.ensures.says.frees
 
 pub returns-clause-frees : goal.returns-clause-frees
-returns-clause-frees c = λ map. c.pop_with_retries.ensures.frees map ∙ c.in-Ok.ensures.says.frees
+returns-clause-frees g c = λ map. c.pop_with_retries.ensures.frees map ∙ c.in-Ok.ensures.says.frees
 
 pub returns-clause-takes : goal.returns-clause-takes
-returns-clause-takes c = λ map. pops_earlier c.args.self.now.worker.pass c.finish_with_retries.new.self.worker.pass c.pop_with_retries.new.self.worker.pass c.pop_with_retries.new.taken c.pop_with_retries.result c.in-Ok.ensures.says.on.past (c.pop_with_retries.ensures.takes map)
+returns-clause-takes g c = λ map. pops_earlier c.args.self.now.worker.pass c.finish_with_retries.new.self.worker.pass c.pop_with_retries.new.self.worker.pass c.pop_with_retries.new.taken c.pop_with_retries.result c.in-Ok.ensures.says.on.past (c.pop_with_retries.ensures.takes map)

@@ -12,19 +12,19 @@ use Rattle.nm_set.proofs.PopRounds.{pops_key, pops_late, pops_none, pops_not_fou
 use Rattle.nm_set.proofs.member.Member.pop_once.Goals as goal
 
 pub returns-in_err-key-clause-says : goal.returns-in_err-key-clause-says
-returns-in_err-key-clause-says c =
+returns-in_err-key-clause-says g c =
     let p = err_from_is_err_and c.from_residual.result c.from_residual.ensures.1 in
     rw (p.1, p.2) (pops_not_found c.args.end c.args.self.now.tree c.args.options.now c.args.self.now.worker c.requires.none c.key_at.new.self.worker c.in_err-key.field-0.0 c.in_err-key.ensures.says)
 
 pub returns-in_default-clause-says : goal.returns-in_default-clause-says
-returns-in_default-clause-says c =
+returns-in_default-clause-says g c =
     let w = c.args.self.now.worker in
     let x = c.key_at.new.self.worker in
     let found = subst (λ (f : Option ℕ). Finds c.args.end c.args.self.now.tree.layout c.args.options.now.tries w x (Ok f)) c.in_default.is c.in_ok-key.ensures.says in
     pops_none c.args.end c.args.self.now.tree c.args.options.now w c.requires.none x found
 
 pub returns-in_err-remove_popped-clause-says : goal.returns-in_err-remove_popped-clause-says
-returns-in_err-remove_popped-clause-says c =
+returns-in_err-remove_popped-clause-says g c =
     let w = c.args.self.now.worker in
     let x = c.key_at.new.self.worker in
     let z = c.remove_popped.new.self.worker in
@@ -35,7 +35,7 @@ returns-in_err-remove_popped-clause-says c =
     rw (p.1, p.2) (pops_not_removed c.args.end c.args.self.now.tree h w c.requires.none x z c.in-Some.key found (c.has.ensures.yes c.if-not-has.false) c.in_err-remove_popped.field-0.0 did)
 
 pub returns-then-branch-clause-says : goal.returns-then-branch-clause-says
-returns-then-branch-clause-says c =
+returns-then-branch-clause-says g c =
     let w = c.args.self.now.worker in
     let x = c.key_at.new.self.worker in
     let z = c.remove_popped.new.self.worker in
@@ -45,7 +45,7 @@ returns-then-branch-clause-says c =
     pops_key c.args.end c.args.self.now.tree h w c.requires.none x z c.in-Some.key found (c.has.ensures.yes c.if-not-has.false) (subst (λ (b : TreeView). SaysRemoved b h c.in-Some.key x z _) c.key_at.ensures.tree told)
 
 pub returns-else-branch-clause-says : goal.returns-else-branch-clause-says
-returns-else-branch-clause-says c =
+returns-else-branch-clause-says g c =
     let w = c.args.self.now.worker in
     let x = c.key_at.new.self.worker in
     let z = c.remove_popped.new.self.worker in
@@ -55,32 +55,32 @@ returns-else-branch-clause-says c =
     pops_late c.args.end c.args.self.now.tree h w c.requires.none x z c.in-Some.key found (c.has.ensures.yes c.if-not-has.false) c.know_run.ensures.seen c.know_run.ensures.between c.know_run-else-branch.ensures.seen c.know_run-else-branch.ensures.fits (subst (λ (b : TreeView). SaysRemoved b h c.in-Some.key x z _) c.key_at.ensures.tree told)
 
 pub returns-then-not-has-clause-says : goal.returns-then-not-has-clause-says
-returns-then-not-has-clause-says c =
+returns-then-not-has-clause-says g c =
     let w = c.args.self.now.worker in
     let x = c.key_at.new.self.worker in
     let found = subst (λ (f : Option ℕ). Finds c.args.end c.args.self.now.tree.layout c.args.options.now.tries w x (Ok f)) c.in-Some.is c.in_ok-key.ensures.says in
     pops_outside c.args.end c.args.self.now.tree c.args.options.now w c.requires.none x c.in-Some.key found (c.has.ensures.no c.if-not-has.true)
 
 pub returns-in_err-key-clause-frees : goal.returns-in_err-key-clause-frees
-returns-in_err-key-clause-frees c = λ map. c.key_at.ensures.frees
+returns-in_err-key-clause-frees g c = λ map. c.key_at.ensures.frees
 
 pub returns-in_default-clause-frees : goal.returns-in_default-clause-frees
-returns-in_default-clause-frees c = λ map. c.key_at.ensures.frees
+returns-in_default-clause-frees g c = λ map. c.key_at.ensures.frees
 
 pub returns-then-not-has-clause-frees : goal.returns-then-not-has-clause-frees
-returns-then-not-has-clause-frees c = λ map. c.key_at.ensures.frees
+returns-then-not-has-clause-frees g c = λ map. c.key_at.ensures.frees
 
 pub returns-in_err-remove_popped-clause-frees : goal.returns-in_err-remove_popped-clause-frees
-returns-in_err-remove_popped-clause-frees c = λ map. c.remove_popped.ensures.frees map ∙ c.key_at.ensures.frees
+returns-in_err-remove_popped-clause-frees g c = λ map. c.remove_popped.ensures.frees map ∙ c.key_at.ensures.frees
 
 pub returns-then-branch-clause-frees : goal.returns-then-branch-clause-frees
-returns-then-branch-clause-frees c = λ map. c.remove_popped.ensures.frees map ∙ c.key_at.ensures.frees
+returns-then-branch-clause-frees g c = λ map. c.remove_popped.ensures.frees map ∙ c.key_at.ensures.frees
 
 pub returns-else-branch-clause-frees : goal.returns-else-branch-clause-frees
-returns-else-branch-clause-frees c = λ map. c.remove_popped.ensures.frees map ∙ c.key_at.ensures.frees
+returns-else-branch-clause-frees g c = λ map. c.remove_popped.ensures.frees map ∙ c.key_at.ensures.frees
 
 pub returns-then-branch-clause-takes : goal.returns-then-branch-clause-takes
-returns-then-branch-clause-takes c = λ map.
+returns-then-branch-clause-takes g c = λ map.
     let w = c.args.self.now.worker in
     let x = c.key_at.new.self.worker in
     let z = c.remove_popped.new.self.worker in

@@ -9,22 +9,22 @@ use Rattle.nm_set.proofs.PopRounds.{last_round, no_round_yet, one_round_more}
 use Rattle.nm_set.proofs.member.Member.pop_with_retries.Goals as goal
 
 pub pop_once-told-requires-clause-free : goal.pop_once-told-requires-clause-free
-pop_once-told-requires-clause-free c = c.loop-round.invariant.lost.onward.on.held
+pop_once-told-requires-clause-free g c = c.loop-round.invariant.lost.onward.on.held
 
 pub pop_once-told-requires-clause-none : goal.pop_once-told-requires-clause-none
-pop_once-told-requires-clause-none c = c.loop-round.invariant.lost.onward.none
+pop_once-told-requires-clause-none g c = c.loop-round.invariant.lost.onward.none
 
 pub pop_once-requires-clause-free : goal.pop_once-requires-clause-free
-pop_once-requires-clause-free c = c.loop-round.invariant.lost.onward.on.held
+pop_once-requires-clause-free g c = c.loop-round.invariant.lost.onward.on.held
 
 pub pop_once-requires-clause-none : goal.pop_once-requires-clause-none
-pop_once-requires-clause-none c = c.loop-round.invariant.lost.onward.none
+pop_once-requires-clause-none g c = c.loop-round.invariant.lost.onward.none
 
 pub loop-round-init : goal.loop-round-init
-loop-round-init c = record { tree = refl; lost = no_round_yet (among c.args.end) (comes_before c.args.end) c.args.options.now.tries (pop_round_bound c.args.options.now c.args.self.now.tree.layout) c.args.self.now.worker c.requires.none c.requires.free; frees = λ map. refl }
+loop-round-init g c = record { tree = refl; lost = no_round_yet (among c.args.end) (comes_before c.args.end) c.args.options.now.tries (pop_round_bound c.args.options.now c.args.self.now.tree.layout) c.args.self.now.worker c.requires.none c.requires.free; frees = λ map. refl }
 
 pub loop-round-preserved : goal.loop-round-preserved
-loop-round-preserved c =
+loop-round-preserved g c =
     let at = c.loop-round in
     let h = c.args.options.now in
     let Among = among c.args.end in
@@ -40,7 +40,7 @@ loop-round-preserved c =
     }
 
 pub returns-then-not-is_busy-clause-says : goal.returns-then-not-is_busy-clause-says
-returns-then-not-is_busy-clause-says c =
+returns-then-not-is_busy-clause-says g c =
     let at = c.loop-round in
     let h = c.args.options.now in
     let Among = among c.args.end in
@@ -51,7 +51,7 @@ returns-then-not-is_busy-clause-says c =
     last_round Among Before h.tries (pop_round_bound h c.args.self.now.tree.layout) at._round (h.rounds + 1) c.args.self.now.worker at.self.worker z r (omega (arith, c.loop-round-test.true)) (λ is. absurd (c.if-not-is_busy.ensures.no refl is)) at.invariant.lost (subst P at.invariant.tree c.pop_once-told.ensures.says)
 
 pub returns-clause-says : goal.returns-clause-says
-returns-clause-says c =
+returns-clause-says g c =
     let at = c.loop-round in
     let h = c.args.options.now in
     let past = c.loop-round-test.false in
@@ -64,17 +64,17 @@ returns-clause-says c =
     last_round Among Before h.tries (pop_round_bound h c.args.self.now.tree.layout) at._round (h.rounds + 1) c.args.self.now.worker at.self.worker z r (omega (arith, within)) (λ is. omega (arith, past, within)) at.invariant.lost (subst P at.invariant.tree c.pop_once.ensures.says)
 
 pub returns-then-not-is_busy-clause-frees : goal.returns-then-not-is_busy-clause-frees
-returns-then-not-is_busy-clause-frees c = λ map. c.pop_once-told.ensures.frees map ∙ c.loop-round.invariant.frees map
+returns-then-not-is_busy-clause-frees g c = λ map. c.pop_once-told.ensures.frees map ∙ c.loop-round.invariant.frees map
 
 pub returns-clause-frees : goal.returns-clause-frees
-returns-clause-frees c = λ map. c.pop_once.ensures.frees map ∙ c.loop-round.invariant.frees map
+returns-clause-frees g c = λ map. c.pop_once.ensures.frees map ∙ c.loop-round.invariant.frees map
 
 pub returns-then-not-is_busy-clause-takes : goal.returns-then-not-is_busy-clause-takes
-returns-then-not-is_busy-clause-takes c = λ map.
+returns-then-not-is_busy-clause-takes g c = λ map.
     let at = c.loop-round in
     pops_earlier c.args.self.now.worker.pass at.self.worker.pass c.pop_once-told.new.self.worker.pass c.pop_once-told.new.taken c.pop_once-told.result at.invariant.lost.onward.on.past (c.pop_once-told.ensures.takes map)
 
 pub returns-clause-takes : goal.returns-clause-takes
-returns-clause-takes c = λ map.
+returns-clause-takes g c = λ map.
     let at = c.loop-round in
     pops_earlier c.args.self.now.worker.pass at.self.worker.pass c.pop_once.new.self.worker.pass c.pop_once.new.taken c.pop_once.result at.invariant.lost.onward.on.past (c.pop_once.ensures.takes map)

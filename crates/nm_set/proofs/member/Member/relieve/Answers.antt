@@ -7,14 +7,14 @@ use Rattle.nm_set.proofs.Emptied.{AreSeen, Relieves, is_relieved}
 use Rattle.nm_set.proofs.member.Member.relieve.Goals as goal
 
 pub returns-clause-did : goal.returns-clause-did
-returns-clause-did c =
+returns-clause-did g c =
     let b = c.args.self.now.tree in
     let w = c.args.self.now.worker in
     let once = c.advance-first.new.self.worker in
     let twice = c.advance-second.new.self.worker in
-    let z = c.collect.new.self.worker in
+    let z = c.free.new.self.worker in
     let again = subst (λ (d : TreeView). LeavesAdvance d.layout.workers once twice c.advance-second.result) c.advance-first.ensures.tree c.advance-second.ensures.says in
-    let collects = subst (λ (d : TreeView). LeavesCollect d.layout.nodes twice z c.collect.result) (c.advance-second.ensures.tree ∙ c.advance-first.ensures.tree) c.collect.ensures.says in
+    let collects = subst (λ (d : TreeView). LeavesCollect d.layout.nodes twice z c.free.result) (c.advance-second.ensures.tree ∙ c.advance-first.ensures.tree) c.free.ensures.says in
     let r : Relieves b w z = record {
       moved = c.advance-first.result;
       once = once;
@@ -22,7 +22,7 @@ returns-clause-did c =
       moved_again = c.advance-second.result;
       twice = twice;
       moves_again = again;
-      collected = c.collect.result;
+      collected = c.free.result;
       collects = collects;
     } in
     let seen : AreSeen r = record {

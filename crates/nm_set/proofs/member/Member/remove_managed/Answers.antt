@@ -12,7 +12,7 @@ use Rattle.nm_set.proofs.MapManaging.{removes_then, took_before, took_now}
 use Rattle.nm_set.proofs.member.Member.remove_managed.Goals as goal
 
 pub returns-then-not-is_unfinished-clause-says : goal.returns-then-not-is_unfinished-clause-says
-returns-then-not-is_unfinished-clause-says c =
+returns-then-not-is_unfinished-clause-says g c =
     let b = c.args.self.now.tree in
     let h = c.args.options.now in
     let k = c.args.key in
@@ -25,15 +25,15 @@ returns-then-not-is_unfinished-clause-says c =
     inr (free, removes_then b h k w y c.in-Ok._done c.in-Ok.ensures.says z r c.ask_value_with_retries-told.ensures.frees (removes_plain b h k y z r (c.if-not-is_unfinished.ensures.no refl) a))
 
 pub returns-then-not-is_unfinished-clause-takes : goal.returns-then-not-is_unfinished-clause-takes
-returns-then-not-is_unfinished-clause-takes c =
+returns-then-not-is_unfinished-clause-takes g c =
     let w = c.args.self.now.worker in
     let y = c.finish_with_retries.new.self.worker in
     let z = c.ask_value_with_retries-told.new.self.worker in
     let has : HasValues c.finish_with_retries.new.self.tree = subst HasValues (sym c.finish_with_retries.ensures.tree) c.requires.values in
-    took_now w.pass y.pass z.pass c.args.key c.ask_value_with_retries-told.new.found c.ask_value_with_retries-told.result c.in-Ok.ensures.says.on.past c.know_run-2.ensures.seen (c.ask_value_with_retries-told.ensures.moves has)
+    took_now w.pass y.pass z.pass c.args.key c.ask_value_with_retries-told.new.found c.ask_value_with_retries-told.result c.in-Ok.ensures.says.on.past (c.ask_value_with_retries-told.ensures.moves has)
 
 pub returns-clause-says : goal.returns-clause-says
-returns-clause-says c =
+returns-clause-says g c =
     let b = c.args.self.now.tree in
     let h = c.args.options.now in
     let k = c.args.key in
@@ -51,7 +51,7 @@ returns-clause-says c =
     inr (free, removes_then b h k w y c.in-Ok._done c.in-Ok.ensures.says z r (last.frees ∙ c.ask_value_with_retries-told.ensures.frees) (removes_at_last b h k y x z c.know_run.ensures.idle none flagged r last))
 
 pub returns-clause-takes : goal.returns-clause-takes
-returns-clause-takes c =
+returns-clause-takes g c =
     let w = c.args.self.now.worker in
     let y = c.finish_with_retries.new.self.worker in
     let x = c.ask_value_with_retries-told.new.self.worker in
@@ -60,10 +60,10 @@ returns-clause-takes c =
     let has : HasValues c.finish_with_retries.new.self.tree = subst HasValues (sym c.finish_with_retries.ensures.tree) c.requires.values in
     let last = c.finish_with_retries-2.ensures.says in
     let taken = subst (λ (q : Result Bool CallFault). IfTaken q (HasTaken y.pass x.pass c.args.key t)) (c.if-not-is_unfinished.ensures.yes refl) (c.ask_value_with_retries-told.ensures.moves has) in
-    took_before w.pass y.pass x.pass z.pass c.args.key t c.finish_with_retries-2.result c.in-Ok.ensures.says.on.past c.know_run-2.ensures.seen taken last.on.past last.on.same
+    took_before w.pass y.pass x.pass z.pass c.args.key t c.finish_with_retries-2.result c.in-Ok.ensures.says.on.past taken last.on.past last.on.same
 
 pub returns-in_default-clause-says : goal.returns-in_default-clause-says
-returns-in_default-clause-says c =
+returns-in_default-clause-says g c =
     let b = c.args.self.now.tree in
     let h = c.args.options.now in
     let w = c.args.self.now.worker in

@@ -9,7 +9,7 @@ use Rattle.nm_set.proofs.Managing.{answered, removes_after, removes_plain}
 use Rattle.nm_set.proofs.member.Member.remove_untidy.Goals as goal
 
 pub returns-in-Ok-clause-says : goal.returns-in-Ok-clause-says
-returns-in-Ok-clause-says c =
+returns-in-Ok-clause-says g c =
     let b = c.args.self.now.tree in
     let h = c.args.options.now in
     let k = c.args.key in
@@ -20,7 +20,7 @@ returns-in-Ok-clause-says c =
     removes_after b h k w y z (Ok c.in-Ok.answer) c.in_ok-make_tidy.ensures.ready (removes_plain b h k y z (Ok c.in-Ok.answer) (λ is. (let no = is in cc)) (answered b h Delete k y z c.in-Ok.answer a))
 
 pub returns-in-Err-clause-says : goal.returns-in-Err-clause-says
-returns-in-Err-clause-says c =
+returns-in-Err-clause-says g c =
     let b = c.args.self.now.tree in
     let h = c.args.options.now in
     let k = c.args.key in

@@ -8,7 +8,7 @@ use Rattle.nm_set.proofs.Managing.{answers_at_last, was_busy}
 use Rattle.nm_set.proofs.member.Member.retry.Goals as goal
 
 pub returns-clause-says : goal.returns-clause-says
-returns-clause-says c =
+returns-clause-says g c =
     let b = c.args.self.now.tree in
     let h = c.args.options.now in
     let m = c.args.self.now.worker in

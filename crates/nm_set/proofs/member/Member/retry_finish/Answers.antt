@@ -8,7 +8,7 @@ use Rattle.nm_set.proofs.Managing.{called_again, finish_err, finishes_more, fini
 use Rattle.nm_set.proofs.member.Member.retry_finish.Goals as goal
 
 pub loop-round-preserved : goal.loop-round-preserved
-loop-round-preserved c =
+loop-round-preserved g c =
     let at = c.loop-round in
     let b = c.args.self.now.tree in
     let h = c.args.options.now in
@@ -20,10 +20,10 @@ loop-round-preserved c =
     }
 
 pub returns-in-Ok-clause-tree : goal.returns-in-Ok-clause-tree
-returns-in-Ok-clause-tree c = c.finish.ensures.tree ∙ c.loop-round.invariant.tree
+returns-in-Ok-clause-tree g c = c.finish.ensures.tree ∙ c.loop-round.invariant.tree
 
 pub returns-in-Ok-clause-says : goal.returns-in-Ok-clause-says
-returns-in-Ok-clause-says c =
+returns-in-Ok-clause-says g c =
     let at = c.loop-round in
     let b = c.args.self.now.tree in
     let h = c.args.options.now in
@@ -34,7 +34,7 @@ returns-in-Ok-clause-says c =
     finishes_more b h (at._round + 1) (h.rounds + 1) c.args.self.now.worker z r (omega (arith, c.loop-round-test.true)) (at.invariant.yet.1 1 z r once)
 
 pub returns-clause-says : goal.returns-clause-says
-returns-clause-says c =
+returns-clause-says g c =
     let at = c.loop-round in
     let b = c.args.self.now.tree in
     let h = c.args.options.now in

@@ -8,14 +8,14 @@ use Rattle.nm_set.proofs.Managing.{inserts_again, inserts_plain}
 use Rattle.nm_set.proofs.member.Member.retry_insert.Goals as goal
 
 pub returns-then-not-is_full-clause-says : goal.returns-then-not-is_full-clause-says
-returns-then-not-is_full-clause-says c = λ w known first.
+returns-then-not-is_full-clause-says g c = λ w known first.
     let b = c.args.self.now.tree in
     let h = c.args.options.now in
     let z = c.retry-told.new.self.worker in
     subst (Inserts b h c.args.key w z) (sym c.plain.ensures) (inserts_plain b h c.args.key w z c.retry-told.result (c.if-not-is_full.ensures.no refl) (c.retry-told.ensures.says w first))
 
 pub returns-clause-says : goal.returns-clause-says
-returns-clause-says c = λ w known first.
+returns-clause-says g c = λ w known first.
     let b = c.args.self.now.tree in
     let h = c.args.options.now in
     let k = c.args.key in

@@ -8,11 +8,11 @@ use Rattle.nm_set.proofs.Managing.{removes_at_last, removes_plain}
 use Rattle.nm_set.proofs.member.Member.retry_remove.Goals as goal
 
 pub returns-then-not-is_unfinished-clause-says : goal.returns-then-not-is_unfinished-clause-says
-returns-then-not-is_unfinished-clause-says c = λ w idle none first.
+returns-then-not-is_unfinished-clause-says g c = λ w idle none first.
     removes_plain c.args.self.now.tree c.args.options.now c.args.key w c.retry-told.new.self.worker c.retry-told.result (c.if-not-is_unfinished.ensures.no refl) (c.retry-told.ensures.says w first)
 
 pub returns-clause-says : goal.returns-clause-says
-returns-clause-says c = λ w idle none first.
+returns-clause-says g c = λ w idle none first.
     let b = c.args.self.now.tree in
     let h = c.args.options.now in
     let k = c.args.key in

@@ -8,7 +8,7 @@ use Rattle.nm_set.proofs.SetEnds.{own_and, room_behind, tree_of}
 use Rattle.nm_set.proofs.set.Set.keep.Goals as goal
 
 pub invariant_of-self : goal.invariant_of-self
-invariant_of-self c =
+invariant_of-self g c =
     let tree : TreeView = (site_of c.self.inside.state).tree in
     let before = c.self.inside.kept.items in
     let worker = c.args.member.worker in
@@ -19,4 +19,5 @@ invariant_of-self c =
     let enough : length before + room_for_one c.self.inside.state ≤ room = search (rules, c.room_for_one.ensures, c.stay_with.ensures.capacity, c.in-Ok.ensures.ok, c.reserve.ensures.items) in (
       subst (AreOwn tree) (sym more) (own_and tree before worker c.self.invariant.0 own),
       subst (λ (ws : List WorkerView). MayGather c.self.inside.state ws room) (sym more) (room_behind c.self.inside.state before worker room enough),
+      c.self.invariant.2,
     )

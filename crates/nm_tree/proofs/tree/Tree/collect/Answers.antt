@@ -1,10 +1,11 @@
-use Rattle.std.proofs.Common.{◌≡◌, List, refl, sym, subst, ◌∙◌}
+use Rattle.std.proofs.Common.{◌≡◌, List, refl, sym, ap, subst, ◌∙◌}
 use Rattle.std.specs.Vec.{with_items}
 use Rattle.std.proofs.lemmas.List.{with_items_is}
 use Rattle.nm_steps.specs.Steps.{TreeView}
 use Rattle.nm_epoch.specs.declared.collecting.HeldQueue.{HeldQueue}
 use Rattle.nm_epoch.specs.Collecting.{Collects, ripe_of}
 use Rattle.nm_tree.specs.Calls.{LeavesCollect}
+use Rattle.nm_walks.specs.declared.workspace.Workspace.{Workspace}
 use Rattle.nm_tree.specs.Workers.{WorkerView, IsWorker, held_in, pending_in}
 use Rattle.nm_tree.proofs.Freeing.{as_many_queues, collected, have_lost}
 use Rattle.nm_tree.proofs.RunningTurns.{collected_in_grace}
@@ -23,7 +24,7 @@ left c =
 
 -- the worker as it was, and with queues
 before : goal.After-know_run-2 → WorkerView
-before c = record { pass = c.worker.inside.pass; queues = c.worker.inside.queues.items; pending = pending_in c.worker.inside.standing; held = held_in c.worker.inside.standing; fit = c.worker.inside.workspace.placement }
+before c = record { pass = c.worker.inside.pass; queues = c.worker.inside.queues.items; pending = pending_in c.worker.inside.standing; held = held_in c.worker.inside.standing; fit = c.worker.inside.workspace.value.placement }
 
 after : goal.After-know_run-2 → List HeldQueue → WorkerView
 after c hs = record { pass = c.collect-collected.new.pass; queues = hs; pending = pending_in c.worker.inside.standing; held = held_in c.worker.inside.standing; fit = c.collect-collected.new.placement }
@@ -31,8 +32,8 @@ after c hs = record { pass = c.collect-collected.new.pass; queues = hs; pending 
 pub invariant_of-worker : goal.invariant_of-worker
 unfolding after
 invariant_of-worker c =
-    subst (λ (hs : List HeldQueue). IsWorker (after c hs) c.worker.inside.home c.worker.inside.queues.cap) (sym (left c))
-    (collected _ c.worker.inside.home c.collect-collected.new.pass c.collect-collected.new.queues refl c.worker.invariant (record { fits = c.know_run.ensures.fits; run = c.know_run.ensures.run }) (does c))
+    subst (λ (hs : List HeldQueue). IsWorker (after c hs) c.worker.inside.home) (sym (left c))
+    (collected _ c.worker.inside.home c.collect-collected.new.pass c.collect-collected.new.queues c.worker.invariant (record { fits = c.know_run.ensures.fits; run = c.know_run.ensures.run }) (does c))
 
 pub returns : goal.returns
 unfolding before after
@@ -49,7 +50,7 @@ returns c =
       newest = d.newest;
       place = (refl, refl);
       steps = d.steps;
-      fit = c.collect-collected.ensures.fit;
+      fit = c.collect-collected.ensures.fit ∙ ap (λ (w : Workspace). w.placement) c.deref_mut.ensures.value;
     } in
     subst (λ (b : TreeView). LeavesCollect b.layout.nodes c.args.worker.now (after c (with_items c.worker.inside.queues c.collect-collected.new.queues).items) c.collect-collected.result) c.self.view_is
     (subst (λ (w : WorkerView). LeavesCollect c.self.inside.shared.layout.nodes w (after c (with_items c.worker.inside.queues c.collect-collected.new.queues).items) c.collect-collected.result) c.worker.view_is

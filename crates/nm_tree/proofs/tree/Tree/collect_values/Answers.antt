@@ -1,4 +1,4 @@
-use Rattle.std.proofs.Common.{◌≡◌, ℕ, Bool, List, length, refl, sym, subst, ◌∙◌}
+use Rattle.std.proofs.Common.{◌≡◌, ℕ, Bool, List, length, refl, sym, ap, subst, ◌∙◌}
 use Rattle.std.specs.Prelude.{nat_lt, take}
 use Rattle.std.specs.Vec.{with_items}
 use Rattle.std.proofs.lemmas.List.{with_items_is}
@@ -6,8 +6,9 @@ use Rattle.nm_steps.specs.Steps.{TreeView}
 use Rattle.nm_epoch.specs.declared.collecting.HeldQueue.{HeldQueue}
 use Rattle.nm_epoch.specs.Handing.{CollectsValues}
 use Rattle.nm_tree.specs.Handing.{LeavesCollectValues}
+use Rattle.nm_walks.specs.declared.workspace.Workspace.{Workspace}
 use Rattle.nm_tree.specs.Workers.{WorkerView, IsWorker, held_in, pending_in}
-use Rattle.nm_tree.proofs.Freeing.{as_many_queues, handed_out, have_handed}
+use Rattle.nm_tree.proofs.Freeing.{as_many_queues, gives_back, handed_out, have_handed}
 use Rattle.nm_tree.proofs.RunningTurns.{collected_in_grace}
 use Rattle.nm_tree.proofs.tree.Tree.collect_values.Goals as goal
 
@@ -32,7 +33,7 @@ left c =
 
 -- the worker as it was, and with queues
 before : goal.After-know_run-2 → WorkerView
-before c = record { pass = c.worker.inside.pass; queues = c.worker.inside.queues.items; pending = pending_in c.worker.inside.standing; held = held_in c.worker.inside.standing; fit = c.worker.inside.workspace.placement }
+before c = record { pass = c.worker.inside.pass; queues = c.worker.inside.queues.items; pending = pending_in c.worker.inside.standing; held = held_in c.worker.inside.standing; fit = c.worker.inside.workspace.value.placement }
 
 after : goal.After-know_run-2 → List HeldQueue → WorkerView
 after c hs = record { pass = c.collect_values-handed.new.pass; queues = hs; pending = pending_in c.worker.inside.standing; held = held_in c.worker.inside.standing; fit = c.collect_values-handed.new.placement }
@@ -40,8 +41,8 @@ after c hs = record { pass = c.collect_values-handed.new.pass; queues = hs; pend
 pub invariant_of-worker : goal.invariant_of-worker
 unfolding after
 invariant_of-worker c =
-    subst (λ (hs : List HeldQueue). IsWorker (after c hs) c.worker.inside.home c.worker.inside.queues.cap) (sym (left c))
-    (handed_out _ c.worker.inside.home c.collect_values-handed.new.pass c.collect_values-handed.new.queues refl c.worker.invariant (record { fits = c.know_run.ensures.fits; run = c.know_run.ensures.run }) (does c))
+    subst (λ (hs : List HeldQueue). IsWorker (after c hs) c.worker.inside.home) (sym (left c))
+    (handed_out _ c.worker.inside.home c.collect_values-handed.new.pass c.collect_values-handed.new.queues c.worker.invariant (record { fits = c.know_run.ensures.fits; run = c.know_run.ensures.run }) (does c))
 
 pub returns-clause-leaves : goal.returns-clause-leaves
 unfolding before after
@@ -51,8 +52,9 @@ returns-clause-leaves c =
       same = d.on.same;
       past = d.on.past;
       freed = d.freed;
-      handed = d.handed;
-      back = c.collect_values-handed.ensures.back;
+      handed = gives_back c.collect_values-handed.result.epoch c.worker.inside.pass c.collect_values-handed.new.pass
+          c.worker.inside.queues.items c.collect_values-handed.new.queues d.freed
+          (values c) c.collect_values-handed.ensures.back c.collect_values-handed.ensures.inner d.handed;
       grace = collected_in_grace c.collect_values-handed.new.pass.view d.part.0 d.freed c.know_run-2.ensures.fits c.know_run-2.ensures.seen d.part.2;
       did = d.part;
       all = d.all;
@@ -60,7 +62,7 @@ returns-clause-leaves c =
       newest = d.newest;
       place = (refl, refl);
       steps = d.steps;
-      fit = c.collect_values-handed.ensures.fit;
+      fit = c.collect_values-handed.ensures.fit ∙ ap (λ (w : Workspace). w.placement) c.deref_mut.ensures.value;
     } in
     subst (λ (b : TreeView). LeavesCollectValues b.layout.nodes (room c) c.args.worker.now (after c (with_items c.worker.inside.queues c.collect_values-handed.new.queues).items) (values c) c.collect_values-handed.result) c.self.view_is
     (subst (λ (w : WorkerView). LeavesCollectValues c.self.inside.shared.layout.nodes (room c) w (after c (with_items c.worker.inside.queues c.collect_values-handed.new.queues).items) (values c) c.collect_values-handed.result) c.worker.view_is

@@ -38,7 +38,7 @@ returns-clause-leaves c = record {
   says = returns-clause-says c;
   did = rw (← c.worker.view_is, ← c.self.view_is) (has_answered _ c.args.tries c.args.key _ _ (free_in c.worker.inside.standing (resting_in c.worker.inside.standing (ap (λ (w : WorkerView). w.held) c.worker.view_is ∙ c.requires.free) c.in_default.not-Pending)) c.has-answer.result c.has-answer.ensures.did c.has-answer.ensures.missed c.has-answer.ensures.busy);
   alone = λ alone. (
-      look_fails c.args.tries (record { pass = c.has-answer.new.pass; queues = c.worker.inside.queues.items; pending = pending_in c.worker.inside.standing; held = held_in c.worker.inside.standing; fit = c.worker.inside.workspace.placement }) c.has-answer.result c.has-answer.ensures.busy
+      look_fails c.args.tries (record { pass = c.has-answer.new.pass; queues = c.worker.inside.queues.items; pending = pending_in c.worker.inside.standing; held = held_in c.worker.inside.standing; fit = c.worker.inside.workspace.value.placement }) c.has-answer.result c.has-answer.ensures.busy
       (λ is. lookup_alone c.self.inside.shared c.args.self.now c.worker.inside.pass c.args.worker.now.pass c.has-answer.new.pass c.args.key c.args.tries c.self.view_is (ap (λ (x : WorkerView). x.pass) c.worker.view_is)
       c.know_run.ensures.seen c.know_run-2.ensures.seen c.know_run.ensures.fits c.has-answer.ensures.same c.has-answer.ensures.past c.requires.own alone (of_error c.has-answer.result fault.Busy is c.has-answer.ensures.missed))
       );

@@ -1,6 +1,0 @@
-use Rattle.std.proofs.Common.{rules}
-use Rattle.nm_seats.proofs.Moves.{looks}
-use Rattle.nm_seats.proofs.sitting.Seats.stand_up_first.Goals as goal
-
-pub load_new_seat-pass-requires : goal.load_new_seat-pass-requires
-load_new_seat-pass-requires g c = (search rules, looks g.P.SeatRule.resident g.P.SeatRule.new c.self.inside.table.shared.key c.self.inside.table.shared.table_id.slots c.args.seat)

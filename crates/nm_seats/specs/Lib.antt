@@ -1,2 +1,0 @@
-pub mod Sittings
-pub mod Views

@@ -1,0 +1,346 @@
+//! Calls of a map by any thread, each by a worker that is borrowed for that call.
+ghost use Rattle.std.specs.Prelude.{◌≡◌, ◌<◌, ◌≤◌, IfSome, IfNone};
+ghost use Rattle.nm_edge.specs.Keys.{IsKey};
+ghost use Rattle.nm_edge.specs.declared.edge.Side.TheVariants.{Left, Right};
+ghost use Rattle.nm_shared.specs.SharedMaps.{SaysSharedEntries, SaysSharedGet, SaysSharedNextEntry, SaysSharedPopEntry, SaysSharedPrevEntry, SaysSharedPut, SaysSharedReclaim, SaysSharedTake};
+ghost use Rattle.nm_shared.specs.Sharing.{IsCallerOf, NoneWasFree};
+
+use crate::shared_set::{Caller, SharedSet};
+use nm_edge::Key;
+use nm_set::{CallFault, MapEntry, Options, Reclaimed, Scanned, Values};
+
+impl SharedSet<Values> {
+    /// Returns the value that the map has under `key`: `MapMember::get` of `nm_set`, by a worker that
+    /// no other call has. `None` in place of a result: each worker was found borrowed, one after the
+    /// other; nothing has changed. The value may be reclaimed at once.
+    ///
+    /// Errors: those of `MapMember::get`, except `Pinned`.
+    pub fn get(
+        &self,
+        caller: Caller<Values>,
+        key: Key,
+        options: &Options,
+    ) -> (Caller<Values>, Option<Result<Option<u64>, CallFault>>)
+        requires own { IsCallerOf self.now caller }
+        ensures own { IsCallerOf self.now result.0 }
+        ensures says { IfSome result.1 (SaysSharedGet self.now options.now key caller result.0) }
+        ensures refused { IfNone result.1 (NoneWasFree self.now caller result.0) }
+    {
+        match self.borrow(caller) {
+            Ok((worker, loan)) => {
+                let mut worker = worker;
+                let told = worker.member.get(key, options);
+                (self.give_back(loan, worker), Some(told))
+            }
+            Err(caller) => (caller, None),
+        }
+    }
+
+    /// Inserts `key` with `value`; returns true if the key was absent, and otherwise writes the value
+    /// that it keeps to `found`: `MapMember::insert`, in the same way.
+    ///
+    /// Errors: those of `MapMember::insert`, except `Pinned`. After `Full` call `reclaim` by each
+    /// worker: a worker frees only what it has removed.
+    pub fn insert(
+        &self,
+        caller: Caller<Values>,
+        key: Key,
+        value: u64,
+        found: &mut u64,
+        options: &Options,
+    ) -> (Caller<Values>, Option<Result<bool, CallFault>>)
+        requires own { IsCallerOf self.now caller }
+        ensures own { IsCallerOf self.now result.0 }
+        ensures says { IfSome result.1
+            (SaysSharedPut self.now options.now key value found.new caller result.0) }
+        ensures refused { IfNone result.1 (NoneWasFree self.now caller result.0
+            × (found.new ≡ found.old)) }
+    {
+        match self.borrow(caller) {
+            Ok((worker, loan)) => {
+                let mut worker = worker;
+                let told = worker.member.insert(key, value, found, options);
+                (self.give_back(loan, worker), Some(told))
+            }
+            Err(caller) => (caller, None),
+        }
+    }
+
+    /// Removes `key`; returns true if it was present, and writes the value that it had to `taken`:
+    /// `MapMember::remove`, in the same way. The value comes back by `reclaim` too.
+    ///
+    /// Errors: those of `MapMember::remove`, except `Pinned`. After `Unfinished` the next call that
+    /// borrows the same worker finishes the remove first.
+    pub fn remove(
+        &self,
+        caller: Caller<Values>,
+        key: Key,
+        taken: &mut u64,
+        options: &Options,
+    ) -> (Caller<Values>, Option<Result<bool, CallFault>>)
+        requires own { IsCallerOf self.now caller }
+        ensures own { IsCallerOf self.now result.0 }
+        ensures says { IfSome result.1
+            (SaysSharedTake self.now options.now key taken.new caller result.0) }
+        ensures refused { IfNone result.1 (NoneWasFree self.now caller result.0
+            × (taken.new ≡ taken.old)) }
+    {
+        match self.borrow(caller) {
+            Ok((worker, loan)) => {
+                let mut worker = worker;
+                let told = worker.member.remove(key, taken, options);
+                (self.give_back(loan, worker), Some(told))
+            }
+            Err(caller) => (caller, None),
+        }
+    }
+
+    /// Frees nodes that one worker has removed, and writes the value of each freed leaf to `out`:
+    /// `MapMember::reclaim`, by any worker that no other call has.
+    pub fn reclaim(
+        &self,
+        caller: Caller<Values>,
+        out: &mut [u64],
+    ) -> (Caller<Values>, Option<Reclaimed>)
+        requires own { IsCallerOf self.now caller }
+        ensures own { IsCallerOf self.now result.0 }
+        ensures says { IfSome result.1
+            (SaysSharedReclaim self.now out.old out.new caller result.0) }
+        ensures refused { IfNone result.1 (NoneWasFree self.now caller result.0
+            × (out.new ≡ out.old)) }
+    {
+        match self.borrow(caller) {
+            Ok((worker, loan)) => {
+                let mut worker = worker;
+                let told = worker.member.reclaim(out);
+                (self.give_back(loan, worker), Some(told))
+            }
+            Err(caller) => (caller, None),
+        }
+    }
+
+    /// Removes the least key, returns it, and writes its value to `taken`: `MapMember::pop_first`, in
+    /// the same way.
+    ///
+    /// Errors: those of `MapMember::pop_first`, except `Pinned`; `Unfinished` as of `remove`.
+    pub fn pop_first(
+        &self,
+        caller: Caller<Values>,
+        taken: &mut u64,
+        options: &Options,
+    ) -> (Caller<Values>, Option<Result<Option<Key>, CallFault>>)
+        requires own { IsCallerOf self.now caller }
+        ensures own { IsCallerOf self.now result.0 }
+        ensures says { IfSome result.1
+            (SaysSharedPopEntry IsKey ◌<◌ self.now options.now taken.new caller result.0) }
+        ensures refused { IfNone result.1 (NoneWasFree self.now caller result.0
+            × (taken.new ≡ taken.old)) }
+    {
+        match self.borrow(caller) {
+            Ok((worker, loan)) => {
+                let mut worker = worker;
+                let told = worker.member.pop_first(taken, options);
+                (self.give_back(loan, worker), Some(told))
+            }
+            Err(caller) => (caller, None),
+        }
+    }
+
+    /// Removes the greatest key, like `pop_first`: `MapMember::pop_last`.
+    ///
+    /// Errors: as of `pop_first`.
+    pub fn pop_last(
+        &self,
+        caller: Caller<Values>,
+        taken: &mut u64,
+        options: &Options,
+    ) -> (Caller<Values>, Option<Result<Option<Key>, CallFault>>)
+        requires own { IsCallerOf self.now caller }
+        ensures own { IsCallerOf self.now result.0 }
+        ensures says { IfSome result.1 (SaysSharedPopEntry IsKey (λ j key. key < j) self.now
+            options.now taken.new caller result.0) }
+        ensures refused { IfNone result.1 (NoneWasFree self.now caller result.0
+            × (taken.new ≡ taken.old)) }
+    {
+        match self.borrow(caller) {
+            Ok((worker, loan)) => {
+                let mut worker = worker;
+                let told = worker.member.pop_last(taken, options);
+                (self.give_back(loan, worker), Some(told))
+            }
+            Err(caller) => (caller, None),
+        }
+    }
+
+    /// Removes the least key that is below `below`, like `pop_first`: `MapMember::pop_first_below`.
+    ///
+    /// Errors: as of `pop_first`.
+    pub fn pop_first_below(
+        &self,
+        caller: Caller<Values>,
+        below: u64,
+        taken: &mut u64,
+        options: &Options,
+    ) -> (Caller<Values>, Option<Result<Option<Key>, CallFault>>)
+        requires own { IsCallerOf self.now caller }
+        ensures own { IsCallerOf self.now result.0 }
+        ensures says { IfSome result.1 (SaysSharedPopEntry (λ j. IsKey j × (j < below)) ◌<◌ self.now
+            options.now taken.new caller result.0) }
+        ensures refused { IfNone result.1 (NoneWasFree self.now caller result.0
+            × (taken.new ≡ taken.old)) }
+    {
+        match self.borrow(caller) {
+            Ok((worker, loan)) => {
+                let mut worker = worker;
+                let told = worker.member.pop_first_below(below, taken, options);
+                (self.give_back(loan, worker), Some(told))
+            }
+            Err(caller) => (caller, None),
+        }
+    }
+
+    /// Removes the greatest key that is not below `from`, like `pop_first`: `MapMember::pop_last_from`.
+    ///
+    /// Errors: as of `pop_first`.
+    pub fn pop_last_from(
+        &self,
+        caller: Caller<Values>,
+        from: u64,
+        taken: &mut u64,
+        options: &Options,
+    ) -> (Caller<Values>, Option<Result<Option<Key>, CallFault>>)
+        requires own { IsCallerOf self.now caller }
+        ensures own { IsCallerOf self.now result.0 }
+        ensures says { IfSome result.1 (SaysSharedPopEntry (λ j. IsKey j × (from ≤ j))
+            (λ j key. key < j) self.now options.now taken.new caller result.0) }
+        ensures refused { IfNone result.1 (NoneWasFree self.now caller result.0
+            × (taken.new ≡ taken.old)) }
+    {
+        match self.borrow(caller) {
+            Ok((worker, loan)) => {
+                let mut worker = worker;
+                let told = worker.member.pop_last_from(from, taken, options);
+                (self.give_back(loan, worker), Some(told))
+            }
+            Err(caller) => (caller, None),
+        }
+    }
+
+    /// Returns the least key that is not below `key`, and writes its value to `value`:
+    /// `MapMember::next_with_value`, with the tries of the options, in the same way.
+    ///
+    /// Errors: those of `Member::next`, except `Pinned`.
+    pub fn next_with_value(
+        &self,
+        caller: Caller<Values>,
+        key: Key,
+        value: &mut u64,
+        options: &Options,
+    ) -> (Caller<Values>, Option<Result<Option<Key>, CallFault>>)
+        requires own { IsCallerOf self.now caller }
+        ensures own { IsCallerOf self.now result.0 }
+        ensures says { IfSome result.1
+            (SaysSharedNextEntry self.now options.now key value.new caller result.0) }
+        ensures refused { IfNone result.1 (NoneWasFree self.now caller result.0
+            × (value.new ≡ value.old)) }
+    {
+        match self.borrow(caller) {
+            Ok((worker, loan)) => {
+                let mut worker = worker;
+                let told = worker.member.next_with_value(key, value, options.tries);
+                (self.give_back(loan, worker), Some(told))
+            }
+            Err(caller) => (caller, None),
+        }
+    }
+
+    /// Returns the greatest key that is not above `key`, like `next_with_value`:
+    /// `MapMember::prev_with_value`.
+    ///
+    /// Errors: as of `next_with_value`.
+    pub fn prev_with_value(
+        &self,
+        caller: Caller<Values>,
+        key: Key,
+        value: &mut u64,
+        options: &Options,
+    ) -> (Caller<Values>, Option<Result<Option<Key>, CallFault>>)
+        requires own { IsCallerOf self.now caller }
+        ensures own { IsCallerOf self.now result.0 }
+        ensures says { IfSome result.1
+            (SaysSharedPrevEntry self.now options.now key value.new caller result.0) }
+        ensures refused { IfNone result.1 (NoneWasFree self.now caller result.0
+            × (value.new ≡ value.old)) }
+    {
+        match self.borrow(caller) {
+            Ok((worker, loan)) => {
+                let mut worker = worker;
+                let told = worker.member.prev_with_value(key, value, options.tries);
+                (self.give_back(loan, worker), Some(told))
+            }
+            Err(caller) => (caller, None),
+        }
+    }
+
+    /// Writes the entries with a key from `from` on that is below `below` into `out`, in ascending
+    /// order of the keys: `MapMember::scan_with_values`, in the same way.
+    ///
+    /// Errors: those of `Member::scan`, except `Pinned`. After an error `out` is unchanged.
+    pub fn scan_with_values(
+        &self,
+        caller: Caller<Values>,
+        from: Key,
+        below: u64,
+        out: &mut [MapEntry],
+        options: &Options,
+    ) -> (Caller<Values>, Option<Result<Scanned, CallFault>>)
+        requires own { IsCallerOf self.now caller }
+        ensures own { IsCallerOf self.now result.0 }
+        ensures says { IfSome result.1 (SaysSharedEntries Right self.now options.now from below
+            out.old out.new caller result.0) }
+        ensures refused { IfNone result.1 (NoneWasFree self.now caller result.0
+            × (out.new ≡ out.old)) }
+    {
+        match self.borrow(caller) {
+            Ok((worker, loan)) => {
+                let mut worker = worker;
+                let told = worker
+                    .member
+                    .scan_with_values(from, below, out, options.tries);
+                (self.give_back(loan, worker), Some(told))
+            }
+            Err(caller) => (caller, None),
+        }
+    }
+
+    /// Writes the entries with a key from `from` down that is not below `least` into `out`, in
+    /// descending order of the keys: `MapMember::scan_back_with_values`, in the same way.
+    ///
+    /// Errors: as of `scan_with_values`.
+    pub fn scan_back_with_values(
+        &self,
+        caller: Caller<Values>,
+        from: Key,
+        least: u64,
+        out: &mut [MapEntry],
+        options: &Options,
+    ) -> (Caller<Values>, Option<Result<Scanned, CallFault>>)
+        requires own { IsCallerOf self.now caller }
+        ensures own { IsCallerOf self.now result.0 }
+        ensures says { IfSome result.1 (SaysSharedEntries Left self.now options.now from least
+            out.old out.new caller result.0) }
+        ensures refused { IfNone result.1 (NoneWasFree self.now caller result.0
+            × (out.new ≡ out.old)) }
+    {
+        match self.borrow(caller) {
+            Ok((worker, loan)) => {
+                let mut worker = worker;
+                let told = worker
+                    .member
+                    .scan_back_with_values(from, least, out, options.tries);
+                (self.give_back(loan, worker), Some(told))
+            }
+            Err(caller) => (caller, None),
+        }
+    }
+}
