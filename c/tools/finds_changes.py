@@ -32,13 +32,13 @@ CHANGES = (
     Change("a flag is a plain store", "nm_calls::deleting::remove", 0,
            r"lock\t\tcmpxchgq", "movq"),
     Change("a lost flag counts as won", "nm_calls::deleting::remove", 1, "jne", "je"),
-    Change("the epoch moves by an exchange", "nm_set::member::Member::advance", 0,
+    Change("the epoch moves by an exchange", "nm_tree::tree::Tree::advance", 0,
            r"lock\t\tcmpxchgq", "xchgq"),
-    Change("a node is freed one epoch early", "nm_set::member::Member::collect", 0,
+    Change("a node is freed one epoch early", "nm_set::member::Member::free", 0,
            r"cmpq\t\$2", "cmpq\t$1"),
-    Change("a label that is too young is freed", "nm_set::member::Member::collect", 0, "ja", "jae"),
+    Change("a label that is too young is freed", "nm_set::member::Member::free", 0, "ja", "jae"),
     Change("a leave is not written", "nm_worker_unpin", 1, "xchgq", "movq"),
-    Change("the row that is full is searched", "nm_set::member::Member::collect", 1,
+    Change("the row that is full is searched", "nm_set::member::Member::free", 1,
            r"cmpl\t\$32", "cmpl\t$33"),
 )
 
