@@ -1,7 +1,11 @@
 -- What callers of a shared set prove of their answers.
-use Rattle.std.specs.Prelude.{◌≡◌, ◌<◌, ℕ, Bool, true, List, ◌++◌, ◌∷◌, [], Some}
+use Rattle.std.specs.Prelude.{◌≡◌, ◌<◌, ℕ, Bool, true, All, List, ◌++◌, ◌∷◌, [], map, Some}
+use Rattle.nm_calls.specs.InTurns.{key_of}
+use Rattle.nm_calls.specs.Maps.{MapGaveUnderPin}
 use Rattle.nm_calls.specs.Moments.{AnswerHasMoment}
 use Rattle.nm_calls.specs.NearKeys.{WasNear}
+use Rattle.nm_calls.specs.ValuesInTurns.{answer_of}
+use Rattle.nm_calls.specs.declared.many.Query.{Query}
 use Rattle.nm_edge.specs.declared.edge.Side.TheVariants.{Right}
 use Rattle.nm_lending.specs.declared.knowing.Look.{Look}
 use Rattle.nm_lending.specs.declared.knowing.Visit.{Visit}
@@ -10,7 +14,7 @@ use Rattle.nm_model.specs.declared.event.Op.TheVariants.{Has, Insert, Delete}
 use Rattle.nm_set.specs.Maps.{TookMeanwhile}
 use Rattle.nm_set.specs.Seats.{MemberView}
 use Rattle.nm_shared.specs.Sharing.{SharedView, CallerView, AnswersApart, AnswersInOrder, HasHeardNote}
-use Rattle.nm_steps.specs.Steps.{Notice}
+use Rattle.nm_steps.specs.Steps.{HasSeenAllOf, Notice}
 use Rattle.nm_tree.specs.Workers.{WorkerView}
 
 -- in each history of all turns that extend what the caller has seen, the insert is before the look-up
@@ -54,6 +58,21 @@ pub record FoundNext (was now : CallerView) (least k : ℕ) : Type 0 where
   pub begun : WorkerView
   pub heard : HasHeardNote visit.was.worker was.note begun
   pub near : WasNear Right begun.pass visit.left.worker.pass least (Some k)
+
+-- the caller made one visit more, whose worker first heard what the caller had seen. After that, and before
+-- the end of the visit, it was pinned, and under this pin it looked up the users. The map had each of them
+-- with the time in its query, or did not have the user, at a moment of its own
+pub record ReadLogIns (was now : CallerView) (old new : List Query) : Type 0 where
+  pub visit : Visit MemberView
+  pub more : now.visits ≡ was.visits ++ visit ∷ []
+  pub begun : WorkerView
+  pub heard : HasHeardNote visit.was.worker was.note begun
+  pub pinned : WorkerView
+  pub asked : WorkerView
+  pub since : HasSeenAllOf pinned.pass begun.pass
+  pub until : HasSeenAllOf visit.left.worker.pass asked.pass
+  pub keys : map key_of new ≡ map key_of old
+  pub gave : All (λ q. MapGaveUnderPin pinned.pass asked.pass q.key (answer_of q)) new
 
 -- by looks that the caller made meanwhile, worker i was away, or another call was faster there
 pub record FoundTaken (i : ℕ) (was now : CallerView) : Type 0 where

@@ -1,13 +1,13 @@
 //! Threads that call one shared set by whichever worker is free.
-ghost use Rattle.std.specs.Prelude.{◌≡◌, ◌<◌, ◌++◌, ◌∷◌, [], Some, Ok, IfNone, IfSome};
+ghost use Rattle.std.specs.Prelude.{◌≡◌, ◌<◌, ◌++◌, ◌∷◌, [], true, Some, Ok, IfNone, IfSome};
 ghost use Rattle.nm_edge.specs.Keys.{IsKey};
 ghost use Rattle.nm_model.specs.declared.event.Op.TheVariants.{Has, Insert, Delete};
-ghost use Rattle.nm_callers.specs.AnyThread.{FindsAfterInsert, FoundNext, FoundTaken, RemovesApart, TookDue, TookValue};
+ghost use Rattle.nm_callers.specs.AnyThread.{FindsAfterInsert, FoundNext, FoundTaken, ReadLogIns, RemovesApart, TookDue, TookValue};
 ghost use Rattle.nm_set.specs.Managed.{of_insert};
 ghost use Rattle.nm_shared.specs.Sharing.{IsCallerOf, SaysShared, SaysSharedNext, SaysSharedPop};
 
 use nm_edge::Key;
-use nm_set::{CallFault, Options};
+use nm_set::{CallFault, Options, Query};
 use nm_shared::{Caller, MapCaller, SharedMap, SharedSet};
 use std::thread::{Threads, join};
 
@@ -127,6 +127,27 @@ pub fn take_value_shared(
     match told {
         Some(Ok(true)) => (caller, Some(taken)),
         _ => (caller, None),
+    }
+}
+
+/// Reads from a table, which other threads fill, when each of these users has logged in last. Returns
+/// false if the call had no answer. Proved: otherwise the table had each user with the time in its query,
+/// or did not have the user, at a moment of this call.
+#[tactic(auto, using(crate::proofs::SharedCalls::read_log_ins))]
+pub fn read_log_ins_shared(
+    map: &SharedMap,
+    caller: MapCaller,
+    users: &mut [Query],
+    options: &Options,
+) -> (MapCaller, bool)
+    requires own { IsCallerOf map.now caller }
+    ensures own { IsCallerOf map.now result.0 }
+    ensures read { result.1 ≡ true → ReadLogIns caller result.0 users.old users.new }
+{
+    let (caller, told) = map.get_many(caller, users, options);
+    match told {
+        Some(Ok(())) => (caller, true),
+        _ => (caller, false),
     }
 }
 

@@ -48,6 +48,7 @@ pub use alone::pop_first_alone;
 pub use alone::remove_beside_pending;
 pub use any_thread::insert_then_find_shared;
 pub use any_thread::next_shared;
+pub use any_thread::read_log_ins_shared;
 pub use any_thread::remove_in_two_threads;
 pub use any_thread::remove_unless_all_are_away;
 pub use any_thread::take_due_shared;

@@ -6,7 +6,7 @@ use Rattle.nm_tree.specs.declared.closing.Ended.{Ended}
 use Rattle.nm_tree.specs.declared.closing.Report.{Report}
 use Rattle.nm_tree.specs.declared.map_closing.MapReport.{MapReport}
 use Rattle.nm_tree.specs.Closing.{IsCloseReason, SaysClosed}
-use Rattle.nm_tree.specs.MapReports.{EndsMap, SaysMapClosed, bare_of}
+use Rattle.nm_tree.specs.MapReports.{EndsMap, SaysMapClosed}
 use Rattle.nm_tree.specs.Workers.{WorkerView}
 use Rattle.nm_set.specs.declared.ending.EndError.{EndError}
 use Rattle.nm_set.specs.declared.ending.EndError.TheVariants.{Attached, Gathered}
@@ -28,7 +28,7 @@ pub record SaysMapEnded (s : SetView) (r : MapReport) : Type 0 where
   pub home : List WorkerView
   pub none : s.closing ≡ true → home ≡ []
   pub says : SaysMapClosed s.tree (s.kept ++ home) r.report.queues.items r.report.keys.items
-      r.values.keyed r.values.slots (bare_of r.values) r.report.free r.report.reached
+      r.values.keyed r.values.slots r.values.bare r.report.free r.report.reached
 
 -- what the end of a map leaves, before its report is made
 pub record EndsMapSet (s : SetView) (e : Ended) : Type 0 where

@@ -1,18 +1,21 @@
 -- A member that was borrowed, asked once, and given back.
 use Rattle.std.proofs.Common.{◌≡◌, ◌∙◌, ℕ, suc, ◌+◌, ◌<◌, Bool, List, [], ◌∷◌, ◌++◌, length, inl, inr, sym, ap, subst, arith, refl}
-use Rattle.std.specs.Prelude.{Option, Some, None, Result}
+use Rattle.std.specs.Prelude.{Option, Some, None, Result, Ok, Err}
 use Rattle.atomic_table.specs.Seated.{TableId}
 use Rattle.nm_calls.specs.declared.fault.CallFault.{CallFault}
 use Rattle.nm_calls.specs.declared.many.Query.{Query}
 use Rattle.nm_calls.specs.declared.scanning.Scanned.{Scanned}
 use Rattle.nm_edge.specs.Layouts.{Layout}
 use Rattle.nm_edge.specs.declared.edge.Side.{Side}
+use Rattle.nm_model.specs.declared.event.Event.TheVariants.{Leave}
 use Rattle.nm_model.specs.declared.event.Op.{Op}
+use Rattle.nm_model.specs.declared.reply.Reply.TheVariants.{Departed}
 use Rattle.nm_steps.specs.declared.view.View.{View}
 use Rattle.nm_steps.specs.Steps.{TreeView, PassView, Notice, IsSamePass, HasSeenAllOf}
-use Rattle.nm_steps.proofs.Seeing.{seen_itself, seen_through, same_then}
+use Rattle.nm_steps.proofs.Seeing.{same_by_step, same_then, seen_itself, seen_through}
 use Rattle.nm_set.specs.declared.managed.Options.{Options}
 use Rattle.nm_epoch.specs.declared.handing.HandedOut.{HandedOut}
+use Rattle.nm_set.specs.Asked.{AskedToPin}
 use Rattle.nm_set.specs.Managed.{SaysManaged}
 use Rattle.nm_set.specs.Maps.{LeavesReclaim, SaysChange, SaysGet}
 use Rattle.nm_set.specs.InTurns.{AskedMany}
@@ -20,11 +23,15 @@ use Rattle.nm_set.specs.NextKeys.{AskedNext, AskedPrev}
 use Rattle.nm_set.specs.Popping.{SaysManagedPopOf}
 use Rattle.nm_set.specs.Scanning.{AskedScan}
 use Rattle.nm_set.specs.Seats.{MemberView, SetView, IsNewMember}
+use Rattle.nm_tree.specs.declared.fault.PinFault.{PinFault}
+use Rattle.nm_tree.specs.declared.fault.PinFault.TheVariants as pinning
+use Rattle.nm_tree.specs.Answers.{HasPinned}
 use Rattle.nm_tree.specs.Workers.{WorkerView}
 use Rattle.nm_lending.specs.declared.knowing.Visit.{Visit}
 use Rattle.nm_lending.specs.Visits.{AreSeated}
 use Rattle.nm_lending.specs.Views.{LoanView, NoneIsLent}
 use Rattle.nm_lending.specs.Views as lending
+use Rattle.nm_shared.specs.SharedMaps.{AsksIfPinned, AsksUnderPin, GetsMany}
 use Rattle.nm_shared.specs.Sharing.{SharedView, CallerView, NoneWasFree, Sits, IsBorrowed, MayComeBack, SitsIn, Visited, SaysShared, goes_on, note_of}
 
 -- ---- what each managed call keeps
@@ -83,6 +90,37 @@ pub get_keeps : (b : TreeView) (h : Options) (k : ℕ) (w z : WorkerView) (r : R
 get_keeps b h k w z r (inl (held, is, same)) = kept_itself w z same
 get_keeps b h k w z r (inr (free, t)) = record
     { same = t.answers.on.same; past = t.answers.on.past; free = λ none'. t.answers.on.held }
+
+-- a worker that was not pinned is pinned by nobody
+not_held : (t : ℕ) (w p : WorkerView) (f : PinFault) → w.held ≡ None → HasPinned t w p (Err f) → p.held ≡ None
+not_held t w p (pinning.Moved epoch) free did = did.1
+not_held t w p pinning.Pending free did = ap (λ (x : WorkerView). x.held) did.1 ∙ free
+not_held t w p pinning.Pinned free did = absurd did
+
+asks_keep : (L : Layout) (old new : List Query) (p z : WorkerView) (r : Result (Unit {0}) CallFault)
+    → AsksUnderPin L old new p z r → Keeps p z
+asks_keep L old new p z r a = record {
+  same = same_then p.pass a.asked.pass z.pass a.gets.same (same_by_step a.asked.pass z.pass Leave Departed a.unpins.step);
+  past = seen_through p.pass a.asked.pass z.pass a.gets.past a.unpins.past;
+  free = λ none'. a.unpins.held;
+}
+
+pub get_many_keeps : (L : Layout) (t : ℕ) (old new : List Query) (w z : WorkerView) (r : Result (Unit {0}) CallFault)
+    → GetsMany L t old new w z r → Keeps w z
+get_many_keeps L t old new w z r g = by g.pin g.pins g.asks
+  where
+    by : (x : Result ℕ PinFault) → AskedToPin t w g.pinned x → AsksIfPinned L old new g.pinned z x r → Keeps w z
+    by (Ok e) (inl held) asks = absurd (let is = held.1 in cc)
+    by (Ok e) (inr (free, l)) asks =
+        let rest : Keeps g.pinned z = asks_keep L old new g.pinned z r asks in
+        record {
+          same = same_then w.pass g.pinned.pass z.pass l.same rest.same;
+          past = seen_through w.pass g.pinned.pass z.pass l.past rest.past;
+          free = λ none'. asks.unpins.held;
+        }
+    by (Err f) (inl (held, is, same)) asks = kept_itself w z (asks.1 ∙ same)
+    by (Err f) (inr (free, l)) asks = subst (λ (y : WorkerView). Keeps w y) (sym asks.1)
+        (record { same = l.same; past = l.past; free = λ none'. not_held t w g.pinned f free l.did })
 
 pub change_keeps : (op : Op) (b : TreeView) (h : Options) (k : ℕ) (w z : WorkerView) (r : Result Bool CallFault)
     → SaysChange op b h k w z r → Keeps w z

@@ -1,5 +1,5 @@
 -- What the calls of a map by any thread say: what a member of the map says, by the worker of one visit.
-use Rattle.std.specs.Prelude.{◌≡◌, ℕ, Bool, List, true, false, Option, Some, Result, Ok, IfErr}
+use Rattle.std.specs.Prelude.{◌≡◌, ℕ, Bool, List, true, false, Option, Some, Result, Ok, Err, IfErr}
 use Rattle.nm_edge.specs.Layouts.{Layout}
 use Rattle.nm_edge.specs.declared.edge.Side.{Side}
 use Rattle.nm_model.specs.declared.event.Op.TheVariants.{Delete, Insert}
@@ -7,12 +7,18 @@ use Rattle.nm_steps.specs.Steps.{TreeView}
 use Rattle.nm_calls.specs.MapScans.{HadEntries, keys_of}
 use Rattle.nm_calls.specs.Maps.{HasPut, MapGave}
 use Rattle.nm_calls.specs.declared.fault.CallFault.{CallFault}
+use Rattle.nm_calls.specs.declared.fault.CallFault.TheVariants as fault
+use Rattle.nm_calls.specs.declared.many.Query.{Query}
 use Rattle.nm_calls.specs.declared.map_scanning.MapEntry.{MapEntry}
 use Rattle.nm_calls.specs.declared.scanning.Scanned.{Scanned}
+use Rattle.nm_tree.specs.declared.fault.PinFault.{PinFault}
+use Rattle.nm_tree.specs.declared.fault.PinFault.TheVariants as pinning
 use Rattle.nm_tree.specs.Answers.{FreesNone, IfTaken}
+use Rattle.nm_tree.specs.Calls.{LeavesPinnedGetMany, LeavesUnpin}
 use Rattle.nm_tree.specs.Workers.{WorkerView}
 use Rattle.nm_set.specs.declared.managed.Options.{Options}
 use Rattle.nm_set.specs.declared.map_managed.Reclaimed.{Reclaimed}
+use Rattle.nm_set.specs.Asked.{AskedToPin}
 use Rattle.nm_set.specs.Maps.{FindsValue, LeavesReclaim, PopsValue, SaysChange, SaysGet, TookMeanwhile}
 use Rattle.nm_set.specs.NextKeys.{AskedNext, AskedPrev}
 use Rattle.nm_set.specs.Popping.{SaysManagedPopOf}
@@ -54,10 +60,43 @@ pub record ScansEntries (side : Side) (L : Layout) (tries from to : ℕ) (old ne
   pub finds : HadEntries w.pass z.pass new r
   pub kept : IfErr r (λ e. new ≡ old)
 
+-- a worker that is pinned looks up the values of these queries, from the old ones to the new ones, and is
+-- unpinned
+pub record AsksUnderPin (L : Layout) (old new : List Query) (w z : WorkerView) (r : Result (Unit {0}) CallFault)
+    : Type 0 where
+  pub asked : WorkerView
+  pub gets : LeavesPinnedGetMany L old new w asked r
+  pub unpins : LeavesUnpin asked z
+
+-- the fault of a call whose worker was not pinned
+abbrev pub of_pin : PinFault → CallFault
+of_pin (pinning.Moved epoch) = fault.Busy
+of_pin pinning.Pending = fault.Pending
+of_pin pinning.Pinned = fault.Pinned
+
+-- the worker does that if it was pinned, and nothing if it was not
+abbrev pub AsksIfPinned : Layout → List Query → List Query → WorkerView → WorkerView → Result ℕ PinFault
+    → Result (Unit {0}) CallFault → Type 0
+AsksIfPinned L old new w z (Ok epoch) r = AsksUnderPin L old new w z r
+AsksIfPinned L old new w z (Err f) r = (r ≡ Err (of_pin f)) × (z ≡ w) × (new ≡ old)
+
+-- a look-up of the values of several queries under a pin of its own
+pub record GetsMany (L : Layout) (tries : ℕ) (old new : List Query) (w z : WorkerView)
+    (r : Result (Unit {0}) CallFault) : Type 0 where
+  pub pinned : WorkerView
+  pub pin : Result ℕ PinFault
+  pub pins : AskedToPin tries w pinned pin
+  pub asks : AsksIfPinned L old new pinned z pin r
+
 -- ---- by the worker of one visit
 
 abbrev pub SaysSharedGet : SharedView → Options → ℕ → CallerView → CallerView → Result (Option ℕ) CallFault → Type 0
 SaysSharedGet s h k was now r = Visited (λ w z. SaysGet s.set.tree h k w z r) s was now
+
+abbrev pub SaysSharedGetMany : SharedView → Options → List Query → List Query → CallerView → CallerView
+    → Result (Unit {0}) CallFault → Type 0
+SaysSharedGetMany s h old new was now r =
+    Visited (λ w z. GetsMany s.set.tree.layout h.tries old new w z r) s was now
 
 abbrev pub SaysSharedPut : SharedView → Options → ℕ → ℕ → ℕ → CallerView → CallerView → Result Bool CallFault → Type 0
 SaysSharedPut s h k v f was now r = Visited (λ w z. PutsValue s.set.tree h k v f w z r) s was now

@@ -1,8 +1,8 @@
-//! A set that any thread calls through a shared reference, without a member of its own.
+//! A set or a map that any thread calls through a shared reference, without a member of its own.
 //!
 //! Each call borrows a worker that no other call has, asks it once, and gives it back. Proved: the
-//! answers of all calls of all threads are different acts of one history of one plain set, and two
-//! calls by one caller are in their order, also by different workers.
+//! answers of all calls of a set by all threads are different acts of one history of one plain set,
+//! and two calls by one caller are in their order, also by different workers.
 #![tactic(auto)]
 
 mod laws;

@@ -1,13 +1,56 @@
 //! Calls of a map by any thread, each by a worker that is borrowed for that call.
-ghost use Rattle.std.specs.Prelude.{◌≡◌, ◌<◌, ◌≤◌, IfSome, IfNone};
+ghost use Rattle.std.specs.Prelude.{◌≡◌, ◌<◌, ◌≤◌, IfSome, IfNone, IsSome};
 ghost use Rattle.nm_edge.specs.Keys.{IsKey};
 ghost use Rattle.nm_edge.specs.declared.edge.Side.TheVariants.{Left, Right};
-ghost use Rattle.nm_shared.specs.SharedMaps.{SaysSharedEntries, SaysSharedGet, SaysSharedNextEntry, SaysSharedPopEntry, SaysSharedPrevEntry, SaysSharedPut, SaysSharedReclaim, SaysSharedTake};
+ghost use Rattle.nm_shared.specs.SharedMaps.{AsksUnderPin, GetsMany, of_pin};
+ghost use Rattle.nm_shared.specs.SharedMaps.{SaysSharedEntries, SaysSharedGet, SaysSharedGetMany, SaysSharedNextEntry, SaysSharedPopEntry, SaysSharedPrevEntry, SaysSharedPut, SaysSharedReclaim, SaysSharedTake};
 ghost use Rattle.nm_shared.specs.Sharing.{IsCallerOf, NoneWasFree};
 
 use crate::shared_set::{Caller, SharedSet};
 use nm_edge::Key;
-use nm_set::{CallFault, MapEntry, Options, Reclaimed, Scanned, Values};
+use nm_set::{CallFault, MapEntry, Member, Options, PinFault, Query, Reclaimed, Scanned, Values};
+
+/// Returns the fault of a call whose worker was not pinned.
+fn of_pin_fault(fault: PinFault) -> CallFault
+    ensures { result ≡ of_pin fault }
+{
+    match fault {
+        PinFault::Moved { epoch: _ } => CallFault::Busy,
+        PinFault::Pending => CallFault::Pending,
+        PinFault::Pinned => CallFault::Pinned,
+    }
+}
+
+/// Looks up the values of these keys by a worker that is pinned, and unpins it.
+fn get_and_unpin(member: &mut Member<Values>, queries: &mut [Query]) -> Result<(), CallFault>
+    requires held { IsSome member.old.worker.held }
+    ensures tree { member.new.tree ≡ member.old.tree }
+    ensures says { AsksUnderPin member.old.tree.layout queries.old queries.new member.old.worker
+        member.new.worker result }
+{
+    let told = member.get_many_pinned(queries);
+    let _unpinned = member.unpin();
+    match told {
+        Ok(()) => Ok(()),
+        Err(_) => Err(CallFault::Busy),
+    }
+}
+
+/// Pins the worker, looks up the values of these keys under that pin, and unpins it.
+fn get_under_pin(
+    member: &mut Member<Values>,
+    queries: &mut [Query],
+    tries: u32,
+) -> Result<(), CallFault>
+    ensures tree { member.new.tree ≡ member.old.tree }
+    ensures says { GetsMany member.old.tree.layout tries queries.old queries.new member.old.worker
+        member.new.worker result }
+{
+    match member.pin(tries) {
+        Ok(_) => get_and_unpin(member, queries),
+        Err(fault) => Err(of_pin_fault(fault)),
+    }
+}
 
 impl SharedSet<Values> {
     /// Returns the value that the map has under `key`: `MapMember::get` of `nm_set`, by a worker that
@@ -30,6 +73,37 @@ impl SharedSet<Values> {
             Ok((worker, loan)) => {
                 let mut worker = worker;
                 let told = worker.member.get(key, options);
+                (self.give_back(loan, worker), Some(told))
+            }
+            Err(caller) => (caller, None),
+        }
+    }
+
+    /// Looks up the value of each of these keys, and writes the answers into their `found` and `value`:
+    /// `MapMember::get_many_pinned`, between a pin and an unpin. Proved (`says`): each answer was right
+    /// at a moment of the call. One worker looks up all keys. A value may be reclaimed at once.
+    ///
+    /// Errors: no answer means anything then. `Busy`: the epoch moved on in each try, or the options
+    /// allow none; or a walk had looked at as many nodes as there are, which in a radix tree never
+    /// happens. `Pending`: the worker has not finished a remove; `get` finishes it.
+    /// Cost: that of `get`, and a walk for each further key.
+    pub fn get_many(
+        &self,
+        caller: Caller<Values>,
+        queries: &mut [Query],
+        options: &Options,
+    ) -> (Caller<Values>, Option<Result<(), CallFault>>)
+        requires own { IsCallerOf self.now caller }
+        ensures own { IsCallerOf self.now result.0 }
+        ensures says { IfSome result.1 (SaysSharedGetMany self.now options.now queries.old
+            queries.new caller result.0) }
+        ensures refused { IfNone result.1 (NoneWasFree self.now caller result.0
+            × (queries.new ≡ queries.old)) }
+    {
+        match self.borrow(caller) {
+            Ok((worker, loan)) => {
+                let mut worker = worker;
+                let told = get_under_pin(&mut worker.member, queries, options.tries);
                 (self.give_back(loan, worker), Some(told))
             }
             Err(caller) => (caller, None),

@@ -1,8 +1,12 @@
 -- What the end of a tree leaves.
-use Rattle.std.proofs.Common.{◌≡◌, ℕ, suc, ◌+◌, ◌-◌, ◌<◌, ◌≤◌, inl, inr, true, List, [], ◌∷◌, ◌++◌, length, refl, sym, ap, ◌∙◌, subst, arith}
+use Rattle.std.proofs.Common.{◌≡◌, ℕ, suc, ◌+◌, ◌-◌, ◌<◌, ◌≤◌, inl, inr, true, List, [], ◌∷◌, ◌++◌, append-nil, length, map, refl, sym, ap, ◌∙◌, subst, arith}
 use Rattle.std.proofs.lemmas.List.Elements.{All-cons, All-head, All-nil, All-tail}
-use Rattle.std.proofs.lemmas.List.Sums.{sum_by-cons}
-use Rattle.std.specs.Prelude.{All, filter, slice_index_or}
+use Rattle.std.proofs.lemmas.List.{length-map}
+use Rattle.std.proofs.lemmas.List.Concat.{length-flat_map}
+use Rattle.std.proofs.lemmas.List.FromFn.{length-range_with_len}
+use Rattle.std.proofs.lemmas.List.Sorted.{IsPermutation-append_right, IsPermutation-cons, IsPermutation-insert, IsPermutation-refl, IsPermutation-trans, length_permutation}
+use Rattle.std.specs.List.{range_with_len}
+use Rattle.std.specs.Prelude.{All, IsPermutation, filter, flat_map, slice_index_or}
 use Rattle.nm_edge.specs.Layouts.{Layout}
 use Rattle.nm_model.specs.declared.trace.Turn.{Turn}
 use Rattle.nm_model.specs.Ordered.{ordered, trace_in}
@@ -23,8 +27,8 @@ use Rattle.nm_steps.proofs.Seeing.{stores_same, stores_through}
 use Rattle.nm_epoch.specs.declared.collecting.HeldQueue.{HeldQueue}
 use Rattle.nm_epoch.specs.Collecting.{AreHeld}
 use Rattle.nm_tree.specs.Workers.{WorkerView, IsWorker, TellLedgers, HasOrigin, AreAbove, Ascend}
-use Rattle.nm_tree.specs.Closing.{AreAllOf, AreFrom, GoesOnFromAll, IsClosed, IsOfTurns, StandsForAll, all_joined, all_merged, given_in}
-use Rattle.nm_tree.specs.MapReports.{StoresGoOnFromAll}
+use Rattle.nm_tree.specs.Closing.{AreAllOf, AreFrom, IsClosed, IsOfTurns, StandsForAll, all_joined, all_merged, given_in}
+use Rattle.nm_tree.specs.Resigning.{inserted, merged, place_in}
 use Rattle.nm_tree.proofs.AddedUp.{add_up}
 use Rattle.nm_tree.proofs.EndCounts.{sum_is}
 use Rattle.nm_tree.proofs.EndLaws.{ascend_of, set_of, totals_of}
@@ -34,7 +38,7 @@ use Rattle.nm_tree.proofs.JoinsAlone.{all_joined_alone}
 use Rattle.nm_tree.proofs.Settling.{settles}
 use Rattle.nm_tree.proofs.Heirs.{logs, has_times}
 use Rattle.nm_tree.proofs.Ledgers.{all_told, told_alike}
-use Rattle.nm_tree.proofs.Merging.{length-merged}
+use Rattle.nm_tree.proofs.Merging.{inserted_there}
 
 -- ---- the workers one by one
 
@@ -52,6 +56,13 @@ pub still_of : (b : TreeView) (p o q : PassView) → HasJoined p o q → IsOf b 
 still_of b p o q is own = record { table = ap (λ (x : PassView). x.table) is ∙ own.table; layout = ap (λ (x : PassView). x.view.layout) is ∙ own.layout }
 
 -- ---- what the one that stands for all has seen
+
+-- these turns, and these stores, extend what each of the workers had seen
+abbrev pub GoesOnFromAll : List Turn → List WorkerView → Type 0
+GoesOnFromAll turns ws = All (λ (w : WorkerView). Extends turns w.pass.view.past) ws
+
+abbrev pub StoresGoOnFromAll : List Stored → List WorkerView → Type 0
+StoresGoOnFromAll stores ws = All (λ (w : WorkerView). ExtendsStores stores w.pass.view.stores) ws
 
 pub alone : (w : WorkerView) → GoesOnFromAll w.pass.view.past (w ∷ [])
 alone w = All-cons (λ (u : WorkerView). Extends w.pass.view.past u.pass.view.past) w [] (goes_on_itself w.pass.view.past) (All-nil (λ (u : WorkerView). Extends w.pass.view.past u.pass.view.past))
@@ -89,15 +100,47 @@ stores_from_earlier stores earlier ws more all i w less = stores_through (slice_
 pub stores_from_one_more : (w : WorkerView) (us : List WorkerView) (p q : PassView) → ExtendsStores q.view.stores p.view.stores → ExtendsStores q.view.stores w.pass.view.stores → StoresGoOnFromAll p.view.stores us → StoresGoOnFromAll q.view.stores (w ∷ us)
 stores_from_one_more w us p q seen told all = All-cons (λ (u : WorkerView). ExtendsStores q.view.stores u.pass.view.stores) w us told (stores_from_earlier q.view.stores p.view.stores us seen all)
 
+-- the queues that come together are those of all workers
+inserted_permutes : (g : HeldQueue) (hs : List HeldQueue) → IsPermutation (g ∷ hs) (inserted g hs)
+inserted_permutes g hs =
+    subst (IsPermutation (g ∷ hs)) (inserted_there g hs) (IsPermutation-insert hs (place_in g.origin hs) g)
+
+merged_permutes : (hs gs : List HeldQueue) → IsPermutation (gs ++ hs) (merged hs gs)
+merged_permutes hs [] = IsPermutation-refl hs
+merged_permutes hs (g ∷ gs) =
+    IsPermutation-trans (g ∷ (gs ++ hs)) (g ∷ merged hs gs) (inserted g (merged hs gs))
+    (IsPermutation-cons g (gs ++ hs) (merged hs gs) (merged_permutes hs gs)) (inserted_permutes g (merged hs gs))
+
+all_permute : (ws : List WorkerView) → IsPermutation (flat_map (λ (w : WorkerView). w.queues) ws) (all_merged ws)
+all_permute [] = IsPermutation-refl []
+all_permute (w ∷ []) =
+    subst (λ (hs : List HeldQueue). IsPermutation hs w.queues) (sym (append-nil w.queues)) (IsPermutation-refl w.queues)
+all_permute (w ∷ u ∷ ws) =
+    let rest : List HeldQueue = flat_map (λ (x : WorkerView). x.queues) (u ∷ ws) in
+    IsPermutation-trans (w.queues ++ rest) (w.queues ++ all_merged (u ∷ ws)) (all_merged (w ∷ u ∷ ws))
+    (IsPermutation-append_right w.queues rest (all_merged (u ∷ ws)) (all_permute (u ∷ ws)))
+    (merged_permutes (all_merged (u ∷ ws)) w.queues)
+
 -- as many queues as workers were given
-pub all_given : (ws : List WorkerView) → length (all_merged ws) ≡ given_in ws
-all_given [] = refl
-all_given (w ∷ []) = let one = sum_by-cons (λ (x : WorkerView). length x.queues) w [] in omega (arith, one)
-all_given (w ∷ u ∷ ws) =
-    let rest = all_given (u ∷ ws) in
-    let both = length-merged (all_merged (u ∷ ws)) w.queues in
-    let sum = sum_by-cons (λ (x : WorkerView). length x.queues) w (u ∷ ws) in
-    omega (arith, rest, both, sum)
+all_given : (ws : List WorkerView) → length (all_merged ws) ≡ given_in ws
+all_given ws =
+    length_permutation (flat_map (λ (w : WorkerView). w.queues) ws) (all_merged ws) (all_permute ws)
+    ∙ length-flat_map (λ (w : WorkerView). w.queues) ws
+
+-- the origins of queues that are from i on
+origins_are : (i : ℕ) (hs : List HeldQueue) → AreFrom i hs
+    → map (λ (h : HeldQueue). h.origin) hs ≡ range_with_len i (length hs)
+origins_are i [] from = refl
+origins_are i (h ∷ hs) from =
+    let next : suc i ≡ i + 1 = omega arith in
+    let rest = origins_are (suc i) hs from.1 ∙ ap (λ (k : ℕ). range_with_len k (length hs)) next in
+    (λ j. from.0 j ∷ rest j)
+
+pub as_many_queues : (n : ℕ) (hs : List HeldQueue) → map (λ (h : HeldQueue). h.origin) hs ≡ range_with_len 0 n
+    → length hs ≡ n
+as_many_queues n hs is =
+    sym (length-map hs (λ (h : HeldQueue). h.origin))
+    ∙ (ap (λ (os : List ℕ). length os) is ∙ length-range_with_len 0 n)
 
 at_least_one : (ws : List WorkerView) → 1 ≤ given_in ws → 1 ≤ length ws
 at_least_one [] some' = absurd (omega (arith, some'))
@@ -142,7 +185,7 @@ module _ (b : TreeView) (w : WorkerView) (home : ℕ) (ws : List WorkerView) (ke
       let some' = has_times o (logs w.pass.view) (is.numbers.each o has) in
       (once_is o b.layout.workers).1 (omega (arith, once, all, some'))
 
-  in_order : AreFrom 0 w.queues × (length w.queues ≡ b.layout.workers)
+  pub in_order : AreFrom 0 w.queues × (length w.queues ≡ b.layout.workers)
   in_order =
       let many : length w.queues ≡ given_in ws = ap (λ (l : List HeldQueue). length l) queues ∙ all_given ws in
       all_in_order b.layout.workers w.queues is.between.ascend below (omega (arith, many, enough))
@@ -167,7 +210,7 @@ module _ (b : TreeView) (w : WorkerView) (home : ℕ) (ws : List WorkerView) (ke
     past = goes_on_from_last (trace_in (ordered b.layout) end.turns) ws goes_on;
   }
 
-  of_turns : IsOfTurns b.layout (trace_in (ordered b.layout) end.turns) words w.queues kept
+  of_turns : IsOfTurns b.layout (trace_in (ordered b.layout) end.turns) w.queues kept
   unfolding the_end
   of_turns = of_turns_at_end b.layout words the_end w home is end.shown in_order.0 in_order.1 kept (keys_are the_end)
 
@@ -186,14 +229,12 @@ module _ (b : TreeView) (w : WorkerView) (home : ℕ) (ws : List WorkerView) (ke
   unfolding ends the_end
   closed = record {
     says = record {
-      words = words;
       turns = trace_in (ordered b.layout) end.turns;
       headline = of_turns;
       goes_on = goes_on;
       own = all_joined_alone (all_joined ws).layout b.layout (trace_in (ordered b.layout) end.turns) ws logs_are of_runs;
-      merged = queues;
-      each = in_order.0;
-      all = in_order.1;
+      unchanged = subst (IsPermutation (flat_map (λ (u : WorkerView). u.queues) ws)) (sym queues) (all_permute ws);
+      each = origins_are 0 w.queues in_order.0 ∙ ap (range_with_len 0) in_order.1;
       ascend = ascend_of b.layout end.fits end.turns end.keys kept (keys_are the_end);
       free_are = free_are the_end ∙ ap (λ (m : Memory). length (filter (λ mark. mark) m.pool)) (sym words_are);
       reached_are = reached_are the_end ∙ (ap (λ (n : ℕ). length (tree_slots n (end_of b.layout words the_end).memory 1) - 5) nodes ∙ ap (λ (m : Memory). length (tree_slots b.layout.nodes m 1) - 5) (sym words_are));
@@ -204,6 +245,7 @@ module _ (b : TreeView) (w : WorkerView) (home : ℕ) (ws : List WorkerView) (ke
           (set_of b.layout end.fits end.turns end.keys kept (keys_are the_end))
           (ascend_of b.layout end.fits end.turns end.keys kept (keys_are the_end));
     };
+    words = words;
     same_turns = refl;
     ends = ends;
     held = subst (λ (v : View). AreHeld (knowledge v) w.queues) view is.between.queues;

@@ -1,10 +1,10 @@
 -- What the end of a map leaves of its values.
-use Rattle.std.proofs.Common.{◌≡◌, ℕ, zero, suc, ◌+◌, ◌-◌, ◌<◌, ◌≤◌, ◌==◌, inl, inr, Bool, true, false, List, [], ◌∷◌, ◌++◌, append-nil, length, map, refl, sym, ap, subst, ◌∙◌, arith}
+use Rattle.std.proofs.Common.{◌≡◌, ℕ, zero, suc, ◌+◌, ◌-◌, ◌<◌, ◌≤◌, ◌==◌, inl, inr, Bool, true, false, List, [], ◌∷◌, ◌++◌, append-nil, length, map, refl, sym, ap, subst, ◌∙◌, arith, true≢false}
 use Rattle.std.specs.Prelude.{All, AllPairs, Contains, Some, ◌/◌, nat_lt, slice_get, slice_index}
 use Rattle.std.proofs.lemmas.Bool.{cases_lt, eq-eqb, le-ltb, lt-ltb, ne_eqb}
-use Rattle.std.proofs.lemmas.List.{length-append, map-append, nil_from_length}
+use Rattle.std.proofs.lemmas.List.{length-append, length-map, map-append, nil_from_length}
 use Rattle.std.proofs.lemmas.List.Elements.{All-cons, All-nil, Contains-append_right}
-use Rattle.std.proofs.lemmas.Option.{none-some, same_Some}
+use Rattle.std.proofs.lemmas.Option.{none-some, same_Some, slice_get-get_or}
 use Rattle.nm_edge.specs.Layouts.{Layout, IsLayout}
 use Rattle.nm_edge.specs.Edges.{Edge}
 use Rattle.nm_edge.specs.Words.{IsSlot, at_edge, word, words as all_words}
@@ -36,17 +36,18 @@ use Rattle.nm_epoch.specs.declared.collecting.HeldQueue.{HeldQueue}
 use Rattle.nm_epoch.specs.Collecting.{AreHeld, IsQueueOf, queued}
 use Rattle.nm_epoch.proofs.Fronts.{shown_queue}
 use Rattle.nm_calls.specs.HandedBack.{WasCutWith}
-use Rattle.nm_calls.specs.Maps.{HoldsStores, IsInMap}
-use Rattle.nm_calls.proofs.HandedBack.{CutBy, cut_by, kind_at_end, kind_by_left, waiting_passes, waits_with_its_value, was_reached}
+use Rattle.nm_calls.specs.Maps.{HoldsStores, IsInMap, value_at}
+use Rattle.nm_calls.proofs.HandedBack.{CutBy, cut_by, kind_at_end, kind_by_left, waiting_passes, waits_with_its_value}
+use Rattle.nm_calls.proofs.MoreStores.{same_by_more}
 use Rattle.nm_calls.proofs.StoresInTurns.{linked_leaves, swapped_leaves, were_in_hands}
 use Rattle.nm_tree.specs.declared.closing.Ended.{Ended}
 use Rattle.nm_tree.specs.declared.closing.Report.{Report}
 use Rattle.nm_tree.specs.declared.map_closing.MapReport.{MapReport}
-use Rattle.nm_tree.specs.Closing.{GoesOnFromAll, IsClosed, StandsForAll, all_merged, given_in}
+use Rattle.nm_tree.specs.Closing.{AreFrom, IsClosed, StandsForAll, all_merged, given_in}
 use Rattle.nm_tree.specs.Ended.{IsEndOf, end_of}
-use Rattle.nm_tree.specs.MapReports.{AreInMap, AreLeavesOf, EndsMap, IsLeafOf, LeavesValues, SaysMapClosed, StoresGoOnFromAll, Waits, bare_of, is_bare_in, value_in}
+use Rattle.nm_tree.specs.MapReports.{AreLeavesOf, EndsMap, IsLeafOf, LeavesValues, SaysMapClosed, Waits, is_bare_in, value_in}
 use Rattle.nm_tree.specs.Workers.{IsWorker, WorkerView}
-use Rattle.nm_tree.proofs.Closed.{closed, stores_from_earlier, turns_are}
+use Rattle.nm_tree.proofs.Closed.{GoesOnFromAll, StoresGoOnFromAll, closed, in_order, stores_from_earlier, turns_are}
 use Rattle.nm_tree.proofs.EndWorkers.{are as logs_shown}
 use Rattle.nm_tree.proofs.Ends.{edge_told}
 
@@ -92,11 +93,17 @@ leaves_within L m n (k ∷ ks) (x ∷ xs) long are =
     let high = are.0.slot.1 in
     All-cons (λ (y : ℕ). (1 ≤ y) × (y ≤ n)) x xs (omega (arith, low), omega (arith, high, long)) (leaves_within L m n ks xs long are.1)
 
+as_many_leaves : (L : Layout) (m : Memory) (ks xs : List ℕ) → AreLeavesOf L m ks xs → length xs ≡ length ks
+as_many_leaves L m [] [] are = refl
+as_many_leaves L m [] (x ∷ xs) are = absurd are
+as_many_leaves L m (k ∷ ks) [] are = absurd are
+as_many_leaves L m (k ∷ ks) (x ∷ xs) are = ap suc (as_many_leaves L m ks xs are.1)
+
 -- ---- the stores at the end of a run, at which nobody has a slot in hands
 
 module _ (L : Layout) (fits : IsLayout L) (events : List (ℕ × Event)) (all_keys : All (λ t. HasKey t.1) events)
     (stores : List Stored) (were : WereHeld L events stores) (linked : LinksHaveValues L events stores)
-    (order : AllPairs ComesBefore stores) (slots core : List ℕ)
+    (order : AllPairs ComesBefore stores) (slots core : List ℕ) (long : length slots ≡ L.nodes)
     (core_is : core ≡ words_of L (after_in (ordered L) events).state.memory)
     (each : (i : ℕ) → i < L.nodes → slice_index slots i ≡ value_of stores (i + 1)) (no_hands : (u x : ℕ) → has_after (opening L) u x false (trace_in (ordered L) events) ≡ false) where
   abbrev turns : List Turn
@@ -143,11 +150,18 @@ module _ (L : Layout) (fits : IsLayout L) (events : List (ℕ × Event)) (all_ke
     has_value = value_stays L events stores (length turns) x were (nobody x) ∙ sym (value_is x l.slot);
   }
 
-  pub all_in_map : (ks xs : List ℕ) → AreLeavesOf L (words_after L turns) ks xs → AreInMap L turns stores ks (map (value_in slots) xs)
-  all_in_map [] [] are = tt
-  all_in_map [] (x ∷ xs) are = absurd are
-  all_in_map (k ∷ ks) [] are = absurd are
-  all_in_map (k ∷ ks) (x ∷ xs) are = (in_map k x are.0, all_in_map ks xs are.1)
+  pub each_in_map : (ks xs : List ℕ) → AreLeavesOf L (words_after L turns) ks xs → (i k v : ℕ)
+      → slice_get ks i ≡ Some k → slice_get (map (value_in slots) xs) i ≡ Some v → IsInMap L turns stores k v
+  each_in_map [] xs are i k v at there = absurd (none_some' i k at)
+    where
+      none_some' : (i : ℕ) (k : ℕ) → slice_get [] i ≡ Some k → ⊥
+      none_some' zero k at = none-some k at
+      none_some' (suc i) k at = none-some k at
+  each_in_map (k' ∷ ks) [] are i k v at there = absurd are
+  each_in_map (k' ∷ ks) (x ∷ xs) are zero k v at there =
+      subst (λ (j : ℕ). IsInMap L turns stores j v) (same_Some k' k at)
+      (subst (IsInMap L turns stores k') (same_Some (value_in slots x) v there) (in_map k' x are.0))
+  each_in_map (k' ∷ ks) (x ∷ xs) are (suc i) k v at there = each_in_map ks xs are.1 i k v at there
 
   -- a bare slot is one whose left edge leads to no node
   bare_is : (x : ℕ) → IsSlot L x → is_bare_in L core x ≡ (child (after_in (ordered L) events).state.memory x Left == 0)
@@ -156,29 +170,35 @@ module _ (L : Layout) (fits : IsLayout L) (events : List (ℕ × Event)) (all_ke
       below_four (slice_index core (word L (at_edge x Left)))
       ∙ ap (λ (y : Edge). y.slot == 0) (edge_told L core e x Left is)
 
-  -- a leaf that waits has its value
+  -- a node that was cut off with its value waits with it
+  waits_as_leaf : (e : Entry) (v : ℕ) → IsPooled L e.node.slot → is_bare_in L core e.node.slot ≡ true
+      → value_of stores e.node.slot ≡ v → WasCutWith L turns stores e.node v
+      → Waits L turns stores slots (is_bare_in L core) e
+  waits_as_leaf e v pooled bare is w =
+      let low = pooled.0 in
+      let high = pooled.1 in
+      let x : ℕ = e.node.slot in
+      let all : HoldsStores L turns turns stores = all_stores turns (goes_on_itself turns) in
+      let more : value_at (length w.before) stores x ≡ value_at (length w.before) w.first x = same_by_more L fits
+      events all_keys w.before (w.cut ∷ w.since) w.are x w.reached w.leaf (inl w.high) w.first stores w.stored
+      w.extends turns all in
+      record {
+        before = w.before;
+        cut = w.cut;
+        since = w.since;
+        are = w.are;
+        cuts = w.cuts;
+        slot = pooled;
+        leaf = w.leaf ∙ sym bare;
+        value = λ yes'. slice_get-get_or slots (x - 1) 0 (omega (arith, low, high, long))
+            ∙ ap Some (value_is x (omega (arith, low), omega (arith, high)) ∙ (is ∙ sym (more ∙ w.has_value)));
+      }
+
   pub waits : (u : ℕ) (items early later : List Entry) (e : Entry)
       → map (λ (n : Entry). n.node) items ≡ waits_of u turns → items ≡ early ++ e ∷ later → IsPooled L e.node.slot
       → Waits L turns stores slots (is_bare_in L core) e
-  waits u items early later e waiting are pooled = record {
-    slot = slot;
-    leaf = λ yes'. subst (λ (v : ℕ). WasCutWith L turns stores e.node v) (sym (value_is e.node.slot slot))
-        (waits_with_its_value L fits events all_keys u e.node c there pooled (sym kind ∙ yes') stores were all_stores);
-    inner = λ no'. record {
-      before = c.before;
-      cut = c.cut;
-      since = c.since;
-      are = c.are;
-      cuts = c.there;
-      high = pooled.0;
-      reached = was_reached L fits events all_keys u e.node c there pooled;
-      inner = sym kind ∙ no';
-    };
-  }
+  waits u items early later e waiting are pooled = by (is_bare_in L core e.node.slot) refl
     where
-      slot : IsSlot L e.node.slot
-      slot = let low = pooled.0 in let high = pooled.1 in (omega (arith, low), omega (arith, high))
-
       there : Contains (waits_of u turns) e.node
       there =
           subst (λ (ns : List NodeId). Contains ns e.node)
@@ -191,8 +211,26 @@ module _ (L : Layout) (fits : IsLayout L) (events : List (ℕ × Event)) (all_ke
       c = cut_by u turns e.node (waiting_passes u turns e.node there).0
 
       kind : is_bare_in L core e.node.slot ≡ is_leaf (node (words_after L c.before) e.node.slot)
-      kind = bare_is e.node.slot slot ∙ (kind_by_left L fits events all_keys u e.node c there pooled
+      kind =
+          let low = pooled.0 in
+          let high = pooled.1 in
+          bare_is e.node.slot (omega (arith, low), omega (arith, high))
+          ∙ (kind_by_left L fits events all_keys u e.node c there pooled
           ∙ kind_at_end L fits events all_keys u e.node c there pooled)
+
+      by : (b : Bool) → is_bare_in L core e.node.slot ≡ b → Waits L turns stores slots (is_bare_in L core) e
+      by true bare = waits_as_leaf e (value_of stores e.node.slot) pooled bare refl
+          (waits_with_its_value L fits events all_keys u e.node c there pooled (sym kind ∙ bare) stores were all_stores)
+      by false not_bare = record {
+        before = c.before;
+        cut = c.cut;
+        since = c.since;
+        are = c.are;
+        cuts = c.there;
+        slot = pooled;
+        leaf = sym kind;
+        value = λ yes'. absurd (true≢false (sym yes' ∙ not_bare));
+      }
 
 -- ---- the whole
 
@@ -232,7 +270,10 @@ module _ (b : TreeView) (w : WorkerView) (home : ℕ) (ws : List WorkerView) (ke
 
   same_layout : w.pass.view.layout ≡ L
   unfolding the_end
-  same_layout = (logs_shown L left.core the_end w home is v.ends.shown c.says.each c.says.all).0
+  same_layout = (logs_shown L left.core the_end w home is v.ends.shown all_there.0 all_there.1).0
+    where
+      all_there : AreFrom 0 w.queues × (length w.queues ≡ b.layout.workers)
+      all_there = in_order b w home ws kept free reached left.core is view seen queues enough of_runs v.ends run keys_are free_are reached_are
 
   pooled : (u : ℕ) (h : HeldQueue) (early later : List Entry) (e : Entry) → slice_get w.queues u ≡ Some h → h.queue.items ≡ early ++ e ∷ later → IsPooled L e.node.slot
   pooled u h early later e at are =
@@ -245,15 +286,16 @@ module _ (b : TreeView) (w : WorkerView) (home : ℕ) (ws : List WorkerView) (ke
     stores = v.stores;
     go_on = stores_from_earlier v.stores w.pass.view.stores ws v.extends stores_seen;
     holds = all_stores L v.ends.fits v.ends.turns v.ends.keys v.stores v.held v.linked v.order left.values left.core
-        v.ends.words_are v.are no_hands T (goes_on_itself T);
+        v.long v.ends.words_are v.are no_hands T (goes_on_itself T);
     long = v.long;
-    each = all_in_map L v.ends.fits v.ends.turns v.ends.keys v.stores v.held v.linked v.order left.values left.core
-        v.ends.words_are v.are no_hands kept leaves leaves_now;
+    as_many = length-map leaves (value_in left.values) ∙ as_many_leaves L (words_after L T) kept leaves leaves_now;
+    each = each_in_map L v.ends.fits v.ends.turns v.ends.keys v.stores v.held v.linked v.order left.values left.core
+        v.long v.ends.words_are v.are no_hands kept leaves leaves_now;
     waiting = all_waiting (Waits L T v.stores left.values (is_bare_in L left.core)) w.queues
         (λ u h at. all_entries (Waits L T v.stores left.values (is_bare_in L left.core)) h.queue.items
         (λ early later e are.
         waits L v.ends.fits v.ends.turns v.ends.keys v.stores v.held v.linked v.order left.values left.core
-        v.ends.words_are v.are no_hands u h.queue.items early later e (waiting u h at) are
+        v.long v.ends.words_are v.are no_hands u h.queue.items early later e (waiting u h at) are
         (pooled u h early later e at are)));
   }
 
@@ -273,18 +315,18 @@ module _ (b : TreeView) (w : WorkerView) (home : ℕ) (ws : List WorkerView) (ke
 -- the report that is made of what the end of a map has left
 module _ (b : TreeView) (ws : List WorkerView) (e : Ended) (r : MapReport) (report : r.report ≡ e.report)
     (keyed : r.values.keyed ≡ map (value_in e.words.values) e.leaves.items) (slots : r.values.slots ≡ e.words.values)
-    (bare : bare_of r.values ≡ is_bare_in e.layout e.words.core) where
+    (bare : r.values.bare ≡ is_bare_in e.layout e.words.core) where
   pub map_said : EndsMap b ws e.report.queues.items e.report.keys.items e.leaves.items e.words e.layout e.report.free
       e.report.reached
       → SaysMapClosed b ws r.report.queues.items r.report.keys.items r.values.keyed r.values.slots
-      (bare_of r.values) r.report.free r.report.reached
+      r.values.bare r.report.free r.report.reached
   map_said ends =
       let P : Report → Type 0 = λ x. SaysMapClosed b ws x.queues.items x.keys.items r.values.keyed r.values.slots
-      (bare_of r.values) x.free x.reached in
+      r.values.bare x.free x.reached in
       let Q : List ℕ → Type 0 = λ vs. SaysMapClosed b ws e.report.queues.items e.report.keys.items vs r.values.slots
-      (bare_of r.values) e.report.free e.report.reached in
+      r.values.bare e.report.free e.report.reached in
       let R : List ℕ → Type 0 = λ vs. SaysMapClosed b ws e.report.queues.items e.report.keys.items
-      (map (value_in e.words.values) e.leaves.items) vs (bare_of r.values) e.report.free e.report.reached in
+      (map (value_in e.words.values) e.leaves.items) vs r.values.bare e.report.free e.report.reached in
       let S : (ℕ → Bool) → Type 0 = λ f. SaysMapClosed b ws e.report.queues.items e.report.keys.items
       (map (value_in e.words.values) e.leaves.items) e.words.values f e.report.free e.report.reached in
       subst P (sym report) (subst Q (sym keyed) (subst R (sym slots)

@@ -17,7 +17,6 @@ use Rattle.nm_model.specs.Ordered.{ordered, after_in, trace_in}
 use Rattle.nm_model.specs.Reports.{keys}
 use Rattle.nm_model.specs.Runs.{of}
 use Rattle.nm_model.specs.Acts.{InSet}
-use Rattle.nm_steps.specs.Packing.{words_of}
 use Rattle.nm_model.specs.Headline.{waits_of, has_after}
 use Rattle.nm_theorem.proofs.WrittenWords.{run_words}
 use Rattle.nm_theorem.proofs.FreedOfRuns.{waits_is}
@@ -76,9 +75,8 @@ module _ (L : Layout) (words : List ℕ) (e : IsEndOf L words) (w : WorkerView) 
   no_hands u x = run_hands u x L e.fits true e.turns ∙ false_from_ne_true (is_private (of (end_of L words e) u) x) (none_private L words e w home is is_shown each all u x)
 
   module _ (kept : List ℕ) (keys_are : kept ≡ keys (end_of L words e)) where
-    pub of_turns_at_end : IsOfTurns L turns words w.queues kept
+    pub of_turns_at_end : IsOfTurns L turns w.queues kept
     of_turns_at_end = record {
-      written = e.words_are ∙ ap (words_of L) (sym (run_words L e.fits true e.turns));
       workers = turns_are_of_workers L e.turns;
       headline = headline L e.fits true e.turns e.keys;
       plain_set = history_of_run L e.fits e.turns e.keys;

@@ -1,8 +1,10 @@
 -- What follows of each closed tree: its queues are the rest of the cuts, each slot stands once, its
 -- report is as a core tells, and its run is as every run.
 use Rattle.std.proofs.Common.{◌≡◌, ℕ, zero, suc, ◌<◌, ◌≤◌, inl, inr, ◌==◌, Bool, true, not, List, [], ◌∷◌, ◌++◌, map, length, append-nil, refl, sym, ap, ◌∙◌, subst, arith, true≢false}
-use Rattle.std.specs.Prelude.{◌↔◌, ◌-◌, Contains, Result, Ok, Err, Some, false, filter, if◌then◌else◌, option_map, slice_get}
+use Rattle.std.specs.Prelude.{◌↔◌, ◌-◌, Contains, Result, Ok, Err, Some, false, filter, flat_map, if◌then◌else◌, option_map, slice_get}
 use Rattle.std.proofs.lemmas.Bool.{cases_lt, eqb-true}
+use Rattle.std.proofs.lemmas.List.Concat.{length-flat_map}
+use Rattle.std.proofs.lemmas.List.Sorted.{length_permutation}
 use Rattle.std.proofs.lemmas.Option.{none-some, same_Some}
 use Rattle.nm_edge.specs.declared.node.NodeId.{NodeId}
 use Rattle.nm_edge.specs.Layouts.{Layout}
@@ -31,7 +33,7 @@ use Rattle.nm_tree.specs.Running.{AreOfWorkers}
 use Rattle.nm_tree.specs.Workers.{WorkerView, waiting_in}
 use Rattle.nm_tree.specs.Closing.{AllWereGiven, EachReportIsACores, EachSlotEndsOnce, EndPlace, EndsAt, EndsOnce, IsClosed, OfEachClosed, OfEachClosedRun, QueuesAreTheRest, SaysClosed}
 use Rattle.nm_tree.specs.Closing.EndPlace.{Free, OnPath, Waiting}
-use Rattle.nm_tree.proofs.Closed.{all_given}
+use Rattle.nm_tree.proofs.Closed.{as_many_queues}
 use Rattle.nm_tree.proofs.EndCounts.{counts_are}
 use Rattle.nm_tree.proofs.EndLaws.{enough_nodes, keys_of}
 
@@ -90,7 +92,7 @@ cuts_nothing L w past (t ∷ ts) staffed = ap (λ (ns : List NodeId). (if t.work
 
 module _ (b : TreeView) (ws : List WorkerView) (queues : List HeldQueue) (kept : List ℕ) (free reached : ℕ) (is : SaysClosed b ws queues kept free reached) where
   pub no_waits : (w : ℕ) → length queues ≤ w → waits_of w is.turns ≡ []
-  no_waits w past = ap (λ (ns : List NodeId). filter (λ n. not (is_among (freed_by is.turns) n)) ns) (cuts_nothing b.layout w (let all = is.all in omega (arith, all, past)) is.turns is.headline.workers)
+  no_waits w past = ap (λ (ns : List NodeId). filter (λ n. not (is_among (freed_by is.turns) n)) ns) (cuts_nothing b.layout w (let all = as_many_queues b.layout.workers queues is.each in omega (arith, all, past)) is.turns is.headline.workers)
 
   ends : (x : ℕ) (p : Place) → StandsAt b.layout is.turns x p → EndsAt (words_after b.layout is.turns) queues x (forth p)
   unfolding forth
@@ -132,7 +134,10 @@ queues_are_the_rest b ws queues kept free reached is w h at =
     ap (λ (ns : List NodeId). freed_of w is.turns ++ ns) (is.headline.waiting w h at) ∙ (is.headline.headline.queues is.turns [] (sym (append-nil is.turns))).queues w
 
 pub all_were_given : AllWereGiven
-all_were_given b ws queues kept free reached is = sym (all_given ws) ∙ (ap (λ (hs : List HeldQueue). length hs) (sym is.merged) ∙ is.all)
+all_were_given b ws queues kept free reached is =
+    sym (length-flat_map (λ (w : WorkerView). w.queues) ws)
+    ∙ (sym (length_permutation (flat_map (λ (w : WorkerView). w.queues) ws) queues is.unchanged)
+    ∙ as_many_queues b.layout.workers queues is.each)
 
 -- ---- of its run
 
@@ -148,17 +153,17 @@ each_closed_log b ws queues kept free reached is = totals_are_in_the_logs b.layo
 -- ---- what the report tells
 
 module _ (b : TreeView) (ws : List WorkerView) (queues : List HeldQueue) (kept : List ℕ) (free reached : ℕ) (is : IsClosed b ws queues kept free reached) where
-  abbrev the_end : IsEndOf b.layout is.says.words
+  abbrev the_end : IsEndOf b.layout is.words
   the_end = record { fits = is.ends.fits; turns = is.ends.turns; keys = is.ends.keys; words_are = is.ends.words_are }
 
   abbrev run_turns : List Turn
   run_turns = trace_in (ordered b.layout) is.ends.turns
 
   -- the words that the turns have written are those at the run's end
-  now : words_after b.layout is.says.turns ≡ (end_of b.layout is.says.words the_end).memory
+  now : words_after b.layout is.says.turns ≡ (end_of b.layout is.words the_end).memory
   now = ap (words_after b.layout) is.same_turns ∙ run_words b.layout is.ends.fits true is.ends.turns
 
-  set : (k : ℕ) → Contains kept k ↔ InSet (end_of b.layout is.says.words the_end).memory k × (k < infinity_0)
+  set : (k : ℕ) → Contains kept k ↔ InSet (end_of b.layout is.words the_end).memory k × (k < infinity_0)
   set k = subst (λ (m : Memory). Contains kept k ↔ InSet m k × (k < infinity_0)) now (is.says.headline.set k)
 
   no_hands : (w x : ℕ) → has_after (opening b.layout) w x false run_turns ≡ false
@@ -167,16 +172,16 @@ module _ (b : TreeView) (ws : List WorkerView) (queues : List HeldQueue) (kept :
   waiting : (w : ℕ) (h : HeldQueue) → slice_get queues w ≡ Some h → map (λ (e : Entry). e.node) h.queue.items ≡ waits_of w run_turns
   waiting w h at = is.says.headline.waiting w h at ∙ ap (waits_of w) is.same_turns
 
-  pool : free ≡ (counts (end_of b.layout is.says.words the_end)).pool
+  pool : free ≡ (counts (end_of b.layout is.words the_end)).pool
   pool = is.says.free_are ∙ ap (λ (m : Memory). length (filter (λ mark. mark) m.pool)) now
 
-  tree : reached ≡ (counts (end_of b.layout is.says.words the_end)).reached
+  tree : reached ≡ (counts (end_of b.layout is.words the_end)).reached
   tree = is.says.reached_are ∙ (ap (λ (m : Memory). length (tree_slots b.layout.nodes m 1) - 5) now
-      ∙ ap (λ (n : ℕ). length (tree_slots n (end_of b.layout is.says.words the_end).memory 1) - 5) (sym (ap (λ (l : Layout). l.nodes) (layout_is b.layout is.says.words the_end))))
+      ∙ ap (λ (n : ℕ). length (tree_slots n (end_of b.layout is.words the_end).memory 1) - 5) (sym (ap (λ (l : Layout). l.nodes) (layout_is b.layout is.words the_end))))
 
   as_a_core : (kept ≡ keys (after_in (ordered b.layout) is.ends.turns).state)
       × (counts (after_in (ordered b.layout) is.ends.turns).state ≡ record { pool = free; private = 0; reached = reached; queued = waiting_in queues })
-  as_a_core = (keys_of b.layout is.ends.fits is.ends.turns is.ends.keys kept set is.says.ascend, counts_are b.layout is.says.words the_end queues is.says.all no_hands waiting free reached pool tree)
+  as_a_core = (keys_of b.layout is.ends.fits is.ends.turns is.ends.keys kept set is.says.ascend, counts_are b.layout is.words the_end queues (as_many_queues b.layout.workers queues is.says.each) no_hands waiting free reached pool tree)
 
 pub each_report_is_a_cores : EachReportIsACores
 each_report_is_a_cores b ws queues kept free reached is = as_a_core b ws queues kept free reached is

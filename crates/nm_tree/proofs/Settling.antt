@@ -20,7 +20,7 @@ use Rattle.nm_steps.specs.Steps.{PassView}
 use Rattle.nm_progress.specs.Pending.{NonePends, leaf_after, leaf_by}
 use Rattle.nm_progress.proofs.PendingTurns.{leaf_is_told, leaf_own}
 use Rattle.nm_tree.specs.Closing.{AreFrom, StandsForAll, all_joined}
-use Rattle.nm_tree.specs.Settled.{TellNoFlag, HasNothingPending, HaveNothingPending, HeirsHaveNothingPending, RestingWorkersHaveNothingPending, turns_of}
+use Rattle.nm_tree.specs.Settled.{TellNoFlag, HasNothingPending, HeirsHaveNothingPending, RestingWorkersHaveNothingPending, turns_of}
 use Rattle.nm_tree.specs.Workers.{WorkerView, IsWorker, HasNumber}
 use Rattle.nm_tree.proofs.EndWorkers.{are, there}
 use Rattle.nm_tree.proofs.Heirs.{logs}
@@ -73,7 +73,7 @@ one_quiet l L t (h ∷ hs) shown none u (inr has) = one_quiet l L t hs shown.2 (
 worker_quiet : (w : WorkerView) → HasNothingPending w → AreQuiet (logs w.pass.view)
 worker_quiet w rests = told_quiet (logs w.pass.view) rests
 
-all_quiet : (w : WorkerView) (ws : List WorkerView) → HaveNothingPending (w ∷ ws) → AreQuiet (logs (all_joined (w ∷ ws)))
+all_quiet : (w : WorkerView) (ws : List WorkerView) → All HasNothingPending (w ∷ ws) → AreQuiet (logs (all_joined (w ∷ ws)))
 all_quiet w [] rest = worker_quiet w (All-head HasNothingPending w [] rest)
 all_quiet w (u ∷ us) rest = joined_quiet (all_joined (u ∷ us)) w.pass.view (all_quiet u us (All-tail HasNothingPending w (u ∷ us) rest)) (worker_quiet w (All-head HasNothingPending w (u ∷ us) rest))
 
@@ -95,11 +95,11 @@ resting_workers_have_nothing_pending w seen none others =
 
 module _ (L : Layout) (words : List ℕ) (e : IsEndOf L words) (w : WorkerView) (home : ℕ) (is : IsWorker w home) (is_shown : IsShown L (trace_in (ordered L) e.turns) w.pass.view)
     (each : AreFrom 0 w.queues) (all : length w.queues ≡ L.workers) (ws : List WorkerView) (stands : StandsForAll ws w.pass.view) (some : 1 ≤ length ws) where
-  quiet : (us : List WorkerView) → 1 ≤ length us → HaveNothingPending us → AreQuiet (logs (all_joined us))
+  quiet : (us : List WorkerView) → 1 ≤ length us → All HasNothingPending us → AreQuiet (logs (all_joined us))
   quiet [] none rest = absurd (omega (arith, none))
   quiet (u ∷ us) more rest = all_quiet u us rest
 
-  pub settles : HaveNothingPending ws → NonePends L (trace_in (ordered L) e.turns)
+  pub settles : All HasNothingPending ws → NonePends L (trace_in (ordered L) e.turns)
   settles rest u less =
       let told : AreQuiet (logs w.pass.view) = subst (λ (v : View). AreQuiet (logs v)) (sym stands) (quiet ws some rest) in
       leaf_is_told u idle (trace_in (ordered L) e.turns)

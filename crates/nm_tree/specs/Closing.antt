@@ -1,5 +1,6 @@
 -- The close of a tree: what the report says, and what follows from it.
-use Rattle.std.specs.Prelude.{◌≡◌, ◌<◌, ◌≤◌, ◌↔◌, ◌+◌, ◌-◌, ◌==◌, ◌&&◌, ℕ, suc, true, false, length, filter, sum_by, List, [], ◌∷◌, ◌++◌, map, Bool, Option, None, Some, option_map, unwrap_or, Ok, All, AllPairs, Contains, slice_get, if◌then◌else◌}
+use Rattle.std.specs.Prelude.{◌≡◌, ◌<◌, ◌≤◌, ◌↔◌, ◌+◌, ◌-◌, ◌==◌, ◌&&◌, ℕ, suc, true, false, length, filter, sum_by, List, [], ◌∷◌, ◌++◌, map, Bool, Option, None, Some, option_map, unwrap_or, Ok, All, AllPairs, Contains, slice_get, flat_map, IsPermutation, if◌then◌else◌}
+use Rattle.std.specs.List.{range_with_len}
 use Rattle.nm_edge.specs.Keys.{IsKey}
 use Rattle.nm_edge.specs.Layouts.{Layout}
 use Rattle.nm_edge.specs.declared.edge.Side.{Side}
@@ -16,7 +17,6 @@ use Rattle.nm_model.specs.Reports.{counts, keys, tree_slots}
 use Rattle.nm_model.specs.Acts.{InSet}
 use Rattle.nm_order.specs.Totals.{Agree}
 use Rattle.nm_steps.specs.declared.view.View.{View}
-use Rattle.nm_steps.specs.Packing.{words_of}
 use Rattle.nm_model.specs.Headline.{Headline, words_after, cuts_of, freed_of, waits_of, has_after}
 use Rattle.nm_model.specs.Histories.{Called, HasHistory, call_begun}
 use Rattle.nm_steps.specs.Rules.{Extends, knowledge, joined, nobody}
@@ -29,7 +29,7 @@ use Rattle.nm_tree.specs.declared.closing.CloseReason.TheVariants as because
 use Rattle.nm_progress.specs.Pending.{NonePends}
 use Rattle.nm_tree.specs.Resigning.{merged}
 use Rattle.nm_tree.specs.Running.{AreOfWorkers, wins}
-use Rattle.nm_tree.specs.Settled.{HaveNothingPending}
+use Rattle.nm_tree.specs.Settled.{HasNothingPending}
 use Rattle.nm_tree.specs.Workers.{WorkerView, TellLedgers, waiting_in}
 
 -- the workers are all of this tree
@@ -40,31 +40,6 @@ AreAllOf b (w ∷ ws) = IsOf b w.pass × AreAllOf b ws
 -- how many workers these cover: themselves, and those that resigned to them
 abbrev pub given_in : List WorkerView → ℕ
 given_in ws = sum_by (λ (w : WorkerView). length w.queues) ws
-
--- the view of the last one after the others have joined it, beginning with the last of them
-abbrev pub all_joined : List WorkerView → View
-all_joined [] = nobody
-all_joined (w ∷ []) = w.pass.view
-all_joined (w ∷ u ∷ ws) = joined (all_joined (u ∷ ws)) w.pass.view
-
--- the view has the logs of all these workers, and has seen turns and stores of its own
-abbrev pub StandsForAll : List WorkerView → View → Type 0
-StandsForAll ws v = v ≡ record (all_joined ws) { past = v.past; stores = v.stores }
-
--- these turns extend what each of the workers had seen
-abbrev pub GoesOnFromAll : List Turn → List WorkerView → Type 0
-GoesOnFromAll turns ws = All (λ (w : WorkerView). Extends turns w.pass.view.past) ws
-
--- all queues of these workers, by ascending origin, each unchanged
-abbrev pub all_merged : List WorkerView → List HeldQueue
-all_merged [] = []
-all_merged (w ∷ []) = w.queues
-all_merged (w ∷ u ∷ ws) = merged (all_merged (u ∷ ws)) w.queues
-
--- these are the queues of worker i, of worker i + 1, and so on
-abbrev pub AreFrom : ℕ → List HeldQueue → Type 0
-AreFrom i [] = Unit {0}
-AreFrom i (h ∷ hs) = (h.origin ≡ i) × AreFrom (suc i) hs
 
 -- a place of a slot above 5 when a tree is closed: in the pool, at the end of a path from the root,
 -- or at an index of a worker's queue in the report
@@ -86,14 +61,12 @@ pub record EndsOnce (m : Memory) (hs : List HeldQueue) (x : ℕ) : Type 0 where
   pub here : EndsAt m hs x place
   pub only : (other : EndPlace) → EndsAt m hs x other → other ≡ place
 
--- The theorem for a closed tree. The turns are by the tree's workers. They lead from the words of
--- the empty tree to its words, if each turn writes what its reply implies. They have the headline,
--- and are a history of one plain set. The report's queue of each worker has the nodes that still
--- wait of those that it cut off. The report's keys are those of the plain set. No worker holds a
--- private slot
-pub record IsOfTurns (L : Layout) (turns : List Turn) (words : List ℕ) (queues : List HeldQueue)
-    (kept : List ℕ) : Type 0 where
-  pub written : words ≡ words_of L (words_after L turns)
+-- The theorem for a closed tree. The turns are by the tree's workers. They have the headline, and are
+-- a history of one plain set. The report's queue of each worker has the nodes that still wait of
+-- those that it cut off. The report's keys are those of the plain set. No worker holds a private
+-- slot
+pub record IsOfTurns (L : Layout) (turns : List Turn) (queues : List HeldQueue) (kept : List ℕ)
+    : Type 0 where
   pub workers : AreOfWorkers L turns
   pub headline : Headline L turns
   pub plain_set : HasHistory L turns
@@ -137,27 +110,25 @@ KeysAddUp turns kept = ((w : ℕ) → call_begun w turns ≡ None)
 
 -- What a caller learns from a closed tree. There are turns that extend what each worker that was
 -- given had seen, and after which it made only joins. So these turns have all answers that it got,
--- and no others. The theorem holds for these turns and the report. The report has one queue for
--- each worker of the tree, in the order of their numbers, each unchanged, and the keys in ascending
--- order. It counts the slots in the pool, and the slots reached from the root without the five
--- fixed ones. These and the waiting nodes are all nodes but the five. If the workers that were
--- given had nothing pending, no delete is pending. If no delete is pending, the links and flags
--- decide which keys the report has, and if no worker has a call, how many
+-- and no others. The theorem holds for these turns and the report. The report has the queues of the
+-- workers that were given, each unchanged: one for each worker of the tree, in the order of their
+-- numbers. Its keys are in ascending order. It counts the slots in the pool, and the slots reached
+-- from the root without the five fixed ones. These and the waiting nodes are all nodes but the five.
+-- If the workers that were given had nothing pending, no delete is pending. If no delete is pending,
+-- the links and flags decide which keys the report has, and if no worker has a call, how many
 pub record SaysClosed (b : TreeView) (ws : List WorkerView) (queues : List HeldQueue) (kept : List ℕ)
     (free reached : ℕ) : Type 0 where
-  pub words : List ℕ
   pub turns : List Turn
-  pub headline : IsOfTurns b.layout turns words queues kept
-  pub goes_on : GoesOnFromAll turns ws
+  pub headline : IsOfTurns b.layout turns queues kept
+  pub goes_on : All (λ (w : WorkerView). Extends turns w.pass.view.past) ws
   pub own : All (λ (w : WorkerView). HasJoinedAlone turns w.pass.view.past w.pass.view.number) ws
-  pub merged : queues ≡ all_merged ws
-  pub each : AreFrom 0 queues
-  pub all : length queues ≡ b.layout.workers
+  pub unchanged : IsPermutation (flat_map (λ (w : WorkerView). w.queues) ws) queues
+  pub each : map (λ (h : HeldQueue). h.origin) queues ≡ range_with_len 0 b.layout.workers
   pub ascend : AllPairs (λ j k. j < k) kept
   pub free_are : free ≡ length (filter (λ mark. mark) (words_after b.layout turns).pool)
   pub reached_are : reached ≡ length (tree_slots b.layout.nodes (words_after b.layout turns) 1) - 5
   pub sum : free + reached + waiting_in queues ≡ b.layout.nodes - 5
-  pub rested : HaveNothingPending ws → NonePends b.layout turns
+  pub rested : All HasNothingPending ws → NonePends b.layout turns
   pub totals : KeysAreTheTotals b.layout turns kept
   pub add_up : KeysAddUp turns kept
 
@@ -193,13 +164,35 @@ IsCloseReason b ws because.Attached = ⊥
 
 -- ---- for those who change this project: the run of a closed tree
 
+-- the view of the last one after the others have joined it, beginning with the last of them
+abbrev pub all_joined : List WorkerView → View
+all_joined [] = nobody
+all_joined (w ∷ []) = w.pass.view
+all_joined (w ∷ u ∷ ws) = joined (all_joined (u ∷ ws)) w.pass.view
+
+-- the view has the logs of all these workers, and has seen turns and stores of its own
+abbrev pub StandsForAll : List WorkerView → View → Type 0
+StandsForAll ws v = v ≡ record (all_joined ws) { past = v.past; stores = v.stores }
+
+-- all queues of these workers, by ascending origin, each unchanged
+abbrev pub all_merged : List WorkerView → List HeldQueue
+all_merged [] = []
+all_merged (w ∷ []) = w.queues
+all_merged (w ∷ u ∷ ws) = merged (all_merged (u ∷ ws)) w.queues
+
+-- these are the queues of worker i, of worker i + 1, and so on
+abbrev pub AreFrom : ℕ → List HeldQueue → Type 0
+AreFrom i [] = Unit {0}
+AreFrom i (h ∷ hs) = (h.origin ≡ i) × AreFrom (suc i) hs
+
 -- One view covers all workers that were given. The turns are those of a run that ends with the
 -- tree's words, and the logs of all workers are its parts. By these logs the queues have their
 -- labels and report their ledgers
 pub record IsClosed (b : TreeView) (ws : List WorkerView) (queues : List HeldQueue) (kept : List ℕ)
     (free reached : ℕ) : Type 0 where
   pub says : SaysClosed b ws queues kept free reached
-  pub ends : Ends b.layout says.words (all_joined ws)
+  pub words : List ℕ
+  pub ends : Ends b.layout words (all_joined ws)
   pub same_turns : says.turns ≡ trace_in (ordered b.layout) ends.turns
   pub held : AreHeld (knowledge (all_joined ws)) queues
   pub told : TellLedgers (all_joined ws) queues

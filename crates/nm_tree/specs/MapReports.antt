@@ -1,9 +1,10 @@
 -- The close of a map: the value under each key that is left, and the values that wait.
-use Rattle.std.specs.Prelude.{◌≡◌, ◌-◌, ◌≤◌, ◌&&◌, ℕ, zero, suc, nat_lt, Bool, true, false, List, [], ◌∷◌, length, map, slice_get, slice_index, All, Option, None}
+use Rattle.std.specs.Prelude.{◌≡◌, ◌-◌, ◌≤◌, ◌&&◌, ℕ, zero, suc, nat_lt, Bool, true, false, List, [], ◌∷◌, ◌++◌, length, map, slice_get, slice_index, All, Contains, Option, None, Some}
 use Rattle.nm_edge.specs.Layouts.{Layout}
 use Rattle.nm_edge.specs.Words.{IsSlot, at_edge, word, words as all_words}
 use Rattle.nm_edge.specs.declared.edge.Side.TheVariants.{Left}
 use Rattle.nm_model.specs.declared.trace.Turn.{Turn}
+use Rattle.nm_model.specs.Headline.{nodes_cut_of, words_after}
 use Rattle.nm_model.specs.Memory.{Memory, is_leaf, node}
 use Rattle.nm_model.specs.Paths.{Reached}
 use Rattle.nm_steps.specs.declared.view.Stored.{Stored}
@@ -11,8 +12,7 @@ use Rattle.nm_steps.specs.Rules.{ExtendsStores}
 use Rattle.nm_steps.specs.Steps.{EndedWords, TreeView}
 use Rattle.nm_epoch.specs.declared.collecting.Entry.{Entry}
 use Rattle.nm_epoch.specs.declared.collecting.HeldQueue.{HeldQueue}
-use Rattle.nm_calls.specs.HandedBack.{WasCutInner, WasCutWith}
-use Rattle.nm_calls.specs.Maps.{HoldsStores, IsInMap}
+use Rattle.nm_calls.specs.Maps.{HoldsStores, IsInMap, value_at}
 use Rattle.nm_tree.specs.Closing.{SaysClosed}
 use Rattle.nm_tree.specs.Workers.{WorkerView}
 
@@ -45,55 +45,46 @@ abbrev pub is_bare_in : Layout → List ℕ → ℕ → Bool
 is_bare_in L core x = nat_lt (slice_index core (word L (at_edge x Left))) 4
 
 -- what clauses see of the values of a closed map: the value under each key, in the order of the
--- keys, the value of each slot, from 1 on, and the other words of the tree, with its sizes
+-- keys, the value of each slot, from 1 on, and whether a slot is bare: its left edge leads to no node
 pub record MapValuesView : Type 0 where
   pub keyed : List ℕ
   pub slots : List ℕ
-  pub core : List ℕ
-  pub layout : Layout
+  pub bare : ℕ → Bool
 
--- `bare_of`, `is_leaf_at`: whether the left edge of a slot leads to no node; and whether there is such a
--- slot too
-abbrev pub bare_of : MapValuesView → ℕ → Bool
-bare_of v x = is_bare_in v.layout v.core x
-
+-- there is such a slot, and it is bare
 abbrev pub is_leaf_at : MapValuesView → ℕ → Bool
 is_leaf_at v zero = false
-is_leaf_at v (suc x) = nat_lt x (length v.slots) && bare_of v (suc x)
+is_leaf_at v (suc x) = nat_lt x (length v.slots) && v.bare (suc x)
 
 -- ---- what a closed map says
 
--- after these turns the map has each of these keys with the value at its place
-abbrev pub AreInMap : Layout → List Turn → List Stored → List ℕ → List ℕ → Type 0
-AreInMap L turns stores [] [] = Unit {0}
-AreInMap L turns stores (k ∷ ks) (v ∷ vs) =
-    IsInMap L turns stores k v × AreInMap L turns stores ks vs
-AreInMap L turns stores _ _ = ⊥
-
--- these stores extend what each of the workers had seen of stores
-abbrev pub StoresGoOnFromAll : List Stored → List WorkerView → Type 0
-StoresGoOnFromAll stores ws = All (λ (w : WorkerView). ExtendsStores stores w.pass.view.stores) ws
-
--- the node waits: it was cut off. If its slot is bare, it was a leaf then, and its slot has the value
--- that it had right before the cut. If not, it was no leaf
+-- The node waits: one of these turns cut it off, and its slot is none of the fixed ones. Right before
+-- that turn the slot was that of a leaf exactly if it is bare now. If it is, it has the value that was
+-- stored last for it before that turn
 pub record Waits (L : Layout) (turns : List Turn) (stores : List Stored) (slots : List ℕ) (bare : ℕ → Bool)
     (e : Entry) : Type 0 where
-  pub slot : IsSlot L e.node.slot
-  pub leaf : bare e.node.slot ≡ true
-      → WasCutWith L turns stores e.node (value_in slots e.node.slot)
-  pub inner : bare e.node.slot ≡ false → WasCutInner L turns e.node
+  pub before : List Turn
+  pub cut : Turn
+  pub since : List Turn
+  pub are : turns ≡ before ++ cut ∷ since
+  pub cuts : Contains (nodes_cut_of cut.outcome) e.node
+  pub slot : (6 ≤ e.node.slot) × (e.node.slot ≤ L.nodes)
+  pub leaf : is_leaf (node (words_after L before) e.node.slot) ≡ bare e.node.slot
+  pub value : bare e.node.slot ≡ true
+      → slice_get slots (e.node.slot - 1) ≡ Some (value_at (length before) stores e.node.slot)
 
 -- The values of a closed map, by all stores of its run. These extend what each worker that was given
--- had seen of stores. Each key of the report is in the map with the value at its place. Each slot has
--- a value. That of a leaf which waits is the one that the leaf had right before it was cut off. A node
--- that waits is a leaf if its slot is bare
+-- had seen of stores. There is a value for each key of the report, and the map has each key with the
+-- value at its place. Each slot has a value. That of a leaf which waits is the one that the leaf had
+-- right before it was cut off. A node that waits is a leaf if its slot is bare
 pub record LeavesValues (L : Layout) (ws : List WorkerView) (turns : List Turn)
     (queues : List HeldQueue) (kept keyed slots : List ℕ) (bare : ℕ → Bool) : Type 0 where
   pub stores : List Stored
-  pub go_on : StoresGoOnFromAll stores ws
+  pub go_on : All (λ (w : WorkerView). ExtendsStores stores w.pass.view.stores) ws
   pub holds : HoldsStores L turns turns stores
   pub long : length slots ≡ L.nodes
-  pub each : AreInMap L turns stores kept keyed
+  pub as_many : length keyed ≡ length kept
+  pub each : (i k v : ℕ) → slice_get kept i ≡ Some k → slice_get keyed i ≡ Some v → IsInMap L turns stores k v
   pub waiting : All (λ h. All (Waits L turns stores slots bare) h.queue.items) queues
 
 -- what the end of a map leaves, with the slot of the leaf of each key, its words, and its sizes

@@ -21,10 +21,6 @@ abbrev pub HasNothingPending : WorkerView → Type 0
 HasNothingPending w =
     TellNoFlag (record { number = w.pass.view.number; log = w.pass.view.log } ∷ w.pass.view.others)
 
--- no delete of any of these workers is pending, nor of those that resigned to them
-abbrev pub HaveNothingPending : List WorkerView → Type 0
-HaveNothingPending ws = All HasNothingPending ws
-
 -- a worker with nothing pending that takes over from another one with nothing pending has nothing
 -- pending
 abbrev pub HeirsHaveNothingPending : Type 0

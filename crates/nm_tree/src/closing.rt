@@ -1,13 +1,14 @@
 //! The close of a tree.
 ghost use Rattle.std.specs.Prelude.{◌≡◌, ◌<◌, ◌≤◌, [], All, length, min, vec_capacity, IfOk, IfErr};
+ghost use Rattle.nm_steps.specs.Rules.{Extends, ExtendsStores};
 ghost use Rattle.nm_steps.specs.Steps.{HasSeen, IsOf};
 ghost use Rattle.nm_steps.specs.Values.{HasValues};
 ghost use Rattle.nm_order.specs.History.{RunHasHistory};
 ghost use Rattle.nm_order.specs.LoggedTotals.{TotalsAreInTheLogs};
 ghost use Rattle.nm_order.specs.Totals.{TotalsAgree};
-ghost use Rattle.nm_tree.specs.Closing.{AllWereGiven, AreAllOf, EachReportIsACores, EachSlotEndsOnce, GoesOnFromAll, IsClosed, IsCloseReason, SaysClosed};
+ghost use Rattle.nm_tree.specs.Closing.{AllWereGiven, AreAllOf, EachReportIsACores, EachSlotEndsOnce, IsClosed, IsCloseReason, SaysClosed};
 ghost use Rattle.nm_tree.specs.Closing.{OfEachClosed, OfEachClosedRun, QueuesAreTheRest, StandsForAll, all_merged, given_in};
-ghost use Rattle.nm_tree.specs.MapReports.{EndsMap, StoresGoOnFromAll};
+ghost use Rattle.nm_tree.specs.MapReports.{EndsMap};
 ghost use Rattle.nm_tree.specs.Once.{EachReachedNodeEndsOnce, EachStoredValueEndsOnce};
 ghost use Rattle.nm_tree.specs.Workers.{WorkerView};
 
@@ -237,8 +238,10 @@ fn unite_all(shared: &Shared, mut workers: Vec<Worker>, room: Vec<HeldQueue>) ->
     requires room { shared.now.layout.workers ≤ vec_capacity room }
     ensures own { IsOf shared.now result.pass }
     ensures joined { StandsForAll workers.items result.pass.view }
-    ensures seen { GoesOnFromAll result.pass.view.past workers.items }
-    ensures stores { StoresGoOnFromAll result.pass.view.stores workers.items }
+    ensures seen { All (λ (w : WorkerView). Extends result.pass.view.past w.pass.view.past)
+        workers.items }
+    ensures stores { All (λ (w : WorkerView). ExtendsStores result.pass.view.stores
+        w.pass.view.stores) workers.items }
     ensures runs { All (λ (w : WorkerView). HasSeen w.pass.view) workers.items }
     ensures queues { result.queues ≡ all_merged workers.items }
 {

@@ -2,7 +2,7 @@
 ghost use Rattle.nm_shared.specs.Sharing.{IsCallerOf};
 
 use nm_edge::Key;
-use nm_set::{Keys, Options};
+use nm_set::{CallFault, Keys, Options, Query};
 use nm_shared::{Caller, SharedMap, SharedSet};
 use std::process::Abort;
 use std::test::Fail;
@@ -62,6 +62,37 @@ fn a_caller_of_a_map_needs_no_member(rt: HostRuntime) -> Result<(), Fail> {
         panic!(rt; "the worker was borrowed")
     };
     assert_eq!(rt; (reclaimed.handed.values, out[0], out[1]), (2, 50, 90));
+    Ok(())
+}
+
+/// One caller of a map gets the values of several keys by one call.
+#[test]
+fn a_caller_of_a_map_gets_several_values(rt: HostRuntime) -> Result<(), Fail> {
+    let map = SharedMap::new(rt.alloc(), 64, 1)?;
+    let options = Options::default();
+    let mut found = 0;
+    let (caller, told) = map.insert(map.caller(), key(&rt, 5), 50, &mut found, &options);
+    assert_eq!(rt; told, Some(Ok(true)));
+    let (caller, told) = map.insert(caller, key(&rt, 9), 90, &mut found, &options);
+    assert_eq!(rt; told, Some(Ok(true)));
+    let mut queries = [
+        Query::new(key(&rt, 9)),
+        Query::new(key(&rt, 7)),
+        Query::new(key(&rt, 5)),
+    ];
+    let (caller, told) = map.get_many(caller, &mut queries, &options);
+    assert_eq!(rt; told, Some(Ok(())));
+    assert_eq!(rt; (queries[0].found, queries[0].value), (true, 90));
+    assert_eq!(rt; queries[1].found, false);
+    assert_eq!(rt; (queries[2].found, queries[2].value), (true, 50));
+    let none = Options {
+        tries: 0,
+        ..options
+    };
+    let (caller, told) = map.get_many(caller, &mut queries, &none);
+    assert_eq!(rt; told, Some(Err(CallFault::Busy)));
+    let (_, told) = map.get(caller, key(&rt, 9), &options);
+    assert_eq!(rt; told, Some(Ok(Some(90))));
     Ok(())
 }
 

@@ -6,10 +6,10 @@ use Rattle.nm_tree.specs.Ended.{IsEndOf, end_of}
 use Rattle.nm_steps.specs.Steps.{TreeView, Ends}
 use Rattle.nm_steps.specs.Values.{EndsWithValues, HasValues}
 use Rattle.nm_steps.specs.declared.view.View.{View}
-use Rattle.nm_tree.specs.Closing.{GoesOnFromAll, StandsForAll}
-use Rattle.nm_tree.specs.MapReports.{AreLeavesOf, StoresGoOnFromAll}
+use Rattle.nm_tree.specs.Closing.{StandsForAll}
+use Rattle.nm_tree.specs.MapReports.{AreLeavesOf}
 use Rattle.nm_tree.specs.Workers.{WorkerView}
-use Rattle.nm_tree.proofs.Closed.{closed}
+use Rattle.nm_tree.proofs.Closed.{GoesOnFromAll, StoresGoOnFromAll, closed}
 use Rattle.nm_tree.proofs.ClosedMaps.{ends_map}
 use Rattle.nm_tree.proofs.closing.close_all.Goals as goal
 

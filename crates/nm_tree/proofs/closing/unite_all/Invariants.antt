@@ -2,8 +2,8 @@ use Rattle.std.proofs.Common.{◌≡◌, ◌++◌, ◌∷◌, List, length}
 use Rattle.std.specs.Prelude.{All}
 use Rattle.nm_steps.specs.Steps.{HasSeen, IsOf}
 use Rattle.nm_tree.specs.Workers.{WorkerView}
-use Rattle.nm_tree.specs.Closing.{AreAllOf, GoesOnFromAll, StandsForAll, all_merged}
-use Rattle.nm_tree.specs.MapReports.{StoresGoOnFromAll}
+use Rattle.nm_tree.specs.Closing.{AreAllOf, StandsForAll, all_merged}
+use Rattle.nm_tree.proofs.Closed.{GoesOnFromAll, StoresGoOnFromAll}
 use Rattle.nm_tree.proofs.closing.unite_all.Given as goal
 
 abbrev pub invariant-loop-leaver : goal.invariant-loop-leaver

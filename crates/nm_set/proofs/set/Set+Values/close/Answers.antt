@@ -1,5 +1,4 @@
 use Rattle.nm_set.proofs.SetEnds.{map_said_ended}
-use Rattle.nm_tree.specs.MapReports.{is_bare_in}
 use Rattle.nm_set.proofs.set.Set+Values.close.Goals as goal
 
 pub into_map_report-requires-clause-all : goal.into_map_report-requires-clause-all
@@ -14,6 +13,5 @@ into_map_report-requires-clause-within c = (c.in-Ok.ensures.values c.know_values
 pub returns-in-Ok-clause-says : goal.returns-in-Ok-clause-says
 returns-in-Ok-clause-says c =
     map_said_ended c.args.self c.in-Ok.ended c.into_map_report.result c.into_map_report.ensures.report
-    c.into_map_report.ensures.keyed c.into_map_report.ensures.slots
-    (λ i. is_bare_in (c.into_map_report.ensures.layout_is i) (c.into_map_report.ensures.words_are i))
+    c.into_map_report.ensures.keyed c.into_map_report.ensures.slots c.into_map_report.ensures.bare
     (c.in-Ok.ensures.values c.know_values.ensures.values)
