@@ -1,5 +1,30 @@
 -- What the members of a closed set have put in is what they have taken away and what is left.
-use Rattle.std.proofs.Common.{◌≡◌, ◌∙◌, ◌⊎◌, inl, inr, ℕ, suc, ◌+◌, ◌<◌, ◌≤◌, Bool, true, false, List, [], ◌∷◌, ◌++◌, length, length-append, refl, sym, ap, subst, arith}
+use Rattle.std.proofs.Common.{
+  ◌≡◌,
+  ◌∙◌,
+  ◌⊎◌,
+  inl,
+  inr,
+  ℕ,
+  suc,
+  ◌+◌,
+  ◌<◌,
+  ◌≤◌,
+  Bool,
+  true,
+  false,
+  List,
+  [],
+  ◌∷◌,
+  ◌++◌,
+  length,
+  length-append,
+  refl,
+  sym,
+  ap,
+  subst,
+  arith,
+}
 use Rattle.std.specs.Prelude.{All, Option, Some, None, Ok, filter, sum_by}
 use Rattle.std.proofs.lemmas.Bool.{cases_lt}
 use Rattle.std.proofs.lemmas.List.Elements.{All-head, All-tail, filter-append}
@@ -31,7 +56,8 @@ use Rattle.nm_callers.proofs.Unmade.{no_call_then, who_calls}
 -- each worker of the tree from number k on, in their order, has nothing pending
 abbrev pub Settled : Layout → ℕ → List WorkerView → Type 0
 Settled L k [] = k ≡ L.workers
-Settled L k (w ∷ ws) = (w.pass.view.number ≡ k) × (w.pending ≡ None) × IsIdle w × HasSeenTurns w.pass.view × Settled L (suc k) ws
+Settled L k (w ∷ ws) = (w.pass.view.number ≡ k) × (w.pending ≡ None) × IsIdle w × HasSeenTurns w.pass.view
+    × Settled L (suc k) ws
 
 not_below : (L : Layout) (k : ℕ) (ws : List WorkerView) → Settled L k ws → k ≤ L.workers
 not_below L k [] is = omega (arith, is)
@@ -39,35 +65,55 @@ not_below L k (w ∷ ws) is = let rest = not_below L (suc k) ws is.4 in omega (a
 
 -- ---- what each worker has won
 
-module _ (is_such : Entry → Bool) (no_join : (v : ℕ) (r : Reply) → is_such (Join v, r) ≡ false) (L : Layout) (turns : List Turn) where
+module _ (is_such : Entry → Bool) (no_join : (v : ℕ) (r : Reply) → is_such (Join v, r) ≡ false) (L : Layout)
+    (turns : List Turn) where
   -- is counted in the turns
-  won_in_all : (w : WorkerView) → HasSeenTurns w.pass.view → Extends turns w.pass.view.past → HasJoinedAlone turns w.pass.view.past w.pass.view.number → own_many is_such no_join w.pass.view.number turns ≡ length (filter is_such w.pass.view.log)
+  won_in_all : (w : WorkerView) → HasSeenTurns w.pass.view → Extends turns w.pass.view.past
+      → HasJoinedAlone turns w.pass.view.past w.pass.view.number
+      → own_many is_such no_join w.pass.view.number turns ≡ length (filter is_such w.pass.view.log)
   won_in_all w seen on joins =
       let v = w.pass.view.number in
       let parts = ap (part_of v) on.is ∙ part-append v w.pass.view.past on.more in
       let counts = ap (λ (es : List Entry). length (filter is_such es)) parts
-      ∙ (ap (λ (es : List Entry). length es) (filter-append is_such (part_of v w.pass.view.past) (part_of v on.more)) ∙ length-append (filter is_such (part_of v w.pass.view.past)) (filter is_such (part_of v on.more))) in
+      ∙ (ap (λ (es : List Entry). length es) (filter-append is_such (part_of v w.pass.view.past) (part_of v on.more))
+      ∙ length-append (filter is_such (part_of v w.pass.view.past)) (filter is_such (part_of v on.more))) in
       let own = ap (λ (es : List Entry). length (filter is_such es)) seen.own in
-      let none = none_joined is_such no_join v on.more (λ t r there mine told. joins on.more t r on.is (in_contained on.more t there) mine told) in
+      let none = none_joined is_such no_join v on.more
+      (λ t r there mine told. joins on.more t r on.is (in_contained on.more t there) mine told) in
       omega (arith, counts, own, none)
 
   -- the sum
-  sum_is : (k : ℕ) (ws rest : List WorkerView) → Settled L k ws → All (λ (w : WorkerView). Extends turns w.pass.view.past) (ws ++ rest) → All (λ (w : WorkerView). HasJoinedAlone turns w.pass.view.past w.pass.view.number) (ws ++ rest)
-      → sum_of (λ v. own_many is_such no_join v turns) k + sum_by (λ (w : WorkerView). length (filter is_such w.pass.view.log)) ws ≡ sum_of (λ v. own_many is_such no_join v turns) L.workers
-  sum_is k [] rest is on joins = let same = ap (λ (n : ℕ). sum_of (λ v. own_many is_such no_join v turns) n) is in omega (arith, same)
+  sum_is : (k : ℕ) (ws rest : List WorkerView) → Settled L k ws
+      → All (λ (w : WorkerView). Extends turns w.pass.view.past) (ws ++ rest)
+      → All (λ (w : WorkerView). HasJoinedAlone turns w.pass.view.past w.pass.view.number) (ws ++ rest)
+      → sum_of (λ v. own_many is_such no_join v turns) k
+      + sum_by (λ (w : WorkerView). length (filter is_such w.pass.view.log)) ws
+      ≡ sum_of (λ v. own_many is_such no_join v turns) L.workers
+  sum_is k [] rest is on joins = let same = ap (λ (n : ℕ). sum_of (λ v. own_many is_such no_join v turns) n) is in
+      omega (arith, same)
   sum_is k (w ∷ ws) rest is on joins =
-      let here = won_in_all w is.3 (All-head (λ (w : WorkerView). Extends turns w.pass.view.past) w (ws ++ rest) on) (All-head (λ (w : WorkerView). HasJoinedAlone turns w.pass.view.past w.pass.view.number) w (ws ++ rest) joins) in
-      let at : own_many is_such no_join k turns ≡ length (filter is_such w.pass.view.log) = subst (λ (v : ℕ). own_many is_such no_join v turns ≡ length (filter is_such w.pass.view.log)) is.0 here in
-      let more = sum_is (suc k) ws rest is.4 (All-tail (λ (w : WorkerView). Extends turns w.pass.view.past) w (ws ++ rest) on) (All-tail (λ (w : WorkerView). HasJoinedAlone turns w.pass.view.past w.pass.view.number) w (ws ++ rest) joins) in
+      let here = won_in_all w is.3 (All-head (λ (w : WorkerView). Extends turns w.pass.view.past) w (ws ++ rest) on)
+      (All-head (λ (w : WorkerView). HasJoinedAlone turns w.pass.view.past w.pass.view.number) w (ws ++ rest)
+      joins) in
+      let at : own_many is_such no_join k turns ≡ length (filter is_such w.pass.view.log) = subst
+      (λ (v : ℕ). own_many is_such no_join v turns ≡ length (filter is_such w.pass.view.log)) is.0 here in
+      let more = sum_is (suc k) ws rest is.4 (All-tail (λ (w : WorkerView). Extends turns w.pass.view.past) w
+      (ws ++ rest) on) (All-tail (λ (w : WorkerView). HasJoinedAlone turns w.pass.view.past w.pass.view.number)
+      w (ws ++ rest) joins) in
       let first = sum_by-cons (λ (w : WorkerView). length (filter is_such w.pass.view.log)) w ws in
       omega (arith, at, more, first)
 
 -- ---- who has no call
 
-rests : (L : Layout) (turns : List Turn) (k : ℕ) (ws rest : List WorkerView) → Settled L k ws → All (λ (w : WorkerView). Extends turns w.pass.view.past) (ws ++ rest) → All (λ (w : WorkerView). HasJoinedAlone turns w.pass.view.past w.pass.view.number) (ws ++ rest)
+rests : (L : Layout) (turns : List Turn) (k : ℕ) (ws rest : List WorkerView) → Settled L k ws
+    → All (λ (w : WorkerView). Extends turns w.pass.view.past) (ws ++ rest)
+    → All (λ (w : WorkerView). HasJoinedAlone turns w.pass.view.past w.pass.view.number) (ws ++ rest)
     → (v : ℕ) → k ≤ v → v < L.workers → call_begun v turns ≡ None
 rests L turns k [] rest is on joins v low high = absurd (omega (arith, is, low, high))
-rests L turns k (w ∷ ws) rest is on joins v low high = by (cases_lt k v) (rests L turns (suc k) ws rest is.4 (All-tail (λ (w : WorkerView). Extends turns w.pass.view.past) w (ws ++ rest) on) (All-tail (λ (w : WorkerView). HasJoinedAlone turns w.pass.view.past w.pass.view.number) w (ws ++ rest) joins) v)
+rests L turns k (w ∷ ws) rest is on joins v low high = by (cases_lt k v)
+    (rests L turns (suc k) ws rest is.4 (All-tail (λ (w : WorkerView). Extends turns w.pass.view.past) w (ws ++ rest)
+    on) (All-tail (λ (w : WorkerView). HasJoinedAlone turns w.pass.view.past w.pass.view.number) w (ws ++ rest)
+    joins) v)
   where
     g : Extends turns w.pass.view.past
     g = All-head (λ (w : WorkerView). Extends turns w.pass.view.past) w (ws ++ rest) on
@@ -76,7 +122,8 @@ rests L turns k (w ∷ ws) rest is on joins v low high = by (cases_lt k v) (rest
     j = All-head (λ (w : WorkerView). HasJoinedAlone turns w.pass.view.past w.pass.view.number) w (ws ++ rest) joins
 
     here : call_begun w.pass.view.number turns ≡ None
-    here = ap (call_begun w.pass.view.number) g.is ∙ no_call_then w.pass.view.number w.pass.view.past g.more (is.2 is.1) (λ t r there mine told. j g.more t r g.is (in_contained g.more t there) mine told)
+    here = ap (call_begun w.pass.view.number) g.is ∙ no_call_then w.pass.view.number w.pass.view.past g.more
+        (is.2 is.1) (λ t r there mine told. j g.more t r g.is (in_contained g.more t there) mine told)
 
     by : (k < v) ⊎ (v ≤ k) → (suc k ≤ v → v < L.workers → call_begun v turns ≡ None) → call_begun v turns ≡ None
     by (inl less) later = later (omega (arith, less)) high

@@ -16,7 +16,9 @@ pub unpin_sees : (z y : WorkerView) (r : Result (Unit {0}) NotPinned) → AskedT
 unpin_sees z y (Ok u) asked = asked.1.past
 unpin_sees z y (Err f) asked = subst (λ (x : WorkerView). HasSeenAllOf x.pass z.pass) (sym asked.1) (seen_itself z.pass)
 
-pub reads : (L : Layout) (k : ℕ) (w z y : WorkerView) (objects : List ℕ) (found : Result (Option ℕ) PinnedGetFault) (o : Option ℕ) → o ≡ object_at objects found → SaysPinnedGet L k w z found → HasSeenAllOf y.pass z.pass → IfSome o (ReadsObject y objects k)
+pub reads : (L : Layout) (k : ℕ) (w z y : WorkerView) (objects : List ℕ) (found : Result (Option ℕ) PinnedGetFault)
+    (o : Option ℕ) → o ≡ object_at objects found → SaysPinnedGet L k w z found → HasSeenAllOf y.pass z.pass
+    → IfSome o (ReadsObject y objects k)
 reads L k w z y objects (Ok (Some i)) o is says later = by (slice_get objects i) refl is
   where
     by : (x : Option ℕ) → slice_get objects i ≡ x → o ≡ x → IfSome o (ReadsObject y objects k)
@@ -24,5 +26,7 @@ reads L k w z y objects (Ok (Some i)) o is says later = by (slice_get objects i)
     by (Some x) at same =
         subst (λ (p : Option ℕ). IfSome p (ReadsObject y objects k)) (sym same)
         (record { asked = w.pass; at = z.pass; later = later; number = i; gave = says.moment; is = at })
-reads L k w z y objects (Ok None) o is says later = subst (λ (p : Option ℕ). IfSome p (ReadsObject y objects k)) (sym is) tt
-reads L k w z y objects (Err f) o is says later = subst (λ (p : Option ℕ). IfSome p (ReadsObject y objects k)) (sym is) tt
+reads L k w z y objects (Ok None) o is says later = subst (λ (p : Option ℕ). IfSome p (ReadsObject y objects k))
+    (sym is) tt
+reads L k w z y objects (Err f) o is says later = subst (λ (p : Option ℕ). IfSome p (ReadsObject y objects k))
+    (sym is) tt

@@ -37,7 +37,8 @@ changes_more n ns old new rest i = elim (rest i) [
   | inr there ↦ inr (Contains-append_right (n ∷ []) ns i there)
 ]
 
-pub resets_more : (n : ℕ) (ns old new : List ℕ) → ChangesOnly ns (set old n 0) new → AreReset ns new → AreReset (n ∷ ns) new
+pub resets_more : (n : ℕ) (ns old new : List ℕ) → ChangesOnly ns (set old n 0) new → AreReset ns new
+    → AreReset (n ∷ ns) new
 resets_more n ns old new rest reset i there = elim (Contains-append_cases (n ∷ []) ns i there) [
   | inl here ↦ elim (rest i) [
     | inl same ↦ same ∙ (ap (λ (k : ℕ). get_or (set old n 0) k 0) (only_first n i here) ∙ reads_reset old n)
@@ -53,7 +54,8 @@ pub resets_nothing : (xs : List ℕ) → AreReset [] xs
 resets_nothing xs i (k, below, at) = absurd (omega (arith, below))
 
 -- where each of these numbers has come back
-pub resets_returned : (v : View) (ns old new : List ℕ) → ((i : ℕ) → Contains ns i → HasComeBack v i) → ChangesOnly ns old new → ResetsOnlyReturned v old new
+pub resets_returned : (v : View) (ns old new : List ℕ) → ((i : ℕ) → Contains ns i → HasComeBack v i)
+    → ChangesOnly ns old new → ResetsOnlyReturned v old new
 resets_returned v ns old new back only i = elim (only i) [
   | inl same ↦ inl same
   | inr there ↦ inr (back i there)

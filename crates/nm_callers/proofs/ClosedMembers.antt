@@ -20,20 +20,26 @@ let_go_table : (w z : WorkerView) → IsLetGo w z → z.pass.table ≡ w.pass.ta
 let_go_table w z (inl (free, is)) = ap (λ (v : WorkerView). v.pass.table) is
 let_go_table w z (inr (held, left)) = ap (λ (p : PassView). p.table) left.step
 
-pub closed_seen : (w : WorkerView) (r : ReturnedView) → (z : WorkerView) × IsLetGo w z × IsReturned z r → (later : List Turn) → Extends later r.note.past → Extends later w.pass.view.past
-closed_seen w r (z, gone, there) later heard = goes_on_through later z.pass.view.past w.pass.view.past (subst (Extends later) (ap (λ (n : Notice). n.past) there.note) heard) (let_go_seen w z gone).goes_on
+pub closed_seen : (w : WorkerView) (r : ReturnedView) → (z : WorkerView) × IsLetGo w z × IsReturned z r
+    → (later : List Turn) → Extends later r.note.past → Extends later w.pass.view.past
+closed_seen w r (z, gone, there) later heard = goes_on_through later z.pass.view.past w.pass.view.past
+    (subst (Extends later) (ap (λ (n : Notice). n.past) there.note) heard) (let_go_seen w z gone).goes_on
 
-pub closed_table : (w : WorkerView) (r : ReturnedView) → (z : WorkerView) × IsLetGo w z × IsReturned z r → r.note.table ≡ w.pass.table
+pub closed_table : (w : WorkerView) (r : ReturnedView) → (z : WorkerView) × IsLetGo w z × IsReturned z r
+    → r.note.table ≡ w.pass.table
 closed_table w r (z, gone, there) = ap (λ (n : Notice). n.table) there.note ∙ let_go_table w z gone
 
 -- the worker that is taken again is the one that was returned
 same_worker : (x y : WorkerView) → Some x ≡ Some y → x ≡ y
 same_worker x y e = cc
 
-pub came_back : (w y : WorkerView) (r : ReturnedView) → (z : WorkerView) × IsLetGo w z × IsReturned z r → r.worker ≡ Some y → HasSeenAllOf y.pass w.pass
-came_back w y r (z, gone, there) is = subst (λ (v : WorkerView). HasSeenAllOf v.pass w.pass) (same_worker z y (sym there.worker ∙ is)) (let_go_seen w z gone)
+pub came_back : (w y : WorkerView) (r : ReturnedView) → (z : WorkerView) × IsLetGo w z × IsReturned z r
+    → r.worker ≡ Some y → HasSeenAllOf y.pass w.pass
+came_back w y r (z, gone, there) is = subst (λ (v : WorkerView). HasSeenAllOf v.pass w.pass)
+    (same_worker z y (sym there.worker ∙ is)) (let_go_seen w z gone)
 
 -- and is unchanged, if its caller did not hold it
-pub came_back_same : (w y : WorkerView) (r : ReturnedView) → w.held ≡ None → (z : WorkerView) × IsLetGo w z × IsReturned z r → r.worker ≡ Some y → y ≡ w
+pub came_back_same : (w y : WorkerView) (r : ReturnedView) → w.held ≡ None
+    → (z : WorkerView) × IsLetGo w z × IsReturned z r → r.worker ≡ Some y → y ≡ w
 came_back_same w y r free (z, inl (_, same), there) is = sym (same_worker z y (sym there.worker ∙ is)) ∙ same
 came_back_same w y r free (z, inr (held, left), there) is = absurd (true≢false (sym (subst IsSome free held)))

@@ -1,5 +1,33 @@
 -- Where a slot stays free, a call does not find each slot taken; so what is not answered lacks room.
-use Rattle.std.proofs.Common.{◌≡◌, ◌∙◌, ◌⊎◌, inl, inr, ◌<◌, ◌≤◌, ◌+◌, ℕ, zero, suc, Bool, true, false, true≢false, List, [], ◌∷◌, ◌++◌, append_assoc, length, length-append, refl, sym, ap, subst, arith}
+use Rattle.std.proofs.Common.{
+  ◌≡◌,
+  ◌∙◌,
+  ◌⊎◌,
+  inl,
+  inr,
+  ◌<◌,
+  ◌≤◌,
+  ◌+◌,
+  ℕ,
+  zero,
+  suc,
+  Bool,
+  true,
+  false,
+  true≢false,
+  List,
+  [],
+  ◌∷◌,
+  ◌++◌,
+  append_assoc,
+  length,
+  length-append,
+  refl,
+  sym,
+  ap,
+  subst,
+  arith,
+}
 use Rattle.std.specs.Prelude.{Contains, None, Result, Ok, Err}
 use Rattle.nm_edge.specs.Layouts.{Layout, IsLayout}
 use Rattle.nm_model.specs.declared.event.Event.{Event}
@@ -39,7 +67,8 @@ record SplitAt (ts : List Turn) (t : Turn) : Type 0 where
 split_at : (ts : List Turn) (t : Turn) → Contains ts t → SplitAt ts t
 split_at [] t (i, below, at) = absurd (omega (arith, below))
 split_at (x ∷ ts) t (zero, below, at) = record { before = []; rest = ts; are = ap (λ (y : Turn). y ∷ ts) at }
-split_at (x ∷ ts) t (suc i, below, at) = let r = split_at ts t (i, omega (arith, below), at) in record { before = x ∷ r.before; rest = r.rest; are = ap (λ (l : List Turn). x ∷ l) r.are }
+split_at (x ∷ ts) t (suc i, below, at) = let r = split_at ts t (i, omega (arith, below), at) in
+    record { before = x ∷ r.before; rest = r.rest; are = ap (λ (l : List Turn). x ∷ l) r.are }
 
 module _ (p q : PassView) (seen : HasSeen q.view) (fits : IsLayout q.view.layout) where
   abbrev L : Layout
@@ -56,11 +85,14 @@ module _ (p q : PassView) (seen : HasSeen q.view) (fits : IsLayout q.view.layout
     later : length p.view.past ≤ length so_far
     stands : TellsWhatStands (words_after L so_far) w e r
 
-  stood : (turns : List Turn) → q.view.past ≡ p.view.past ++ turns → (w : ℕ) (e : Event) (r : Reply) → HasMade w turns e r → Stood w e r
+  stood : (turns : List Turn) → q.view.past ≡ p.view.past ++ turns → (w : ℕ) (e : Event) (r : Reply)
+      → HasMade w turns e r → Stood w e r
   stood turns is w e r made =
       let t : Turn = record { worker = w; event = e; outcome = Ok r } in
       let at = split_at turns t made in
-      let whole : q.view.past ≡ (p.view.past ++ at.before) ++ t ∷ at.rest = is ∙ (ap (λ (l : List Turn). p.view.past ++ l) at.are ∙ sym (append_assoc p.view.past at.before (t ∷ at.rest))) in
+      let whole : q.view.past ≡ (p.view.past ++ at.before) ++ t ∷ at.rest = is
+      ∙ (ap (λ (l : List Turn). p.view.past ++ l) at.are
+      ∙ sym (append_assoc p.view.past at.before (t ∷ at.rest))) in
       record {
         so_far = p.view.past ++ at.before;
         rest = t ∷ at.rest;
@@ -72,13 +104,17 @@ module _ (p q : PassView) (seen : HasSeen q.view) (fits : IsLayout q.view.layout
   pub found_one : StaysFree p q → FoundNoSlot p q → ⊥
   found_one free (turns, is, finds) = by (finds free.slot free.low free.within)
     where
-      by : HasMade q.view.number turns (Claim free.slot) Taken ⊎ HasMade q.view.number turns (Look free.slot Birth) (BirthIs last_number) → ⊥
-      by (inl made) = let s = stood turns is q.view.number (Claim free.slot) Taken made in true≢false (sym (free.pooled s.so_far s.rest s.are s.later) ∙ s.stands)
-      by (inr made) = let s = stood turns is q.view.number (Look free.slot Birth) (BirthIs last_number) made in free.births s.so_far s.rest s.are s.later (same_birth (node (words_after L s.so_far) free.slot).birth s.stands)
+      by : HasMade q.view.number turns (Claim free.slot) Taken
+          ⊎ HasMade q.view.number turns (Look free.slot Birth) (BirthIs last_number) → ⊥
+      by (inl made) = let s = stood turns is q.view.number (Claim free.slot) Taken made in
+          true≢false (sym (free.pooled s.so_far s.rest s.are s.later) ∙ s.stands)
+      by (inr made) = let s = stood turns is q.view.number (Look free.slot Birth) (BirthIs last_number) made in
+          free.births s.so_far s.rest s.are s.later (same_birth (node (words_after L s.so_far) free.slot).birth s.stands)
 
 -- ---- managed calls
 
-module _ (map : Bool) (b : TreeView) (h : Options) (op : Op) (k : ℕ) (w z : WorkerView) (some : 1 ≤ h.tries) (runs : RunsAlone w.pass z.pass) (slots : FoundNoSlot w.pass z.pass → ⊥) (room : LacksRoom z → ⊥) where
+module _ (map : Bool) (b : TreeView) (h : Options) (op : Op) (k : ℕ) (w z : WorkerView) (some : 1 ≤ h.tries)
+    (runs : RunsAlone w.pass z.pass) (slots : FoundNoSlot w.pass z.pass → ⊥) (room : LacksRoom z → ⊥) where
   room_or : (h.tries < 1) ⊎ LacksRoom z → ⊥
   room_or (inl less) = omega (arith, some, less)
   room_or (inr lacks) = room lacks
@@ -92,12 +128,15 @@ module _ (map : Bool) (b : TreeView) (h : Options) (op : Op) (k : ℕ) (w z : Wo
   managed_answers (Err fault.Pending) m = room_or (m.pending runs.alone (inl refl))
   managed_answers (Err fault.Pinned) m = m.answers.left
 
-  pub answers_with_enough : (r : Result Bool CallFault) → w.held ≡ None → UnlessPinned (ManagesIn map b h op k w z r) w z r → IsAnswer r
+  pub answers_with_enough : (r : Result Bool CallFault) → w.held ≡ None
+      → UnlessPinned (ManagesIn map b h op k w z r) w z r → IsAnswer r
   answers_with_enough r free (inl pinned) = none_there w.held free pinned.0
   answers_with_enough r free (inr did) = managed_answers r did.1
 
 -- a remove is never full
-pub removes_with_room : (map : Bool) (b : TreeView) (h : Options) (k : ℕ) (w z : WorkerView) → 1 ≤ h.tries → RunsAlone w.pass z.pass → (LacksRoom z → ⊥) → (r : Result Bool CallFault) → w.held ≡ None → UnlessPinned (ManagesIn map b h Delete k w z r) w z r → IsAnswer r
+pub removes_with_room : (map : Bool) (b : TreeView) (h : Options) (k : ℕ) (w z : WorkerView) → 1 ≤ h.tries
+    → RunsAlone w.pass z.pass → (LacksRoom z → ⊥) → (r : Result Bool CallFault) → w.held ≡ None
+    → UnlessPinned (ManagesIn map b h Delete k w z r) w z r → IsAnswer r
 removes_with_room map b h k w z some runs room r free (inl pinned) = none_there w.held free pinned.0
 removes_with_room map b h k w z some runs room r free (inr did) = by r did.1
   where

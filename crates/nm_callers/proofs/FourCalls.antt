@@ -20,17 +20,23 @@ use Rattle.nm_set.proofs.Rests.{rested_before}
 use Rattle.nm_callers.proofs.AtRest.{inserts_first, finds_own, deletes_own, misses_own}
 
 -- a call that was answered was made
-manages : (op : Op) (b : TreeView) (h : Options) (k : ℕ) (w z : WorkerView) (answer : Bool) → SaysManaged op b h k w z (Ok answer) → Manages b h op k w z (Ok answer)
+manages : (op : Op) (b : TreeView) (h : Options) (k : ℕ) (w z : WorkerView) (answer : Bool)
+    → SaysManaged op b h k w z (Ok answer) → Manages b h op k w z (Ok answer)
 manages op b h k w z answer (inl (held, is, same)) = is_no_fault answer fault.Pinned is
 manages op b h k w z answer (inr (free, t)) = t
 
-pub same_number : (op : Op) (b : TreeView) (h : Options) (k : ℕ) (w z : WorkerView) (answer : Bool) → SaysManaged op b h k w z (Ok answer) → z.pass.view.number ≡ w.pass.view.number
-same_number op b h k w z answer said = ap (λ (s : PassView). s.view.number) (manages op b h k w z answer said).answers.on.same
+pub same_number : (op : Op) (b : TreeView) (h : Options) (k : ℕ) (w z : WorkerView) (answer : Bool)
+    → SaysManaged op b h k w z (Ok answer) → z.pass.view.number ≡ w.pass.view.number
+same_number op b h k w z answer said = ap (λ (s : PassView). s.view.number)
+    (manages op b h k w z answer said).answers.on.same
 
-module _ (h : Options) (k : ℕ) (key : IsKey k) (b1 b2 b3 b4 : TreeView) (y0 y1 y2 y3 y4 : WorkerView) (a1 a2 a3 a4 : Bool)
-    (said1 : SaysManaged Insert b1 h k y0 y1 (Ok a1)) (said2 : SaysManaged Has b2 h k y1 y2 (Ok a2)) (said3 : SaysManaged Delete b3 h k y2 y3 (Ok a3)) (said4 : SaysManaged Has b4 h k y3 y4 (Ok a4))
+module _ (h : Options) (k : ℕ) (key : IsKey k) (b1 b2 b3 b4 : TreeView) (y0 y1 y2 y3 y4 : WorkerView)
+    (a1 a2 a3 a4 : Bool)
+    (said1 : SaysManaged Insert b1 h k y0 y1 (Ok a1)) (said2 : SaysManaged Has b2 h k y1 y2 (Ok a2))
+    (said3 : SaysManaged Delete b3 h k y2 y3 (Ok a3)) (said4 : SaysManaged Has b4 h k y3 y4 (Ok a4))
     (links : won_links y0.pass.view.log ≡ 0) (flags : won_flags y0.pass.view.log ≡ 0)
-    (seen1 : HasSeen y1.pass.view) (seen2 : HasSeen y2.pass.view) (seen3 : HasSeen y3.pass.view) (seen4 : HasSeen y4.pass.view) (fits4 : IsLayout y4.pass.view.layout) (rest4 : OthersRest y4.pass) where
+    (seen1 : HasSeen y1.pass.view) (seen2 : HasSeen y2.pass.view) (seen3 : HasSeen y3.pass.view)
+    (seen4 : HasSeen y4.pass.view) (fits4 : IsLayout y4.pass.view.layout) (rest4 : OthersRest y4.pass) where
   t1 : Manages b1 h Insert k y0 y1 (Ok a1)
   t1 = manages Insert b1 h k y0 y1 a1 said1
 
@@ -69,13 +75,15 @@ module _ (h : Options) (k : ℕ) (key : IsKey k) (b1 b2 b3 b4 : TreeView) (y0 y1
 
   pub is_added : a1 ≡ true
   is_added = inserts_first y0.pass y1.pass k key seen1 fits1 rest1 a1 t1.answers.moment (λ no.
-      let won = subst (λ (a : Bool). HasWon y0.pass.view.log y1.pass.view.log (links_told_by Insert (Ok a)) (flags_told_by Insert (Ok a))) no t1.answers.won in
+      let won = subst (λ (a : Bool). HasWon y0.pass.view.log y1.pass.view.log (links_told_by Insert (Ok a))
+      (flags_told_by Insert (Ok a))) no t1.answers.won in
       let l = won.links in
       let f = won.flags in
       (omega (arith, l, links), omega (arith, f, flags)))
 
   won1 : HasWon y0.pass.view.log y1.pass.view.log 1 0
-  won1 = subst (λ (a : Bool). HasWon y0.pass.view.log y1.pass.view.log (links_told_by Insert (Ok a)) (flags_told_by Insert (Ok a))) is_added t1.answers.won
+  won1 = subst (λ (a : Bool). HasWon y0.pass.view.log y1.pass.view.log (links_told_by Insert (Ok a))
+      (flags_told_by Insert (Ok a))) is_added t1.answers.won
 
   added : AnswerHasMoment y0.pass y1.pass Insert k true
   added = subst (λ (a : Bool). AnswerHasMoment y0.pass y1.pass Insert k a) is_added t1.answers.moment
@@ -84,24 +92,32 @@ module _ (h : Options) (k : ℕ) (key : IsKey k) (b1 b2 b3 b4 : TreeView) (y0 y1
   unflagged2 = let one = won1.flags in let two = t2.answers.won.flags in omega (arith, one, two, flags)
 
   pub is_there : a2 ≡ true
-  is_there = finds_own y1.pass y2.pass k key seen2 fits2 rest2 y0.pass y1.pass layout2 number2 (seen_itself y1.pass) t2.answers.on.past a2 t2.answers.moment added unflagged2
+  is_there = finds_own y1.pass y2.pass k key seen2 fits2 rest2 y0.pass y1.pass layout2 number2 (seen_itself y1.pass)
+      t2.answers.on.past a2 t2.answers.moment added unflagged2
 
   pub is_removed : a3 ≡ true
   is_removed = deletes_own y2.pass y3.pass k key seen3 fits3 rest3 y0.pass y1.pass
-      (layout2 ∙ sym (ap (λ (s : PassView). s.view.layout) t3.answers.on.same)) (number2 ∙ sym (ap (λ (s : PassView). s.view.number) t3.answers.on.same)) t2.answers.on.past t3.answers.on.past a3 t3.answers.moment added (λ no.
-      let won = subst (λ (a : Bool). HasWon y2.pass.view.log y3.pass.view.log (links_told_by Delete (Ok a)) (flags_told_by Delete (Ok a))) no t3.answers.won in
+      (layout2 ∙ sym (ap (λ (s : PassView). s.view.layout) t3.answers.on.same))
+      (number2 ∙ sym (ap (λ (s : PassView). s.view.number) t3.answers.on.same)) t2.answers.on.past
+      t3.answers.on.past a3 t3.answers.moment added (λ no.
+      let won = subst (λ (a : Bool). HasWon y2.pass.view.log y3.pass.view.log (links_told_by Delete (Ok a))
+      (flags_told_by Delete (Ok a))) no t3.answers.won in
       let f = won.flags in
       omega (arith, f, unflagged2))
 
   won3 : HasWon y2.pass.view.log y3.pass.view.log 0 1
-  won3 = subst (λ (a : Bool). HasWon y2.pass.view.log y3.pass.view.log (links_told_by Delete (Ok a)) (flags_told_by Delete (Ok a))) is_removed t3.answers.won
+  won3 = subst (λ (a : Bool). HasWon y2.pass.view.log y3.pass.view.log (links_told_by Delete (Ok a))
+      (flags_told_by Delete (Ok a))) is_removed t3.answers.won
 
   removed : AnswerHasMoment y2.pass y3.pass Delete k true
   removed = subst (λ (a : Bool). AnswerHasMoment y2.pass y3.pass Delete k a) is_removed t3.answers.moment
 
   few : won_links y4.pass.view.log ≤ 1
-  few = let one = won1.links in let two = t2.answers.won.links in let three = won3.links in let four = t4.answers.won.links in omega (arith, one, two, three, four, links)
+  few = let one = won1.links in let two = t2.answers.won.links in let three = won3.links in
+      let four = t4.answers.won.links in omega (arith, one, two, three, four, links)
 
   pub is_gone : a4 ≡ false
   is_gone = misses_own y3.pass y4.pass k key seen4 fits4 rest4 y2.pass y3.pass
-      (sym (ap (λ (s : PassView). s.view.layout) t4.answers.on.same)) (sym (ap (λ (s : PassView). s.view.number) t4.answers.on.same)) (seen_itself y3.pass) t4.answers.on.past a4 t4.answers.moment removed few
+      (sym (ap (λ (s : PassView). s.view.layout) t4.answers.on.same))
+      (sym (ap (λ (s : PassView). s.view.number) t4.answers.on.same)) (seen_itself y3.pass) t4.answers.on.past a4
+      t4.answers.moment removed few

@@ -27,7 +27,9 @@ use Rattle.nm_callers.proofs.TwoAnswers.{inserted_before_found}
 
 -- ---- the writer
 
-pub has_written : (b : TreeView) (h : Options) (k : ℕ) (w z : WorkerView) (r : Option Stamp) → SaysManaged Insert b h k w z (Ok true) → HasSeen z.pass.view → IsBetweenCalls z → IfSome r (IsTallyOf z) → IfSome r (HasWritten k w z)
+pub has_written : (b : TreeView) (h : Options) (k : ℕ) (w z : WorkerView) (r : Option Stamp)
+    → SaysManaged Insert b h k w z (Ok true) → HasSeen z.pass.view → IsBetweenCalls z → IfSome r (IsTallyOf z)
+    → IfSome r (HasWritten k w z)
 has_written b h k w z None did seen between tally = tt
 has_written b h k w z (Some p) (inl (held, is, same)) seen between tally = is_no_fault true fault.Pinned is
 has_written b h k w z (Some p) (inr (free, t)) seen between tally = record {
@@ -42,8 +44,11 @@ has_written b h k w z (Some p) (inr (free, t)) seen between tally = record {
 
 -- ---- both, in what one has seen that has heard of both
 
-module _ (law : LettersAreInOrder) (k : ℕ) (w z x v : WorkerView) (p : Stamp) (answer : Bool) (wrote : HasWritten k w z p) (unlinked : won_links w.pass.view.log ≡ 0) (unflagged : won_flags w.pass.view.log ≡ 0)
-    (look : HasLookedBehind w.pass.view.number k x answer) (saw : HasSeen z.pass.view) (seen : HasSeen v.pass.view) (turns : HasSeenTurns v.pass.view) (fits : IsLayout v.pass.view.layout) (on : Extends v.pass.view.past z.pass.view.past) (further : Extends v.pass.view.past x.pass.view.past)
+module _ (law : LettersAreInOrder) (k : ℕ) (w z x v : WorkerView) (p : Stamp) (answer : Bool)
+    (wrote : HasWritten k w z p) (unlinked : won_links w.pass.view.log ≡ 0) (unflagged : won_flags w.pass.view.log ≡ 0)
+    (look : HasLookedBehind w.pass.view.number k x answer) (saw : HasSeen z.pass.view) (seen : HasSeen v.pass.view)
+    (turns : HasSeenTurns v.pass.view) (fits : IsLayout v.pass.view.layout)
+    (on : Extends v.pass.view.past z.pass.view.past) (further : Extends v.pass.view.past x.pass.view.past)
     (layout : z.pass.view.layout ≡ v.pass.view.layout) (layout' : x.pass.view.layout ≡ v.pass.view.layout) where
   abbrev i : ℕ
   i = w.pass.view.number
@@ -58,39 +63,55 @@ module _ (law : LettersAreInOrder) (k : ℕ) (w z x v : WorkerView) (p : Stamp) 
   part = subst (λ (n : ℕ). part_of n z.pass.view.past ≡ z.pass.view.log) number saw.is_part
 
   one : p.inserted ≡ 1
-  one = let t = tally.inserted in let l : won_links (part_of i z.pass.view.past) ≡ won_links z.pass.view.log = ap won_links part in let o = wrote.won.links in omega (arith, t, l, o, unlinked)
+  one = let t = tally.inserted in
+      let l : won_links (part_of i z.pass.view.past) ≡ won_links z.pass.view.log = ap won_links part in
+      let o = wrote.won.links in omega (arith, t, l, o, unlinked)
 
   none : p.removed ≡ 0
-  none = let t = tally.removed in let l : won_flags (part_of i z.pass.view.past) ≡ won_flags z.pass.view.log = ap won_flags part in let o = wrote.won.flags in omega (arith, t, l, o, unflagged)
+  none = let t = tally.removed in
+      let l : won_flags (part_of i z.pass.view.past) ≡ won_flags z.pass.view.log = ap won_flags part in
+      let o = wrote.won.flags in omega (arith, t, l, o, unflagged)
 
   all : HasHeardAll i z.pass.view.past look.start.view.past
   all =
       let some = look.some in
-      law v.pass.view.past z.pass.view.past look.start.view.past i p look.told on (goes_on_through v.pass.view.past x.pass.view.past look.start.view.past further look.past.goes_on) tally
-      (subst (λ (n : ℕ). leaf_after n None z.pass.view.past ≡ None) number wrote.rests) look.behind (omega (arith, one, some)) (omega (arith, none)) (omega (arith, one)) (omega (arith, none))
+      law v.pass.view.past z.pass.view.past look.start.view.past i p look.told on
+      (goes_on_through v.pass.view.past x.pass.view.past look.start.view.past further look.past.goes_on) tally
+      (subst (λ (n : ℕ). leaf_after n None z.pass.view.past ≡ None) number wrote.rests) look.behind
+      (omega (arith, one, some)) (omega (arith, none)) (omega (arith, one)) (omega (arith, none))
 
   abbrev pub L : Layout
   L = v.pass.view.layout
 
   inserts : AnswerStands L w.pass.view.past z.pass.view.past i Insert k true
-  inserts = subst (λ (l : Layout). AnswerStands l w.pass.view.past z.pass.view.past i Insert k true) layout (subst (λ (n : ℕ). AnswerStands z.pass.view.layout w.pass.view.past z.pass.view.past n Insert k true) number wrote.moment)
+  inserts = subst (λ (l : Layout). AnswerStands l w.pass.view.past z.pass.view.past i Insert k true) layout
+      (subst (λ (n : ℕ). AnswerStands z.pass.view.layout w.pass.view.past z.pass.view.past n Insert k true) number
+      wrote.moment)
 
   looks : AnswerStands L look.start.view.past x.pass.view.past x.pass.view.number Has k answer
-  looks = subst (λ (l : Layout). AnswerStands l look.start.view.past x.pass.view.past x.pass.view.number Has k answer) layout' look.look
+  looks = subst (λ (l : Layout). AnswerStands l look.start.view.past x.pass.view.past x.pass.view.number Has k
+      answer) layout' look.look
 
   pub found_where_told : NoneDeleted L w.pass.view.past v.pass.view.past k → answer ≡ true
   found_where_told none' =
       let acts = turns.plain_set in
-      inserted_before_found L w.pass.view.past z.pass.view.past look.start.view.past x.pass.view.past v.pass.view.past i x.pass.view.number k answer inserts looks on further acts.0 acts.1
+      inserted_before_found L w.pass.view.past z.pass.view.past look.start.view.past x.pass.view.past
+      v.pass.view.past i x.pass.view.number k answer inserts looks on further acts.0 acts.1
       (λ a among own call late.
-      let at = at_link L fits seen.events seen.keys w.pass.view.past z.pass.view.past on.more (sym seen.are ∙ on.is) i k inserts acts.0 (subst (λ (ts : List Turn). IsHistory L ts acts.0) seen.are acts.1) a among own call in
-      let far = heard_of L fits seen.events seen.keys w.pass.view.past z.pass.view.past on.more (sym seen.are ∙ on.is) i k inserts look.start.view.past all in
+      let at = at_link L fits seen.events seen.keys w.pass.view.past z.pass.view.past on.more (sym seen.are ∙ on.is)
+      i k inserts acts.0 (subst (λ (ts : List Turn). IsHistory L ts acts.0) seen.are acts.1) a among own call in
+      let far = heard_of L fits seen.events seen.keys w.pass.view.past z.pass.view.past on.more
+      (sym seen.are ∙ on.is) i k inserts look.start.view.past all in
       omega (arith, at, far)) none'
 
 -- so where the note was left, and the key was asked for
-pub finds : LettersAreInOrder → (k : ℕ) (w z x v : WorkerView) (p : Stamp) (o : Option Bool) → HasWritten k w z p → won_links w.pass.view.log ≡ 0 → won_flags w.pass.view.log ≡ 0 → IfSome o (HasLookedBehind w.pass.view.number k x)
-    → HasSeen z.pass.view → HasSeen v.pass.view → HasSeenTurns v.pass.view → IsLayout v.pass.view.layout → Extends v.pass.view.past z.pass.view.past → Extends v.pass.view.past x.pass.view.past → z.pass.view.layout ≡ v.pass.view.layout → x.pass.view.layout ≡ v.pass.view.layout
+pub finds : LettersAreInOrder → (k : ℕ) (w z x v : WorkerView) (p : Stamp) (o : Option Bool) → HasWritten k w z p
+    → won_links w.pass.view.log ≡ 0 → won_flags w.pass.view.log ≡ 0 → IfSome o (HasLookedBehind w.pass.view.number k x)
+    → HasSeen z.pass.view → HasSeen v.pass.view → HasSeenTurns v.pass.view → IsLayout v.pass.view.layout
+    → Extends v.pass.view.past z.pass.view.past → Extends v.pass.view.past x.pass.view.past
+    → z.pass.view.layout ≡ v.pass.view.layout → x.pass.view.layout ≡ v.pass.view.layout
     → NoneDeleted v.pass.view.layout w.pass.view.past v.pass.view.past k → IfSome o (λ b. b ≡ true)
 finds law k w z x v p None wrote unlinked unflagged looks saw seen turns fits on further layout layout' none' = tt
 finds law k w z x v p (Some answer) wrote unlinked unflagged looks saw seen turns fits on further layout layout' none' =
-    found_where_told law k w z x v p answer wrote unlinked unflagged looks saw seen turns fits on further layout layout' none'
+    found_where_told law k w z x v p answer wrote unlinked unflagged looks saw seen turns fits on further layout
+    layout' none'

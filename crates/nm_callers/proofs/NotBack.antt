@@ -27,7 +27,8 @@ module _ (a p q : PassView) (o : View) (k v : ℕ) (back : List ℕ) (first : Ha
   quiet =
       ap (λ (ts : List Turn). length (part_of p.view.number ts)) (sym on.goes_on.is)
       ∙ ap length
-      (ap (λ (w : ℕ). part_of w q.view.past) (ap (λ (z : PassView). z.view.number) (sym heard)) ∙ (seen.own ∙ (ap (λ (z : PassView). z.view.log) heard ∙ sym first.own)))
+      (ap (λ (w : ℕ). part_of w q.view.past) (ap (λ (z : PassView). z.view.number) (sym heard))
+      ∙ (seen.own ∙ (ap (λ (z : PassView). z.view.log) heard ∙ sym first.own)))
 
   got_then : MapGaveUnderPin a p k (Some v)
       → WasMappedUnderPin q.view.layout a.view.past q.view.past p.view.stores q.view.number k (Some v)
@@ -47,7 +48,11 @@ module _ (a p q : PassView) (o : View) (k v : ℕ) (back : List ℕ) (first : Ha
     got = now;
     kept = kept;
     out = got_values_stay_out q.view.layout q.view.past seen.headline a.view.past p.view.stores q.view.number k v now;
-    others = λ u there. (returned u there, λ same. kept (subst (λ (n : NodeId). Contains (freed_by q.view.past) n) same (freed_then (returned u there))));
+    others = λ u there. (
+      returned u there,
+      λ same. kept
+          (subst (λ (n : NodeId). Contains (freed_by q.view.past) n) same (freed_then (returned u there))),
+    );
   }
     where
       now : WasMappedUnderPin q.view.layout a.view.past q.view.past p.view.stores q.view.number k (Some v)
@@ -58,7 +63,8 @@ module _ (a p q : PassView) (o : View) (k v : ℕ) (back : List ℕ) (first : Ha
           v now
 
       freed_then : {u : ℕ} (c : HasComeBack o u) → Contains (freed_by q.view.past) c.node
-      freed_then c = subst (λ (ts : List Turn). Contains (freed_by ts) c.node) (sym told.is) (freed_longer o.past told.more c.node c.freed.freed)
+      freed_then c = subst (λ (ts : List Turn). Contains (freed_by ts) c.node) (sym told.is)
+          (freed_longer o.past told.more c.node c.freed.freed)
 
 -- if a value was found
 pub if_found : (a p q : PassView) (o : View) (k : ℕ) (back : List ℕ) → HasSeenTurns p.view → HasSeenTurns q.view

@@ -1,5 +1,29 @@
 -- What the only worker of a closed set has inserted is in the report, over the page alone.
-use Rattle.std.proofs.Common.{◌≡◌, ℕ, ◌<◌, ◌≤◌, inl, inr, ◌⊎◌, Bool, true, List, [], ◌∷◌, ◌++◌, append_assoc, length, length-append, refl, sym, ap, subst, ◌∙◌, arith, eq-eqb}
+use Rattle.std.proofs.Common.{
+  ◌≡◌,
+  ℕ,
+  ◌<◌,
+  ◌≤◌,
+  inl,
+  inr,
+  ◌⊎◌,
+  Bool,
+  true,
+  List,
+  [],
+  ◌∷◌,
+  ◌++◌,
+  append_assoc,
+  length,
+  length-append,
+  refl,
+  sym,
+  ap,
+  subst,
+  ◌∙◌,
+  arith,
+  eq-eqb,
+}
 use Rattle.std.specs.Prelude.{Contains, None, Ok}
 use Rattle.std.proofs.lemmas.Bool.{cases_lt}
 use Rattle.std.proofs.lemmas.List.{append_cancel_left}
@@ -50,7 +74,9 @@ no_look is = absurd (cc)
 not_a_join : (answer : Bool) (v : ℕ) → ◌≡◌ {A = Event} (LeaveWith answer) (Join v) → ⊥
 not_a_join answer v is = absurd (cc)
 
-module _ (b : TreeView) (z : WorkerView) (home : List WorkerView) (k : ℕ) (queues : List HeldQueue) (kept : List ℕ) (free reached : ℕ) (one : b.layout.workers ≡ 1) (own : IsOwn b z) (seen : HasSeenTurns z.pass.view) (added : HasAdded k z)
+module _ (b : TreeView) (z : WorkerView) (home : List WorkerView) (k : ℕ) (queues : List HeldQueue) (kept : List ℕ)
+    (free reached : ℕ) (one : b.layout.workers ≡ 1) (own : IsOwn b z) (seen : HasSeenTurns z.pass.view)
+    (added : HasAdded k z)
     (is : SaysClosed b (z ∷ home) queues kept free reached) where
   abbrev v : View
   v = z.pass.view
@@ -62,10 +88,12 @@ module _ (b : TreeView) (z : WorkerView) (home : List WorkerView) (k : ℕ) (que
   joins = All-head (λ (w : WorkerView). HasJoinedAlone is.turns w.pass.view.past w.pass.view.number) z home is.own
 
   answer : AnswerStands b.layout added.start.view.past v.past v.number Insert k true
-  answer = subst (λ (L : Layout). AnswerStands L added.start.view.past v.past v.number Insert k true) own.own.layout added.moment
+  answer = subst (λ (L : Layout). AnswerStands L added.start.view.past v.past v.number Insert k true) own.own.layout
+      added.moment
 
   number : v.number < b.layout.workers
-  number = answers_below b.layout added.start.view.past v.past v.number Insert k true answer (subst (λ (L : Layout). AreOfWorkers L v.past) own.own.layout seen.workers)
+  number = answers_below b.layout added.start.view.past v.past v.number Insert k true answer
+      (subst (λ (L : Layout). AreOfWorkers L v.past) own.own.layout seen.workers)
 
   same : (w : ℕ) → w < b.layout.workers → w ≡ v.number
   same w less = let low = number in omega (arith, less, low, one)
@@ -75,11 +103,13 @@ module _ (b : TreeView) (z : WorkerView) (home : List WorkerView) (k : ℕ) (que
   joined t r there mine told = joins on.more t r on.is (in_contained on.more t there) mine told
 
   rests : call_begun v.number is.turns ≡ None
-  rests = ap (call_begun v.number) on.is ∙ no_call_then v.number v.past on.more (answered_none b.layout added.start.view.past v.past v.number Insert k true answer) joined
+  rests = ap (call_begun v.number) on.is ∙ no_call_then v.number v.past on.more
+      (answered_none b.layout added.start.view.past v.past v.number Insert k true answer) joined
 
   -- it has flagged nothing
   no_flag : WinsIn Delete v.number is.turns → ⊥
-  no_flag won = by (in_either v.past on.more x.made.turn (subst (λ (ts : List Turn). In ts x.made.turn) on.is x.made.among))
+  no_flag won = by (in_either v.past on.more x.made.turn
+      (subst (λ (ts : List Turn). In ts x.made.turn) on.is x.made.among))
     where
       x : Won Delete v.number is.turns
       x = who_won Delete v.number is.turns won
@@ -87,7 +117,9 @@ module _ (b : TreeView) (z : WorkerView) (home : List WorkerView) (k : ℕ) (que
       by : In v.past x.made.turn ⊎ In on.more x.made.turn → ⊥
       by (inl there) =
           let e : Entry = (x.made.turn.event, x.made.reply) in
-          let some = some_in is_won_flag v.log e (subst (λ (l : List Entry). In l e) seen.own (told_in_part v.number v.past x.made.turn x.made.reply there x.made.own x.made.accepted)) (sym (wins_flags x.made.turn.event (Ok x.made.reply)) ∙ x.won) in
+          let some = some_in is_won_flag v.log e (subst (λ (l : List Entry). In l e) seen.own
+          (told_in_part v.number v.past x.made.turn x.made.reply there x.made.own x.made.accepted))
+          (sym (wins_flags x.made.turn.event (Ok x.made.reply)) ∙ x.won) in
           let none = added.unflagged in
           omega (arith, some, none)
       by (inr there) =
@@ -105,15 +137,19 @@ module _ (b : TreeView) (z : WorkerView) (home : List WorkerView) (k : ℕ) (que
       turn = answer_turn w true
 
       mine : w ≡ v.number
-      mine = same w (is.headline.workers turn _ (in_contained is.turns turn (subst (λ (ts : List Turn). In ts turn) (sym are) (in_right before (turn ∷ since) turn (inl refl)))) refl)
+      mine = same w (is.headline.workers turn _ (in_contained is.turns turn
+          (subst (λ (ts : List Turn). In ts turn) (sym are) (in_right before (turn ∷ since) turn (inl refl)))) refl)
 
       by : (length before < length v.past) ⊎ (length v.past ≤ length before) → (c.op ≡ Has) ⊎ WinsIn c.op w before
       by (inl less) = within (begins_with before (turn ∷ since) v.past on.more (sym are ∙ on.is) (omega (arith, less)))
         where
           within : (mid : List Turn) × (v.past ≡ before ++ mid) → (c.op ≡ Has) ⊎ WinsIn c.op w before
-          within ([], at) = absurd (let size = ap (λ (ts : List Turn). length ts) at in let l = length-append before [] in omega (arith, less, size, l))
+          within ([], at) = absurd (let size = ap (λ (ts : List Turn). length ts) at in
+              let l = length-append before [] in omega (arith, less, size, l))
           within (t ∷ mid, at) =
-              let rest : turn ∷ since ≡ t ∷ (mid ++ on.more) = append_cancel_left before (turn ∷ since) (t ∷ (mid ++ on.more)) (sym are ∙ (on.is ∙ (ap (λ (ts : List Turn). ts ++ on.more) at ∙ append_assoc before (t ∷ mid) on.more))) in
+              let rest : turn ∷ since ≡ t ∷ (mid ++ on.more) = append_cancel_left before (turn ∷ since)
+              (t ∷ (mid ++ on.more)) (sym are ∙ (on.is
+              ∙ (ap (λ (ts : List Turn). ts ++ on.more) at ∙ append_assoc before (t ∷ mid) on.more))) in
               seen.won before mid w c (at ∙ ap (λ (u : Turn). before ++ u ∷ mid) (sym (first rest))) called
             where
               first : {x y : Turn} {xs ys : List Turn} → x ∷ xs ≡ y ∷ ys → x ≡ y
@@ -122,8 +158,11 @@ module _ (b : TreeView) (z : WorkerView) (home : List WorkerView) (k : ℕ) (que
         where
           beyond : (mid : List Turn) × (before ≡ v.past ++ mid) → ⊥
           beyond (mid, at) =
-              let rest : on.more ≡ mid ++ turn ∷ since = append_cancel_left v.past on.more (mid ++ turn ∷ since) (sym on.is ∙ (are ∙ (ap (λ (ts : List Turn). ts ++ turn ∷ since) at ∙ append_assoc v.past mid (turn ∷ since)))) in
-              let j = joined turn _ (subst (λ (ts : List Turn). In ts turn) (sym rest) (in_right mid (turn ∷ since) turn (inl refl))) mine refl in
+              let rest : on.more ≡ mid ++ turn ∷ since = append_cancel_left v.past on.more (mid ++ turn ∷ since)
+              (sym on.is ∙ (are ∙ (ap (λ (ts : List Turn). ts ++ turn ∷ since) at
+              ∙ append_assoc v.past mid (turn ∷ since)))) in
+              let j = joined turn _ (subst (λ (ts : List Turn). In ts turn) (sym rest)
+              (in_right mid (turn ∷ since) turn (inl refl))) mine refl in
               not_a_join true j.0 j.1
 
   none_deleted : NoneDeleted b.layout added.start.view.past is.turns k
@@ -134,11 +173,15 @@ module _ (b : TreeView) (z : WorkerView) (home : List WorkerView) (k : ℕ) (que
   pub has_key : Contains kept k
   has_key =
       let key = added.key in
-      (is.headline.set k).1
-      (stays_where_none_deleted b.layout added.start.view.past v.past is.turns v.number k added.key answer on is.headline.plain_set none_deleted, omega (arith, key))
+      (is.headline.set k).1 (
+        stays_where_none_deleted b.layout added.start.view.past v.past is.turns v.number k added.key answer on
+            is.headline.plain_set none_deleted,
+        omega (arith, key),
+      )
 
 -- of a set that kept that worker alone
-pub reported : (s : SetView) (z : WorkerView) (k : ℕ) (r : Report) → s.kept ≡ z ∷ [] → s.tree.layout.workers ≡ 1 → IsOwn s.tree z → HasSeenTurns z.pass.view → HasAdded k z → SaysEnded s r → Contains r.keys.items k
+pub reported : (s : SetView) (z : WorkerView) (k : ℕ) (r : Report) → s.kept ≡ z ∷ [] → s.tree.layout.workers ≡ 1
+    → IsOwn s.tree z → HasSeenTurns z.pass.view → HasAdded k z → SaysEnded s r → Contains r.keys.items k
 reported s z k r kept one own seen added e =
     let C : List WorkerView → Type 0 = λ ws. SaysClosed s.tree ws r.queues.items r.keys.items r.free r.reached in
     let ws = ap (λ (us : List WorkerView). us ++ e.home) kept in

@@ -1,7 +1,12 @@
 -- Each value that a collection hands out has come back.
 use Rattle.std.proofs.Common.{◌≡◌, inl, inr, ℕ, zero, suc, Bool, List, [], ◌∷◌, ◌++◌, refl, sym, subst, arith}
 use Rattle.std.specs.Prelude.{Contains}
-use Rattle.std.proofs.lemmas.List.Elements.{All-contains, Contains-append_cases, Contains-append_left, Contains-append_right}
+use Rattle.std.proofs.lemmas.List.Elements.{
+  All-contains,
+  Contains-append_cases,
+  Contains-append_left,
+  Contains-append_right,
+}
 use Rattle.nm_steps.specs.declared.view.View.{View}
 use Rattle.nm_epoch.specs.declared.collecting.Entry.{Entry}
 use Rattle.nm_epoch.specs.declared.collecting.HeldQueue.{HeldQueue}
@@ -41,8 +46,12 @@ had_by v (e ∷ es) ns n (inr (m, more, are, cut, rest)) c =
     only a b (zero, below, at) = at
     only a b (suc i, below, at) = absurd (omega (arith, below))
 
-all_back : (epoch : ℕ) (v : View) (hs gs : List HeldQueue) (es : List Entry) (ns : List ℕ) → GiveBack epoch v hs gs es ns → ((e : Entry) → Contains es e → IsFreedInGrace v e.node) → (n : ℕ) → Contains ns n → HasComeBack v n
-all_back epoch v [] [] es ns d grace n there = absurd (let none' : Contains [] n = subst (λ (l : List ℕ). Contains l n) d.1 there in let below = none'.1 in omega (arith, below))
+all_back : (epoch : ℕ) (v : View) (hs gs : List HeldQueue) (es : List Entry) (ns : List ℕ)
+    → GiveBack epoch v hs gs es ns → ((e : Entry) → Contains es e → IsFreedInGrace v e.node) → (n : ℕ)
+    → Contains ns n → HasComeBack v n
+all_back epoch v [] [] es ns d grace n there = absurd
+    (let none' : Contains [] n = subst (λ (l : List ℕ). Contains l n) d.1 there in let below = none'.1 in
+    omega (arith, below))
 all_back epoch v [] (g ∷ gs) es ns d grace n there = absurd d
 all_back epoch v (h ∷ hs) [] es ns d grace n there = absurd d
 all_back epoch v (h ∷ hs) (g ∷ gs) es ns (fs, ws, more, later, freed, values, one, rest) grace n there =
@@ -50,10 +59,19 @@ all_back epoch v (h ∷ hs) (g ∷ gs) es ns (fs, ws, more, later, freed, values
       | inl here ↦ (
           let r = had_by v fs ws n one.back here in
           let among : Contains (fs ++ more) r.entry = Contains-append_left fs more r.entry r.among in
-          record { node = r.entry.node; cut = r.cut; freed = grace r.entry (subst (λ (l : List Entry). Contains l r.entry) (sym freed) among) }
+          record {
+            node = r.entry.node;
+            cut = r.cut;
+            freed = grace r.entry
+                (subst (λ (l : List Entry). Contains l r.entry) (sym freed) among);
+          }
           )
-      | inr further ↦ all_back epoch v hs gs more later rest (λ e c. grace e (subst (λ (l : List Entry). Contains l e) (sym freed) (Contains-append_right fs more e c))) n further
+      | inr further ↦ all_back epoch v hs gs more later rest
+          (λ e c. grace e (subst (λ (l : List Entry). Contains l e) (sym freed) (Contains-append_right fs more e c))) n
+          further
     ]
 
-pub values_are_back : {nodes : ℕ} {room : Bool} {vs : List ℕ} {c : HandedOut} (w z : WorkerView) → LeavesCollectValues nodes room w z vs c → (v : ℕ) → Contains vs v → HasComeBack z.pass.view v
-values_are_back {vs = vs} {c = c} w z d = all_back c.epoch z.pass.view w.queues z.queues d.freed vs d.handed (λ e there. All-contains (λ (x : Entry). IsFreedInGrace z.pass.view x.node) d.freed e d.grace there)
+pub values_are_back : {nodes : ℕ} {room : Bool} {vs : List ℕ} {c : HandedOut} (w z : WorkerView)
+    → LeavesCollectValues nodes room w z vs c → (v : ℕ) → Contains vs v → HasComeBack z.pass.view v
+values_are_back {vs = vs} {c = c} w z d = all_back c.epoch z.pass.view w.queues z.queues d.freed vs d.handed
+    (λ e there. All-contains (λ (x : Entry). IsFreedInGrace z.pass.view x.node) d.freed e d.grace there)

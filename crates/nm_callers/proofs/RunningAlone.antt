@@ -23,7 +23,8 @@ use Rattle.nm_callers.specs.AnsweredAlone.{IsAnswered, IsAnsweredWithRoom}
 -- ---- calls of a tree
 
 module _ (L : Layout) (t k : ℕ) (w z : WorkerView) where
-  insert_answered : (r : Result Bool CallFault) → 1 ≤ t → w.pending ≡ None → LeavesInsert L t k w z r → RunsAlone w.pass z.pass → IsAnswered r
+  insert_answered : (r : Result Bool CallFault) → 1 ≤ t → w.pending ≡ None → LeavesInsert L t k w z r
+      → RunsAlone w.pass z.pass → IsAnswered r
   insert_answered (Ok answer) some none l runs = tt
   insert_answered (Err fault.Busy) some none l runs = let less = l.alone runs in absurd (omega (arith, some, less))
   insert_answered (Err fault.Full) some none l runs = tt
@@ -41,7 +42,8 @@ module _ (L : Layout) (t k : ℕ) (w z : WorkerView) where
   still_none (Err fault.Pending) none told = ap (λ (v : WorkerView). v.pending) told.1 ∙ none
   still_none (Err fault.Pinned) none told = absurd told
 
-  delete_answered : (r : Result Bool CallFault) → 2 ≤ t → w.pending ≡ None → LeavesDelete L t k w z r → RunsAlone w.pass z.pass → IsAnsweredWithRoom z r
+  delete_answered : (r : Result Bool CallFault) → 2 ≤ t → w.pending ≡ None → LeavesDelete L t k w z r
+      → RunsAlone w.pass z.pass → IsAnsweredWithRoom z r
   delete_answered (Ok answer) some none l runs room = tt
   delete_answered (Err fault.Busy) some none l runs room = let less = l.alone runs in absurd (omega (arith, some, less))
   delete_answered (Err fault.Full) some none l runs room = tt
@@ -54,15 +56,22 @@ module _ (L : Layout) (t k : ℕ) (w z : WorkerView) where
   delete_answered (Err fault.Pending) some none l runs room = none_there w.pending none l.says.told.0
   delete_answered (Err fault.Pinned) some none l runs room = absurd l.says.told
 
-pub both_answered : (L : Layout) (t k : ℕ) (w x z : WorkerView) (q r : Result Bool CallFault) → 2 ≤ t → w.pending ≡ None → LeavesInsert L t k w x q → LeavesDelete L t k x z r → RunsAlone w.pass z.pass → IsAnswered q × IsAnsweredWithRoom z r
+pub both_answered : (L : Layout) (t k : ℕ) (w x z : WorkerView) (q r : Result Bool CallFault) → 2 ≤ t
+    → w.pending ≡ None → LeavesInsert L t k w x q → LeavesDelete L t k x z r → RunsAlone w.pass z.pass
+    → IsAnswered q × IsAnsweredWithRoom z r
 both_answered L t k w x z q r some none first last runs =
     let before = runs_before w.pass x.pass z.pass first.says.same first.says.past last.says.past runs in
-    let later = runs_later w.pass x.pass z.pass first.says.same first.says.past last.says.past runs in
-    (insert_answered L t k w x q (omega (arith, some)) none first before, delete_answered L t k x z r some (still_none L t k w x q none first.says.told) last later)
+    let later = runs_later w.pass x.pass z.pass first.says.same first.says.past last.says.past runs in (
+      insert_answered L t k w x q (omega (arith, some)) none first before,
+      delete_answered L t k x z r some
+          (still_none L t k w x q none first.says.told) last later,
+    )
 
-pub pop_answered : (L : Layout) (t : ℕ) (w z : WorkerView) (r : Result (Option ℕ) CallFault) → 2 ≤ t → w.pending ≡ None → SaysPop ◌<◌ L t w z r → RunsAlone w.pass z.pass → IsAnsweredWithRoom z r
+pub pop_answered : (L : Layout) (t : ℕ) (w z : WorkerView) (r : Result (Option ℕ) CallFault) → 2 ≤ t
+    → w.pending ≡ None → SaysPop ◌<◌ L t w z r → RunsAlone w.pass z.pass → IsAnsweredWithRoom z r
 pop_answered L t w z (Ok taken) some none s runs room = tt
-pop_answered L t w z (Err fault.Busy) some none s runs room = let less = s.alone runs in absurd (omega (arith, some, less))
+pop_answered L t w z (Err fault.Busy) some none s runs room = let less = s.alone runs in
+    absurd (omega (arith, some, less))
 pop_answered L t w z (Err fault.Full) some none s runs room = tt
 pop_answered L t w z (Err fault.NoMemory) some none s runs room = tt
 pop_answered L t w z (Err fault.Unfinished) some none s runs room = by (s.alone runs)
@@ -75,7 +84,8 @@ pop_answered L t w z (Err fault.Pinned) some none s runs room = absurd s.told
 
 -- ---- managed calls
 
-pub was_managed : (op : Op) (b : TreeView) (h : Options) (k : ℕ) (w z : WorkerView) (r : Result Bool CallFault) → w.held ≡ None → SaysManaged op b h k w z r → Manages b h op k w z r
+pub was_managed : (op : Op) (b : TreeView) (h : Options) (k : ℕ) (w z : WorkerView) (r : Result Bool CallFault)
+    → w.held ≡ None → SaysManaged op b h k w z r → Manages b h op k w z r
 was_managed op b h k w z r free (inl pinned) = none_there w.held free pinned.0
 was_managed op b h k w z r free (inr did) = did.1
 
@@ -84,7 +94,8 @@ module _ (b : TreeView) (h : Options) (k : ℕ) (w z : WorkerView) (some : 1 ≤
   room_or (inl less) room = omega (arith, some, less)
   room_or (inr lacks) room = room lacks
 
-  pub managed_answered : (op : Op) (r : Result Bool CallFault) → Manages b h op k w z r → RunsAlone w.pass z.pass → IsAnsweredWithRoom z r
+  pub managed_answered : (op : Op) (r : Result Bool CallFault) → Manages b h op k w z r → RunsAlone w.pass z.pass
+      → IsAnsweredWithRoom z r
   managed_answered op (Ok answer) m runs room = tt
   managed_answered op (Err fault.Busy) m runs room = let less = m.alone runs in absurd (omega (arith, some, less))
   managed_answered op (Err fault.Full) m runs room = tt
@@ -94,7 +105,8 @@ module _ (b : TreeView) (h : Options) (k : ℕ) (w z : WorkerView) (some : 1 ≤
   managed_answered op (Err fault.Pinned) m runs room = absurd m.answers.left
 
   -- an insert needs no room if nothing is pending
-  pub managed_insert : (r : Result Bool CallFault) → w.pending ≡ None → Manages b h Insert k w z r → RunsAlone w.pass z.pass → IsAnswered r
+  pub managed_insert : (r : Result Bool CallFault) → w.pending ≡ None → Manages b h Insert k w z r
+      → RunsAlone w.pass z.pass → IsAnswered r
   managed_insert (Ok answer) none m runs = tt
   managed_insert (Err fault.Busy) none m runs = let less = m.alone runs in absurd (omega (arith, some, less))
   managed_insert (Err fault.Full) none m runs = tt
@@ -103,17 +115,22 @@ module _ (b : TreeView) (h : Options) (k : ℕ) (w z : WorkerView) (some : 1 ≤
   managed_insert (Err fault.Pending) none m runs = none_there w.pending none m.answers.left.0
   managed_insert (Err fault.Pinned) none m runs = absurd m.answers.left
 
-pub both_managed : (b : TreeView) (h : Options) (k : ℕ) (w x z : WorkerView) (q r : Result Bool CallFault) → 1 ≤ h.tries → w.held ≡ None → w.pending ≡ None → SaysManaged Insert b h k w x q → SaysManaged Delete b h k x z r → RunsAlone w.pass z.pass → IsAnswered q × IsAnsweredWithRoom z r
+pub both_managed : (b : TreeView) (h : Options) (k : ℕ) (w x z : WorkerView) (q r : Result Bool CallFault)
+    → 1 ≤ h.tries → w.held ≡ None → w.pending ≡ None → SaysManaged Insert b h k w x q
+    → SaysManaged Delete b h k x z r → RunsAlone w.pass z.pass → IsAnswered q × IsAnsweredWithRoom z r
 both_managed b h k w x z q r some free none put taken runs =
     let first = was_managed Insert b h k w x q free put in
     let on = first.answers.on in
     let last = was_managed Delete b h k x z r on.held taken in
-    let past = last.answers.on.past in
-    (managed_insert b h k w x some q none first (runs_before w.pass x.pass z.pass on.same on.past past runs), managed_answered b h k x z some Delete r last (runs_later w.pass x.pass z.pass on.same on.past past runs))
+    let past = last.answers.on.past in (
+      managed_insert b h k w x some q none first (runs_before w.pass x.pass z.pass on.same on.past past runs),
+      managed_answered b h k x z some Delete r last (runs_later w.pass x.pass z.pass on.same on.past past runs),
+    )
 
 -- ---- a pop
 
-pub popped_alone : (b : TreeView) (h : Options) (w z : WorkerView) (r : Result (Option ℕ) CallFault) → 2 ≤ h.tries → w.held ≡ None → SaysManagedPop ◌<◌ b h w z r → RunsAlone w.pass z.pass → IsAnsweredWithRoom z r
+pub popped_alone : (b : TreeView) (h : Options) (w z : WorkerView) (r : Result (Option ℕ) CallFault) → 2 ≤ h.tries
+    → w.held ≡ None → SaysManagedPop ◌<◌ b h w z r → RunsAlone w.pass z.pass → IsAnsweredWithRoom z r
 popped_alone b h w z r some free (inl pinned) runs room = none_there w.held free pinned.0
 popped_alone b h w z r some free (inr did) runs room = by r did.1
   where
@@ -121,7 +138,8 @@ popped_alone b h w z r some free (inr did) runs room = by r did.1
     room_or (inl less) = absurd (omega (arith, some, less))
     room_or (inr lacks) = absurd (room lacks)
 
-    by : (r : Result (Option ℕ) CallFault) → Pops IsKey ◌<◌ (pop_rounds_bound h b.layout) h.tries (h.rounds + 1) w z r → IsAnswered r
+    by : (r : Result (Option ℕ) CallFault) → Pops IsKey ◌<◌ (pop_rounds_bound h b.layout) h.tries (h.rounds + 1) w z
+        r → IsAnswered r
     by (Ok taken) m = tt
     by (Err fault.Busy) m = let less = m.alone runs in absurd (omega (arith, some, less))
     by (Err fault.Full) m = tt

@@ -18,6 +18,8 @@ sent_back m i why o r pends is sent =
     (subst (λ (x : ResignReason). IsSentBack m i x o) pends sent)
 
 -- and it is the one that is taken again, so the remove that it finishes was pending
-pub finished_own : (m : MemberView) (i : ℕ) (r : ReturnedView) (y z : WorkerView) (finished : Bool) → IsSentBack m i because.Pending (Some r) → r.worker ≡ Some y → FinishTold y z (Ok finished) → finished ≡ true
+pub finished_own : (m : MemberView) (i : ℕ) (r : ReturnedView) (y z : WorkerView) (finished : Bool)
+    → IsSentBack m i because.Pending (Some r) → r.worker ≡ Some y → FinishTold y z (Ok finished) → finished ≡ true
 finished_own m i r y z true sent is told = refl
-finished_own m i r y z false (tree, w, resident, some, returned) is told = none_there y.pending told.0 (subst (λ (v : WorkerView). IsSome v.pending) (same_Some w y (sym returned.worker ∙ is)) some)
+finished_own m i r y z false (tree, w, resident, some, returned) is told = none_there y.pending told.0
+    (subst (λ (v : WorkerView). IsSome v.pending) (same_Some w y (sym returned.worker ∙ is)) some)

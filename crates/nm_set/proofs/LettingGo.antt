@@ -20,8 +20,10 @@ use Rattle.nm_set.specs.Posts.{IsTallyOf, pending_by}
 use Rattle.nm_set.specs.Seats.{IsLetGo, IsResident, IsStaying, MemberView, Stays}
 
 -- a worker of which no delete is pending has done as much as it has won
-rests : (w : WorkerView) → HasSeen w.pass.view → IsBetweenCalls w → w.pending ≡ None → pending_by w.pass.view.number w.pass.view.past ≡ 0
-rests w seen between none = ap (λ (o : Option NodeId). cond (is_some o) 1 0) (none_seen w.pass w.pending w.held seen between.stands none)
+rests : (w : WorkerView) → HasSeen w.pass.view → IsBetweenCalls w → w.pending ≡ None
+    → pending_by w.pass.view.number w.pass.view.past ≡ 0
+rests w seen between none = ap (λ (o : Option NodeId). cond (is_some o) 1 0)
+    (none_seen w.pass w.pending w.held seen between.stands none)
 
 -- nothing is pending of a worker that its caller holds
 held_rests : (p : PassView) (u : Option Unfinished) (e : Option ℕ) → IsAs p u e → IsSome e → u ≡ None
@@ -30,17 +32,22 @@ held_rests p (Some n) (Some epoch) is held = absurd is
 held_rests p (Some n) None is held = absurd (true≢false (sym held))
 
 -- an unpin wins nothing
-pub done_before : (p : Stamp) (w z : WorkerView) → HasSeen w.pass.view → HasSeen z.pass.view → IsBetweenCalls w → IsBetweenCalls z → IsLetGo w z → IsTallyOf z p → IsTallyOf w p
+pub done_before : (p : Stamp) (w z : WorkerView) → HasSeen w.pass.view → HasSeen z.pass.view → IsBetweenCalls w
+    → IsBetweenCalls z → IsLetGo w z → IsTallyOf z p → IsTallyOf w p
 done_before p w z seen sees between stands (inl (free, is)) t = subst (λ (u : WorkerView). IsTallyOf u p) is t
 done_before p w z seen sees between stands (inr (held, left)) t =
-    let adds = adds_these ((Leave, Departed) ∷ []) w.pass.view.log z.pass.view.log (ap (λ (q : PassView). q.view.log) left.step) in
+    let adds = adds_these ((Leave, Departed) ∷ []) w.pass.view.log z.pass.view.log
+    (ap (λ (q : PassView). q.view.log) left.step) in
     let l = adds.links in
     let f = adds.flags in
-    let links : won_links (part_of z.pass.view.number z.pass.view.past) ≡ won_links (part_of w.pass.view.number w.pass.view.past)
+    let links : won_links (part_of z.pass.view.number z.pass.view.past)
+    ≡ won_links (part_of w.pass.view.number w.pass.view.past)
     = ap won_links sees.is_part ∙ (omega (arith, l) ∙ ap won_links (sym seen.is_part)) in
-    let flags : won_flags (part_of z.pass.view.number z.pass.view.past) ≡ won_flags (part_of w.pass.view.number w.pass.view.past)
+    let flags : won_flags (part_of z.pass.view.number z.pass.view.past)
+    ≡ won_flags (part_of w.pass.view.number w.pass.view.past)
     = ap won_flags sees.is_part ∙ (omega (arith, f) ∙ ap won_flags (sym seen.is_part)) in
-    let pending = rests z sees stands left.pending ∙ sym (rests w seen between (held_rests w.pass w.pending w.held between.stands held)) in
+    let pending = rests z sees stands left.pending ∙ sym
+    (rests w seen between (held_rests w.pass w.pending w.held between.stands held)) in
     record {
       inserted = t.inserted ∙ ap capped links;
       removed = ap (λ (n : ℕ). p.removed + n) (sym pending) ∙ (t.removed ∙ ap capped flags);

@@ -1,5 +1,40 @@
 -- What managed calls leave, by what each part of them leaves.
-use Rattle.std.proofs.Common.{◌≡◌, ◌≢◌, ◌≤◌, ◌<◌, ◌⊎◌, inl, inr, true≢false, ℕ, zero, suc, ◌+◌, ◌*◌, ◌==◌, Bool, true, false, cond, not, ◌&&◌, ◌||◌, List, [], ◌∷◌, ◌++◌, append-nil, append_assoc, length, refl, sym, ap, subst, ◌∙◌, arith}
+use Rattle.std.proofs.Common.{
+  ◌≡◌,
+  ◌≢◌,
+  ◌≤◌,
+  ◌<◌,
+  ◌⊎◌,
+  inl,
+  inr,
+  true≢false,
+  ℕ,
+  zero,
+  suc,
+  ◌+◌,
+  ◌*◌,
+  ◌==◌,
+  Bool,
+  true,
+  false,
+  cond,
+  not,
+  ◌&&◌,
+  ◌||◌,
+  List,
+  [],
+  ◌∷◌,
+  ◌++◌,
+  append-nil,
+  append_assoc,
+  length,
+  refl,
+  sym,
+  ap,
+  subst,
+  ◌∙◌,
+  arith,
+}
 use Rattle.std.specs.Prelude.{drop, Option, Some, None, IsSome, Result, Ok, Err, IfOk, IfErr, is_ok}
 use Rattle.std.specs.List.{AllZip, prefix_len}
 use Rattle.std.proofs.Math.Nat.{suc-mul, zero-mul, add-mul, mul-zero, mul-le-mul_right}
@@ -36,7 +71,16 @@ use Rattle.nm_calls.specs.Won.{HasWon}
 use Rattle.nm_calls.specs.declared.deleting.Unfinished.{Unfinished}
 use Rattle.nm_calls.specs.declared.fault.CallFault.{CallFault}
 use Rattle.nm_calls.specs.declared.fault.CallFault.TheVariants as fault
-use Rattle.nm_tree.specs.Answers.{FailsAlone, FinishHasMoment, FinishTold, FoundNoSlot, FreesNone, HasMade, links_won, flags_won}
+use Rattle.nm_tree.specs.Answers.{
+  FailsAlone,
+  FinishHasMoment,
+  FinishTold,
+  FoundNoSlot,
+  FreesNone,
+  HasMade,
+  links_won,
+  flags_won,
+}
 use Rattle.nm_tree.proofs.Answered.{found_ever}
 use Rattle.nm_tree.specs.Calls.{LeavesHas, LeavesInsert, LeavesDelete, LeavesAdvance, LeavesCollect, SaysFinish}
 use Rattle.nm_tree.specs.Workers.{WorkerView, IsIdle, KeepsOtherQueues, waiting_in}
@@ -47,8 +91,45 @@ use Rattle.nm_set.specs.declared.fault.Fullness.{Fullness}
 use Rattle.nm_set.specs.declared.fault.InsertFault.{InsertFault}
 use Rattle.nm_set.specs.declared.fault.InsertFault.TheVariants as inserting
 use Rattle.nm_set.specs.declared.managed.Options.{Options}
-use Rattle.nm_set.specs.Managed.{Answers, Collects, FindsBehind, GoesOn, HasFoundElsewhere, HasSighted, IsLeft, FinishesFirst, IsFullIn, IsReadyIn, Manages, ManagesIn, MetInterference, OnlyLoses, Prepares, Since, WasFull, flags_told_by, interfering, links_told_by, of_insert, round_bound}
-use Rattle.nm_set.specs.Rounds.{AnswersIn, FinishesIn, Inserts, IsKnown, IsOnward, IsReady, IsRelieved, ManagesInsert, Removes, WereBusy, plain, rounds_bound, with_fullness}
+use Rattle.nm_set.specs.Managed.{
+  Answers,
+  Collects,
+  FindsBehind,
+  GoesOn,
+  HasFoundElsewhere,
+  HasSighted,
+  IsLeft,
+  FinishesFirst,
+  IsFullIn,
+  IsReadyIn,
+  Manages,
+  ManagesIn,
+  MetInterference,
+  OnlyLoses,
+  Prepares,
+  Since,
+  WasFull,
+  flags_told_by,
+  interfering,
+  links_told_by,
+  of_insert,
+  round_bound,
+}
+use Rattle.nm_set.specs.Rounds.{
+  AnswersIn,
+  FinishesIn,
+  Inserts,
+  IsKnown,
+  IsOnward,
+  IsReady,
+  IsRelieved,
+  ManagesInsert,
+  Removes,
+  WereBusy,
+  plain,
+  rounds_bound,
+  with_fullness,
+}
 
 -- nothing is not there
 pub none_there : {A B : Type 0} (x : Option A) → x ≡ None → IsSome x → B
@@ -79,9 +160,11 @@ lose_nothing o (h ∷ hs) = ((refl, inr (0, refl)), lose_nothing o hs)
 loses_both : (o : ℕ) (h g f : HeldQueue) → OnlyLoses o h g → OnlyLoses o g f → OnlyLoses o h f
 loses_both o h g f (same, inl e) (more, second) = (more ∙ same, inl e)
 loses_both o h g f (same, inr a) (more, inl e) = (more ∙ same, inl (sym same ∙ e))
-loses_both o h g f (same, inr (n, a)) (more, inr (m, b)) = (more ∙ same, inr (n + m, b ∙ (ap (λ (es : List Entry). drop m es) a ∙ drop-drop m n h.queue.items)))
+loses_both o h g f (same, inr (n, a)) (more, inr (m, b)) =
+    (more ∙ same, inr (n + m, b ∙ (ap (λ (es : List Entry). drop m es) a ∙ drop-drop m n h.queue.items)))
 
-pub lose_through : (o : ℕ) (hs gs fs : List HeldQueue) → OthersOnlyLose o hs gs → OthersOnlyLose o gs fs → OthersOnlyLose o hs fs
+pub lose_through : (o : ℕ) (hs gs fs : List HeldQueue) → OthersOnlyLose o hs gs → OthersOnlyLose o gs fs
+    → OthersOnlyLose o hs fs
 lose_through o [] [] [] a b = tt
 lose_through o [] [] (f ∷ fs) a b = absurd b
 lose_through o [] (g ∷ gs) fs a b = absurd a
@@ -103,7 +186,14 @@ pub lose_by_collect : (o epoch : ℕ) (hs gs : List HeldQueue) → HaveLost epoc
 lose_by_collect o epoch [] [] a = tt
 lose_by_collect o epoch [] (g ∷ gs) a = absurd a
 lose_by_collect o epoch (h ∷ hs) [] a = absurd a
-lose_by_collect o epoch (h ∷ hs) (g ∷ gs) a = ((a.0.origin, inr (prefix_len (is_ripe epoch) h.queue.items, a.0.items)), lose_by_collect o epoch hs gs a.1)
+lose_by_collect o epoch (h ∷ hs) (g ∷ gs) a = (
+  (
+    a.0.origin,
+    inr
+        (prefix_len (is_ripe epoch) h.queue.items, a.0.items),
+  ),
+  lose_by_collect o epoch hs gs a.1,
+)
 
 pub lose_same : (o : ℕ) (hs gs : List HeldQueue) → gs ≡ hs → OthersOnlyLose o hs gs
 lose_same o hs gs e = subst (OthersOnlyLose o hs) (sym e) (lose_nothing o hs)
@@ -120,36 +210,58 @@ follows_itself p = record { same = refl; past = seen_itself p }
 
 pub follows_then : (o p q : PassView) → Follows o p → Follows p q → Follows o q
 follows_then o p q first second = record {
-  same = second.same ∙ ap (λ (z : PassView). record z { view = record z.view { log = q.view.log; past = q.view.past; stores = q.view.stores } }) first.same;
+  same = second.same ∙ ap (λ (z : PassView). record z
+      { view = record z.view { log = q.view.log; past = q.view.past; stores = q.view.stores } }) first.same;
   past = seen_through o p q first.past second.past;
 }
 
 pub goes_then : {m n : ℕ} (w x z : WorkerView) → GoesOn m w x → GoesOn n x z → GoesOn (m + n) w z
 goes_then {m} {n} w x z a b =
-    let both = follows_then w.pass x.pass z.pass (record { same = a.same; past = a.past }) (record { same = b.same; past = b.past }) in
+    let both = follows_then w.pass x.pass z.pass (record { same = a.same; past = a.past })
+    (record { same = b.same; past = b.past }) in
     let number = ap (λ (p : PassView). p.view.number) a.same in
     let first = a.steps in
     let second = b.steps in
     record {
       same = both.same;
       past = both.past;
-      queues = lose_through w.pass.view.number w.queues x.queues z.queues a.queues (subst (λ (o : ℕ). OthersOnlyLose o x.queues z.queues) number b.queues);
+      queues = lose_through w.pass.view.number w.queues x.queues z.queues a.queues
+          (subst (λ (o : ℕ). OthersOnlyLose o x.queues z.queues) number b.queues);
       steps = omega (arith, first, second);
       held = b.held;
       fit = b.fit ∙ a.fit;
     }
 
 pub goes_more : (m n : ℕ) (w z : WorkerView) → m ≤ n → GoesOn m w z → GoesOn n w z
-goes_more m n w z le a = let few = a.steps in record { same = a.same; past = a.past; queues = a.queues; steps = omega (arith, few, le); held = a.held; fit = a.fit }
+goes_more m n w z le a = let few = a.steps in
+    record {
+      same = a.same;
+      past = a.past;
+      queues = a.queues;
+      steps = omega (arith, few, le);
+      held = a.held;
+      fit =
+          a.fit;
+    }
 
 pub goes_nowhere : (w : WorkerView) → w.held ≡ None → GoesOn 0 w w
-goes_nowhere w free = record { same = refl; past = seen_itself w.pass; queues = lose_nothing w.pass.view.number w.queues; steps = omega arith; held = free; fit = refl }
+goes_nowhere w free = record {
+  same = refl;
+  past = seen_itself w.pass;
+  queues = lose_nothing w.pass.view.number
+      w.queues;
+  steps = omega arith;
+  held = free;
+  fit = refl;
+}
 
 -- a call of the tree is in one round
-in_round : (t : ℕ) (L : Layout) (a b x : ℕ) → x ≡ t * (4 * reach L + 512) → b ≤ a + x + 6 * L.nodes + 10 → b ≤ a + (x + 7 * L.nodes + 2 * L.workers + 12)
+in_round : (t : ℕ) (L : Layout) (a b x : ℕ) → x ≡ t * (4 * reach L + 512) → b ≤ a + x + 6 * L.nodes + 10
+    → b ≤ a + (x + 7 * L.nodes + 2 * L.workers + 12)
 in_round t L a b x is few = omega (arith, few)
 
-in_tries : (t : ℕ) (L : Layout) (a b x : ℕ) → x ≡ t * (4 * reach L + 512) → b ≤ a + x + 10 → b ≤ a + (x + 7 * L.nodes + 2 * L.workers + 12)
+in_tries : (t : ℕ) (L : Layout) (a b x : ℕ) → x ≡ t * (4 * reach L + 512) → b ≤ a + x + 10
+    → b ≤ a + (x + 7 * L.nodes + 2 * L.workers + 12)
 in_tries t L a b x is few = omega (arith, few)
 
 pub goes_advance : (m : ℕ) (w z : WorkerView) → {a : _} → w.held ≡ None → LeavesAdvance m w z a → GoesOn (m + 1) w z
@@ -213,7 +325,8 @@ delete_flags (Err fault.Pending) = refl
 delete_flags (Err fault.Pinned) = refl
 
 -- a call that is busy, or finds an earlier remove pending, has won nothing
-wins_none : (op : Op) (f : CallFault) → f ≢ fault.Unfinished → (links_told_by op (Err f) ≡ 0) × (flags_told_by op (Err f) ≡ 0)
+wins_none : (op : Op) (f : CallFault) → f ≢ fault.Unfinished
+    → (links_told_by op (Err f) ≡ 0) × (flags_told_by op (Err f) ≡ 0)
 wins_none Has f other = (refl, refl)
 wins_none Insert f other = (refl, refl)
 wins_none Delete fault.Busy other = (refl, refl)
@@ -226,31 +339,45 @@ wins_none Delete fault.Pinned other = (refl, refl)
 -- ---- between two moments of a pass
 
 module _ (o p q z : PassView) (first : Follows o p) (last : Follows q z) where
-  turns_from : (turns : List Turn) → q.view.past ≡ p.view.past ++ turns → z.view.past ≡ o.view.past ++ (first.past.goes_on.more ++ (turns ++ last.past.goes_on.more))
-  turns_from turns is = last.past.goes_on.is ∙ (ap (λ (l : List Turn). l ++ last.past.goes_on.more) (is ∙ ap (λ (l : List Turn). l ++ turns) first.past.goes_on.is)
-      ∙ (append_assoc (o.view.past ++ first.past.goes_on.more) turns last.past.goes_on.more ∙ append_assoc o.view.past first.past.goes_on.more (turns ++ last.past.goes_on.more)))
+  turns_from : (turns : List Turn) → q.view.past ≡ p.view.past ++ turns
+      → z.view.past ≡ o.view.past ++ (first.past.goes_on.more ++ (turns ++ last.past.goes_on.more))
+  turns_from turns is = last.past.goes_on.is ∙ (ap (λ (l : List Turn). l ++ last.past.goes_on.more)
+      (is ∙ ap (λ (l : List Turn). l ++ turns) first.past.goes_on.is)
+      ∙ (append_assoc (o.view.past ++ first.past.goes_on.more) turns last.past.goes_on.more
+      ∙ append_assoc o.view.past first.past.goes_on.more (turns ++ last.past.goes_on.more)))
 
   -- what holds of turns, and of more turns before and after them, since an earlier moment and until a
   -- later one
-  pub since_within : (P : List Turn → Type 0) → ((xs ys zs : List Turn) → P ys → P (xs ++ (ys ++ zs))) → Since p q P → Since o z P
-  since_within P grows (turns, is, so) = (first.past.goes_on.more ++ (turns ++ last.past.goes_on.more), turns_from turns is, grows first.past.goes_on.more turns last.past.goes_on.more so)
+  pub since_within : (P : List Turn → Type 0) → ((xs ys zs : List Turn) → P ys → P (xs ++ (ys ++ zs))) → Since p q P
+      → Since o z P
+  since_within P grows (turns, is, so) = (
+    first.past.goes_on.more
+        ++ (turns ++ last.past.goes_on.more),
+    turns_from turns is,
+    grows first.past.goes_on.more turns
+        last.past.goes_on.more so,
+  )
 
-made_within : (w : ℕ) (e : Event) (r : Reply) (xs ys zs : List Turn) → HasMade w ys e r → HasMade w (xs ++ (ys ++ zs)) e r
+made_within : (w : ℕ) (e : Event) (r : Reply) (xs ys zs : List Turn) → HasMade w ys e r
+    → HasMade w (xs ++ (ys ++ zs)) e r
 made_within w e r xs ys zs made = Contains-append_right xs (ys ++ zs) _ (Contains-append_left ys zs _ made)
 
 sighted_within : (w epoch : ℕ) (xs ys zs : List Turn) → HasSighted w ys epoch → HasSighted w (xs ++ (ys ++ zs)) epoch
 sighted_within w epoch xs ys zs (r, is, made) = (r, is, made_within w _ r xs ys zs made)
 
 found_within : (w i : ℕ) (xs ys zs : List Turn) → HasFoundElsewhere w i ys → HasFoundElsewhere w i (xs ++ (ys ++ zs))
-found_within w i xs ys zs (other, epoch, at, apart, sighted, made) = (other, epoch, at, apart, sighted_within w epoch xs ys zs sighted, made_within w _ _ xs ys zs made)
+found_within w i xs ys zs (other, epoch, at, apart, sighted, made) =
+    (other, epoch, at, apart, sighted_within w epoch xs ys zs sighted, made_within w _ _ xs ys zs made)
 
-moved_within : (times : ℕ) (xs ys zs : List Turn) → times ≤ number_of moves ys → times ≤ number_of moves (xs ++ (ys ++ zs))
+moved_within : (times : ℕ) (xs ys zs : List Turn) → times ≤ number_of moves ys
+    → times ≤ number_of moves (xs ++ (ys ++ zs))
 moved_within times xs ys zs some =
     let front = number-append moves xs (ys ++ zs) in
     let rest = number-append moves ys zs in
     omega (arith, some, front, rest)
 
-finds_within : (w : ℕ) (behind : Option ℕ) (xs ys zs : List Turn) → FindsBehind w behind ys → FindsBehind w behind (xs ++ (ys ++ zs))
+finds_within : (w : ℕ) (behind : Option ℕ) (xs ys zs : List Turn) → FindsBehind w behind ys
+    → FindsBehind w behind (xs ++ (ys ++ zs))
 finds_within w (Some i) xs ys zs found = found_within w i xs ys zs found
 finds_within w None xs ys zs (inl sighted) = inl (sighted_within w _ xs ys zs sighted)
 finds_within w None xs ys zs (inr moved) = inr (moved_within 2 xs ys zs moved)
@@ -258,22 +385,32 @@ finds_within w None xs ys zs (inr moved) = inr (moved_within 2 xs ys zs moved)
 pub number_of_pass : (p q : PassView) → IsSamePass p q → q.view.number ≡ p.view.number
 number_of_pass p q same = ap (λ (z : PassView). z.view.number) same
 
-pub finds_since : (o p q z : PassView) (behind : Option ℕ) → Follows o p → Follows q z → Since p q (FindsBehind p.view.number behind) → Since o z (FindsBehind o.view.number behind)
+pub finds_since : (o p q z : PassView) (behind : Option ℕ) → Follows o p → Follows q z
+    → Since p q (FindsBehind p.view.number behind) → Since o z (FindsBehind o.view.number behind)
 finds_since o p q z behind first last found =
     subst (λ (w : ℕ). Since o z (FindsBehind w behind)) (number_of_pass o p first.same)
     (since_within o p q z first last (FindsBehind p.view.number behind) (finds_within p.view.number behind) found)
 
 -- a collection serves a call that began before it
-pub collects_since : (m : ℕ) (w x : WorkerView) (y q : PassView) → IsKnown w → IsKnown x → GoesOn m w x → HasSeenAllOf y x.pass → Follows y q → Collects x y → Collects w q
-collects_since m w x y q known later on first last (inl found) = inl (subst (λ (v : ℕ). Since w.pass q (HeldBack v)) (number_of_pass w.pass x.pass on.same) (since_within w.pass x.pass y q (record { same = on.same; past = on.past }) last (HeldBack x.pass.view.number) grows found))
+pub collects_since : (m : ℕ) (w x : WorkerView) (y q : PassView) → IsKnown w → IsKnown x → GoesOn m w x
+    → HasSeenAllOf y x.pass → Follows y q → Collects x y → Collects w q
+collects_since m w x y q known later on first last (inl found) = inl
+    (subst (λ (v : ℕ). Since w.pass q (HeldBack v)) (number_of_pass w.pass x.pass on.same)
+    (since_within w.pass x.pass y q (record { same = on.same; past = on.past }) last (HeldBack x.pass.view.number)
+    grows found))
   where
     HeldBack : ℕ → List Turn → Type 0
     HeldBack v ts = ((i : ℕ) × HasFoundElsewhere v i ts) ⊎ HasSighted v ts last_number
 
-    grows : (xs ys zs : List Turn) → ((i : ℕ) × HasFoundElsewhere x.pass.view.number i ys) ⊎ HasSighted x.pass.view.number ys last_number → ((i : ℕ) × HasFoundElsewhere x.pass.view.number i (xs ++ (ys ++ zs))) ⊎ HasSighted x.pass.view.number (xs ++ (ys ++ zs)) last_number
+    grows : (xs ys zs : List Turn) → ((i : ℕ) × HasFoundElsewhere x.pass.view.number i ys)
+        ⊎ HasSighted x.pass.view.number ys last_number
+        → ((i : ℕ) × HasFoundElsewhere x.pass.view.number i (xs ++ (ys ++ zs)))
+        ⊎ HasSighted x.pass.view.number (xs ++ (ys ++ zs)) last_number
     grows xs ys zs (inl (i, at)) = inl (i, found_within x.pass.view.number i xs ys zs at)
     grows xs ys zs (inr sighted) = inr (sighted_within x.pass.view.number last_number xs ys zs sighted)
-collects_since m w x y q known later on first last (inr frees) = inr (λ h there e waited. freed_longer q.view.past y.view.past e.node last.past.goes_on (freed_now w x y m known later on first frees h there e waited))
+collects_since m w x y q known later on first last (inr frees) = inr
+    (λ h there e waited. freed_longer q.view.past y.view.past e.node last.past.goes_on
+    (freed_now w x y m known later on first frees h there e waited))
 
 -- ---- interference
 
@@ -290,24 +427,32 @@ module _ (op : Op) where
   pub met_nothing : (p : PassView) → MetInterference op p p 0
   met_nothing p = ([], sym (append-nil p.view.past), omega arith)
 
-  pub met_then : (m n : ℕ) (p q r : PassView) → q.view.number ≡ p.view.number → MetInterference op p q m → MetInterference op q r n → MetInterference op p r (m + n)
+  pub met_then : (m n : ℕ) (p q r : PassView) → q.view.number ≡ p.view.number → MetInterference op p q m
+      → MetInterference op q r n → MetInterference op p r (m + n)
   met_then m n p q r number (xs, first, some) (ys, second, many) =
       let more = subst (λ (v : ℕ). n ≤ count v ys) number many in
-      let whole = adds p.view.number xs ys in
-      (xs ++ ys, second ∙ (ap (λ (ts : List Turn). ts ++ ys) first ∙ append_assoc p.view.past xs ys), omega (arith, some, more, whole))
+      let whole = adds p.view.number xs ys in (
+        xs ++ ys,
+        second ∙ (ap (λ (ts : List Turn). ts ++ ys) first ∙ append_assoc p.view.past xs ys),
+        omega
+            (arith, some, more, whole),
+      )
 
   -- what came before takes nothing away
   pub met_since : (n : ℕ) (p q r : PassView) → Follows p q → MetInterference op q r n → MetInterference op p r n
-  met_since n p q r on met = subst (MetInterference op p r) (omega arith) (met_then 0 n p q r (number_of_pass p q on.same) (on.past.goes_on.more, on.past.goes_on.is, omega arith) met)
+  met_since n p q r on met = subst (MetInterference op p r) (omega arith)
+      (met_then 0 n p q r (number_of_pass p q on.same) (on.past.goes_on.more, on.past.goes_on.is, omega arith) met)
 
 -- ---- rounds of a pop
 
 -- turns of one kind are of another one too
-fewer_of : (p q : Turn → Bool) → ((t : Turn) → p t ≡ true → q t ≡ true) → (ts : List Turn) → number_of p ts ≤ number_of q ts
+fewer_of : (p q : Turn → Bool) → ((t : Turn) → p t ≡ true → q t ≡ true) → (ts : List Turn)
+    → number_of p ts ≤ number_of q ts
 fewer_of p q each [] = omega arith
 fewer_of p q each (t ∷ ts) = by (p t) (q t) (each t) (fewer_of p q each ts)
   where
-    by : (a b : Bool) → (a ≡ true → b ≡ true) → number_of p ts ≤ number_of q ts → cond a 1 0 + number_of p ts ≤ cond b 1 0 + number_of q ts
+    by : (a b : Bool) → (a ≡ true → b ≡ true) → number_of p ts ≤ number_of q ts
+        → cond a 1 0 + number_of p ts ≤ cond b 1 0 + number_of q ts
     by true true is rest = omega (arith, rest)
     by true false is rest = absurd (true≢false (sym (is refl)))
     by false b is rest = by' b rest
@@ -318,7 +463,8 @@ fewer_of p q each (t ∷ ts) = by (p t) (q t) (each t) (fewer_of p q each ts)
 
 -- a cut interferes, and so does a change by others of where an edge leads
 cut_interferes : (w : ℕ) (t : Turn) → cuts_on t.event t.outcome ≡ true → interferes w t ≡ true
-cut_interferes w t is = by (t.worker == w) (links_on t.event t.outcome) (flags_on t.event t.outcome) (cuts_on t.event t.outcome) (tags_on t.event t.outcome) is
+cut_interferes w t is = by (t.worker == w) (links_on t.event t.outcome) (flags_on t.event t.outcome)
+    (cuts_on t.event t.outcome) (tags_on t.event t.outcome) is
   where
     by : (o a b c d : Bool) → c ≡ true → cond o c (a || (b || (c || d))) ≡ true
     by true a b c d is = is
@@ -328,7 +474,8 @@ cut_interferes w t is = by (t.worker == w) (links_on t.event t.outcome) (flags_o
     by false false false false d is = absurd (true≢false (sym is))
 
 reshape_interferes : (w : ℕ) (t : Turn) → reshapes_of_others w t ≡ true → interferes w t ≡ true
-reshape_interferes w t is = by (t.worker == w) (links_on t.event t.outcome) (flags_on t.event t.outcome) (cuts_on t.event t.outcome) (tags_on t.event t.outcome) is
+reshape_interferes w t is = by (t.worker == w) (links_on t.event t.outcome) (flags_on t.event t.outcome)
+    (cuts_on t.event t.outcome) (tags_on t.event t.outcome) is
   where
     by : (o a b c d : Bool) → (not o && (a || c)) ≡ true → cond o c (a || (b || (c || d))) ≡ true
     by true a b c d is = absurd (true≢false (sym is))
@@ -340,12 +487,31 @@ reshape_interferes w t is = by (t.worker == w) (links_on t.event t.outcome) (fla
 -- a call that finds a key and was busy met interference, and so did one that came too late
 pub near_met : (p q : PassView) (tries : ℕ) → 2 ≤ tries → NearWasBusy p q tries → MetInterference Delete p q 1
 near_met p q tries two (inl (inl none)) = absurd (omega (arith, two, none))
-near_met p q tries two (inl (inr (inl moved))) = (moved.turns, moved.is, let some = moved.moved in omega (arith, some, two))
-near_met p q tries two (inl (inr (inr (shape, r)))) = (r.turns, r.is, let some = r.reshaped in let more = fewer_of (reshapes_of_others p.view.number) (interferes p.view.number) (reshape_interferes p.view.number) r.turns in omega (arith, some, more))
-near_met p q tries two (inr (times, few, r)) = (r.turns, r.is, let some = r.reshaped in let more = fewer_of (reshapes_of_others p.view.number) (interferes p.view.number) (reshape_interferes p.view.number) r.turns in omega (arith, two, few, some, more))
+near_met p q tries two (inl (inr (inl moved))) =
+    (moved.turns, moved.is, let some = moved.moved in omega (arith, some, two))
+near_met p q tries two (inl (inr (inr (shape, r)))) = (
+  r.turns,
+  r.is,
+  let some = r.reshaped in
+      let more = fewer_of (reshapes_of_others p.view.number) (interferes p.view.number)
+      (reshape_interferes p.view.number) r.turns in omega (arith, some, more),
+)
+near_met p q tries two (inr (times, few, r)) = (
+  r.turns,
+  r.is,
+  let some = r.reshaped in
+      let more = fewer_of (reshapes_of_others p.view.number) (interferes p.view.number)
+      (reshape_interferes p.view.number) r.turns in omega (arith, two, few, some, more),
+)
 
-pub late_met : (p q : PassView) (turns : List Turn) → q.view.past ≡ p.view.past ++ turns → 1 ≤ cuts_in turns → MetInterference Delete p q 1
-late_met p q turns is some = (turns, is, let more = fewer_of (λ t. cuts_on t.event t.outcome) (interferes p.view.number) (cut_interferes p.view.number) turns in omega (arith, some, more))
+pub late_met : (p q : PassView) (turns : List Turn) → q.view.past ≡ p.view.past ++ turns → 1 ≤ cuts_in turns
+    → MetInterference Delete p q 1
+late_met p q turns is some = (
+  turns,
+  is,
+  let more = fewer_of (λ t. cuts_on t.event t.outcome) (interferes p.view.number) (cut_interferes p.view.number)
+      turns in omega (arith, some, more),
+)
 
 pub met_fewer : (op : Op) (m n : ℕ) (p q : PassView) → n ≤ m → MetInterference op p q m → MetInterference op p q n
 met_fewer op m n p q few (turns, is, some) = (turns, is, omega (arith, few, some))
@@ -355,9 +521,15 @@ met_fewer op m n p q few (turns, is, some) = (turns, is, omega (arith, few, some
 look_met : (p q : PassView) (times : ℕ) → HasSeenAllOf q p → WasBusy p q times → MetInterference Has p q times
 look_met p q times past (inl none) = (past.goes_on.more, past.goes_on.is, omega (arith, none))
 look_met p q times past (inr (inl moved)) = (moved.turns, moved.is, let some = moved.moved in omega (arith, some))
-look_met p q times past (inr (inr reshaped)) = (reshaped.turns, reshaped.is, let some = reshaped.reshaped in omega (arith, some))
+look_met p q times past (inr (inr reshaped)) = (
+  reshaped.turns,
+  reshaped.is,
+  let some = reshaped.reshaped in
+      omega (arith, some),
+)
 
-insert_met : (p q : PassView) (times : ℕ) → HasSeenAllOf q p → ChangeWasBusy p q times → MetInterference Insert p q times
+insert_met : (p q : PassView) (times : ℕ) → HasSeenAllOf q p → ChangeWasBusy p q times
+    → MetInterference Insert p q times
 insert_met p q times past (inl none) = (past.goes_on.more, past.goes_on.is, omega (arith, none))
 insert_met p q times past (inr (inl moved)) = (moved.turns, moved.is, let some = moved.moved in omega (arith, some))
 insert_met p q times past (inr (inr lost)) = (lost.turns, lost.is, let some = lost.interfered in omega (arith, some))
@@ -365,10 +537,12 @@ insert_met p q times past (inr (inr lost)) = (lost.turns, lost.is, let some = lo
 -- ---- a worker that runs alone
 
 -- it does so after what came first
-runs_on : {m n : ℕ} (w x z : WorkerView) → GoesOn m w x → GoesOn n x z → RunsAlone w.pass z.pass → RunsAlone x.pass z.pass
+runs_on : {m n : ℕ} (w x z : WorkerView) → GoesOn m w x → GoesOn n x z → RunsAlone w.pass z.pass
+    → RunsAlone x.pass z.pass
 runs_on w x z first last runs = runs_later w.pass x.pass z.pass first.same first.past last.past runs
 
-fails_busy : (first all t : ℕ) (z : WorkerView) (r : Result Bool CallFault) → r ≡ busy → IfErr r (FailsAlone first all t z) → t < first
+fails_busy : (first all t : ℕ) (z : WorkerView) (r : Result Bool CallFault) → r ≡ busy
+    → IfErr r (FailsAlone first all t z) → t < first
 fails_busy first all t z r is fails = subst (λ (q : Result Bool CallFault). IfErr q (FailsAlone first all t z)) is fails
 
 none_each : (n t : ℕ) → 1 ≤ n → n * t ≡ 0 → t ≡ 0
@@ -380,7 +554,8 @@ all_none n t is = ap (λ (x : ℕ). n * x) is ∙ mul-zero n
 
 -- ---- one call of the tree
 
-has_left : (L : Layout) (t k : ℕ) (w z : WorkerView) (r : Result Bool CallFault) → w.pending ≡ None → LeavesHas L t k w z r → IsLeft Has k w z r
+has_left : (L : Layout) (t k : ℕ) (w z : WorkerView) (r : Result Bool CallFault) → w.pending ≡ None
+    → LeavesHas L t k w z r → IsLeft Has k w z r
 has_left L t k w z (Ok answer) none l = l.says.told.1
 has_left L t k w z (Err fault.Busy) none l = l.says.told.1
 has_left L t k w z (Err fault.Pending) none l = none_there w.pending none l.says.told.0
@@ -389,7 +564,8 @@ has_left L t k w z (Err fault.NoMemory) none l = absurd l.says.told
 has_left L t k w z (Err fault.Unfinished) none l = absurd l.says.told
 has_left L t k w z (Err fault.Pinned) none l = absurd l.says.told
 
-insert_left : (L : Layout) (t k : ℕ) (w z : WorkerView) (r : Result Bool CallFault) → w.pending ≡ None → LeavesInsert L t k w z r → IsLeft Insert k w z r
+insert_left : (L : Layout) (t k : ℕ) (w z : WorkerView) (r : Result Bool CallFault) → w.pending ≡ None
+    → LeavesInsert L t k w z r → IsLeft Insert k w z r
 insert_left L t k w z (Ok answer) none l = l.says.told.1
 insert_left L t k w z (Err fault.Busy) none l = l.says.told.1
 insert_left L t k w z (Err fault.Pending) none l = none_there w.pending none l.says.told.0
@@ -398,7 +574,8 @@ insert_left L t k w z (Err fault.NoMemory) none l = (λ no. (let which = no in c
 insert_left L t k w z (Err fault.Unfinished) none l = absurd l.says.told
 insert_left L t k w z (Err fault.Pinned) none l = absurd l.says.told
 
-delete_left : (L : Layout) (t k : ℕ) (w z : WorkerView) (r : Result Bool CallFault) → w.pending ≡ None → LeavesDelete L t k w z r → IsLeft Delete k w z r
+delete_left : (L : Layout) (t k : ℕ) (w z : WorkerView) (r : Result Bool CallFault) → w.pending ≡ None
+    → LeavesDelete L t k w z r → IsLeft Delete k w z r
 delete_left L t k w z (Ok answer) none l = l.says.told.1
 delete_left L t k w z (Err fault.Busy) none l = l.says.told.1
 delete_left L t k w z (Err fault.Pending) none l = none_there w.pending none l.says.told.0
@@ -411,7 +588,8 @@ delete_left L t k w z (Err fault.Pinned) none l = absurd l.says.told
 abbrev AnswersOnce : Layout → ℕ → Op → ℕ → WorkerView → WorkerView → Result Bool CallFault → Type 0
 AnswersOnce L t op k = Answers op k (round_bound t L) t
 
-pub has_answers : (L : Layout) (t k : ℕ) (w z : WorkerView) (r : Result Bool CallFault) → w.pending ≡ None → LeavesHas L t k w z r → AnswersOnce L t Has k w z r
+pub has_answers : (L : Layout) (t k : ℕ) (w z : WorkerView) (r : Result Bool CallFault) → w.pending ≡ None
+    → LeavesHas L t k w z r → AnswersOnce L t Has k w z r
 has_answers L t k w z r none l = record {
   moment = l.says.moment;
   left = has_left L t k w z r none l;
@@ -428,7 +606,8 @@ has_answers L t k w z r none l = record {
   alone = λ runs is. (let none' = fails_busy 1 1 t z r is (l.alone runs.alone) in omega (arith, none'));
 }
 
-pub insert_answers : (L : Layout) (t k : ℕ) (w z : WorkerView) (r : Result Bool CallFault) → w.pending ≡ None → LeavesInsert L t k w z r → AnswersOnce L t Insert k w z r
+pub insert_answers : (L : Layout) (t k : ℕ) (w z : WorkerView) (r : Result Bool CallFault) → w.pending ≡ None
+    → LeavesInsert L t k w z r → AnswersOnce L t Insert k w z r
 insert_answers L t k w z r none l = record {
   moment = l.says.moment;
   left = insert_left L t k w z r none l;
@@ -445,7 +624,8 @@ insert_answers L t k w z r none l = record {
   alone = λ runs is. (let none' = fails_busy 1 1 t z r is (l.alone runs) in omega (arith, none'));
 }
 
-pub delete_answers : (L : Layout) (t k : ℕ) (w z : WorkerView) (r : Result Bool CallFault) → w.pending ≡ None → LeavesDelete L t k w z r → AnswersOnce L t Delete k w z r
+pub delete_answers : (L : Layout) (t k : ℕ) (w z : WorkerView) (r : Result Bool CallFault) → w.pending ≡ None
+    → LeavesDelete L t k w z r → AnswersOnce L t Delete k w z r
 delete_answers L t k w z r none l = record {
   moment = l.says.moment;
   left = delete_left L t k w z r none l;
@@ -463,7 +643,8 @@ delete_answers L t k w z r none l = record {
 }
 
 -- unless `Pending` is returned, nothing was pending
-pub had_none_has : (L : Layout) (t k : ℕ) (w z : WorkerView) (r : Result Bool CallFault) → r ≢ Err fault.Pending → LeavesHas L t k w z r → w.pending ≡ None
+pub had_none_has : (L : Layout) (t k : ℕ) (w z : WorkerView) (r : Result Bool CallFault) → r ≢ Err fault.Pending
+    → LeavesHas L t k w z r → w.pending ≡ None
 had_none_has L t k w z (Ok answer) other l = l.says.told.0
 had_none_has L t k w z (Err fault.Busy) other l = l.says.told.0
 had_none_has L t k w z (Err fault.Pending) other l = absurd (other refl)
@@ -472,7 +653,8 @@ had_none_has L t k w z (Err fault.NoMemory) other l = absurd l.says.told
 had_none_has L t k w z (Err fault.Unfinished) other l = absurd l.says.told
 had_none_has L t k w z (Err fault.Pinned) other l = absurd l.says.told
 
-pub had_none_insert : (L : Layout) (t k : ℕ) (w z : WorkerView) (r : Result Bool CallFault) → r ≢ Err fault.Pending → LeavesInsert L t k w z r → w.pending ≡ None
+pub had_none_insert : (L : Layout) (t k : ℕ) (w z : WorkerView) (r : Result Bool CallFault) → r ≢ Err fault.Pending
+    → LeavesInsert L t k w z r → w.pending ≡ None
 had_none_insert L t k w z (Ok answer) other l = l.says.told.0
 had_none_insert L t k w z (Err fault.Busy) other l = l.says.told.0
 had_none_insert L t k w z (Err fault.Pending) other l = absurd (other refl)
@@ -481,7 +663,8 @@ had_none_insert L t k w z (Err fault.NoMemory) other l = l.says.told.0.0
 had_none_insert L t k w z (Err fault.Unfinished) other l = absurd l.says.told
 had_none_insert L t k w z (Err fault.Pinned) other l = absurd l.says.told
 
-pub had_none_delete : (L : Layout) (t k : ℕ) (w z : WorkerView) (r : Result Bool CallFault) → r ≢ Err fault.Pending → LeavesDelete L t k w z r → w.pending ≡ None
+pub had_none_delete : (L : Layout) (t k : ℕ) (w z : WorkerView) (r : Result Bool CallFault) → r ≢ Err fault.Pending
+    → LeavesDelete L t k w z r → w.pending ≡ None
 had_none_delete L t k w z (Ok answer) other l = l.says.told.0
 had_none_delete L t k w z (Err fault.Busy) other l = l.says.told.0
 had_none_delete L t k w z (Err fault.Pending) other l = absurd (other refl)
@@ -493,7 +676,8 @@ had_none_delete L t k w z (Err fault.Pinned) other l = absurd l.says.told
 -- ---- calls in a row
 
 -- in more steps; and after an earlier moment, since which nothing was won
-pub answers_more : (op : Op) (k m n s t : ℕ) (w z : WorkerView) (r : Result Bool CallFault) → m ≤ n → (r ≡ busy → s ≡ t) → Answers op k m s w z r → Answers op k n t w z r
+pub answers_more : (op : Op) (k m n s t : ℕ) (w z : WorkerView) (r : Result Bool CallFault) → m ≤ n
+    → (r ≡ busy → s ≡ t) → Answers op k m s w z r → Answers op k n t w z r
 answers_more op k m n s t w z r le all a = record {
   moment = a.moment;
   left = a.left;
@@ -503,7 +687,8 @@ answers_more op k m n s t w z r le all a = record {
   alone = λ runs is. sym (all is) ∙ a.alone runs is;
 }
 
-moment_if : (o p q : PassView) (op : Op) (k : ℕ) (r : Result Bool CallFault) → HasSeenAllOf p o → IfOk r (AnswerHasMoment p q op k) → IfOk r (AnswerHasMoment o q op k)
+moment_if : (o p q : PassView) (op : Op) (k : ℕ) (r : Result Bool CallFault) → HasSeenAllOf p o
+    → IfOk r (AnswerHasMoment p q op k) → IfOk r (AnswerHasMoment o q op k)
 moment_if o p q op k (Ok answer) past m = moment_since o p q op k answer past m
 moment_if o p q op k (Err f) past m = tt
 
@@ -515,12 +700,15 @@ found_since o p q past (turns, is, finds) = (
   λ s low high. by s (finds s low high),
 )
   where
-    by : (s : ℕ) → HasMade q.view.number turns (Claim s) Taken ⊎ HasMade q.view.number turns (Look s Birth) (BirthIs last_number)
-        → HasMade q.view.number (past.goes_on.more ++ turns) (Claim s) Taken ⊎ HasMade q.view.number (past.goes_on.more ++ turns) (Look s Birth) (BirthIs last_number)
+    by : (s : ℕ) → HasMade q.view.number turns (Claim s) Taken
+        ⊎ HasMade q.view.number turns (Look s Birth) (BirthIs last_number)
+        → HasMade q.view.number (past.goes_on.more ++ turns) (Claim s) Taken
+        ⊎ HasMade q.view.number (past.goes_on.more ++ turns) (Look s Birth) (BirthIs last_number)
     by s (inl made) = inl (Contains-append_right past.goes_on.more turns _ made)
     by s (inr made) = inr (Contains-append_right past.goes_on.more turns _ made)
 
-pub left_since : {A : Type 0} (op : Op) (k : ℕ) (w x z : WorkerView) (r : Result A CallFault) → HasSeenAllOf x.pass w.pass → x.pending ≡ None → IsLeft op k x z r → IsLeft op k w z r
+pub left_since : {A : Type 0} (op : Op) (k : ℕ) (w x z : WorkerView) (r : Result A CallFault)
+    → HasSeenAllOf x.pass w.pass → x.pending ≡ None → IsLeft op k x z r → IsLeft op k w z r
 left_since op k w x z (Ok answer) past none left = left
 left_since op k w x z (Err fault.Busy) past none left = left
 left_since op k w x z (Err fault.Full) past none left = (left.0, left.1, found_since w.pass x.pass z.pass past left.2)
@@ -529,7 +717,9 @@ left_since op k w x z (Err fault.Unfinished) past none left = left
 left_since op k w x z (Err fault.Pending) past none left = none_there x.pending none left.0
 left_since op k w x z (Err fault.Pinned) past none left = absurd left
 
-pub answers_since : (op : Op) (k m n s t : ℕ) (w x z : WorkerView) (r : Result Bool CallFault) → IsOnward m w x → (r ≡ busy → MetInterference op w.pass z.pass t) → (RunsAlone w.pass z.pass → r ≡ busy → t ≡ 0) → Answers op k n s x z r → Answers op k (m + n) t w z r
+pub answers_since : (op : Op) (k m n s t : ℕ) (w x z : WorkerView) (r : Result Bool CallFault) → IsOnward m w x
+    → (r ≡ busy → MetInterference op w.pass z.pass t) → (RunsAlone w.pass z.pass → r ≡ busy → t ≡ 0)
+    → Answers op k n s x z r → Answers op k (m + n) t w z r
 answers_since op k m n s t w x z r first met alone a = record {
   moment = moment_if w.pass x.pass z.pass op k r first.on.past a.moment;
   left = left_since op k w x z r first.on.past first.none a.left;
@@ -540,8 +730,10 @@ answers_since op k m n s t w x z r first met alone a = record {
 }
 
 -- and the same where only the last calls count
-pub answers_after : (op : Op) (k m n t : ℕ) (w x z : WorkerView) (r : Result Bool CallFault) → IsOnward m w x → Answers op k n t x z r → Answers op k (m + n) t w z r
-answers_after op k m n t w x z r first a = answers_since op k m n t t w x z r first (λ is. met_since op t w.pass x.pass z.pass (record { same = first.on.same; past = first.on.past }) (a.busy is))
+pub answers_after : (op : Op) (k m n t : ℕ) (w x z : WorkerView) (r : Result Bool CallFault) → IsOnward m w x
+    → Answers op k n t x z r → Answers op k (m + n) t w z r
+answers_after op k m n t w x z r first a = answers_since op k m n t t w x z r first
+    (λ is. met_since op t w.pass x.pass z.pass (record { same = first.on.same; past = first.on.past }) (a.busy is))
     (λ runs is. a.alone (runs_on w x z first.on a.on runs) is) a
 
 pub onward_itself : (w : WorkerView) → w.pending ≡ None → w.held ≡ None → IsOnward 0 w w
@@ -551,7 +743,12 @@ pub onward_more : (m n : ℕ) (w z : WorkerView) → m ≤ n → IsOnward m w z 
 onward_more m n w z le a = record { on = goes_more m n w z le a.on; none = a.none; won = a.won }
 
 pub onward_then : (m n : ℕ) (w x z : WorkerView) → IsOnward m w x → IsOnward n x z → IsOnward (m + n) w z
-onward_then m n w x z a b = record { on = goes_then w x z a.on b.on; none = b.none; won = wins_after 0 0 w x z a.won b.won }
+onward_then m n w x z a b = record {
+  on = goes_then w x z a.on b.on;
+  none = b.none;
+  won = wins_after 0 0 w x z a.won
+      b.won;
+}
 
 -- a call that was busy
 unlike : fault.Busy ≢ fault.Unfinished
@@ -560,7 +757,12 @@ unlike is = let which = is in cc
 pub onward_busy : (op : Op) (k m t : ℕ) (w z : WorkerView) → Answers op k m t w z busy → IsOnward m w z
 onward_busy op k m t w z a =
     let none = wins_none op fault.Busy unlike in
-    record { on = a.on; none = a.left; won = subst (λ (n : ℕ). Wins w z n 0) none.0 (subst (λ (n : ℕ). Wins w z (links_told_by op busy) n) none.1 a.won) }
+    record {
+      on = a.on;
+      none = a.left;
+      won = subst (λ (n : ℕ). Wins w z n 0) none.0
+          (subst (λ (n : ℕ). Wins w z (links_told_by op busy) n) none.1 a.won);
+    }
 
 module _ (b : TreeView) (h : Options) (op : Op) where
   most : ℕ → ℕ
@@ -571,7 +773,8 @@ module _ (b : TreeView) (h : Options) (op : Op) where
       let one = suc-mul 0 (round_bound h.tries b.layout) in
       let try' = suc-mul 0 h.tries in
       record {
-        onward = onward_more (round_bound h.tries b.layout) (1 * round_bound h.tries b.layout) w z (omega (arith, one)) (onward_busy op k (round_bound h.tries b.layout) h.tries w z a);
+        onward = onward_more (round_bound h.tries b.layout) (1 * round_bound h.tries b.layout) w z
+            (omega (arith, one)) (onward_busy op k (round_bound h.tries b.layout) h.tries w z a);
         met = subst (MetInterference op w.pass z.pass) (omega (arith, try')) (a.busy refl);
       }
 
@@ -580,59 +783,84 @@ module _ (b : TreeView) (h : Options) (op : Op) where
       let zero_steps = zero-mul (round_bound h.tries b.layout) in
       let zero_tries = zero-mul h.tries in
       record {
-        onward = onward_more 0 (0 * round_bound h.tries b.layout) w w (omega (arith, zero_steps)) (onward_itself w none free);
+        onward = onward_more 0 (0 * round_bound h.tries b.layout) w w (omega (arith, zero_steps))
+            (onward_itself w none free);
         met = subst (MetInterference op w.pass w.pass) (sym zero_tries) (met_nothing op w.pass);
       }
 
-  pub busy_again : (k n : ℕ) (w x z : WorkerView) → WereBusy b h op n w x → AnswersOnce b.layout h.tries op k x z busy → WereBusy b h op (n + 1) w z
+  pub busy_again : (k n : ℕ) (w x z : WorkerView) → WereBusy b h op n w x
+      → AnswersOnce b.layout h.tries op k x z busy → WereBusy b h op (n + 1) w z
   busy_again k n w x z first a =
       let steps = add-mul n 1 (round_bound h.tries b.layout) in
       let tries = add-mul n 1 h.tries in
       let last = onward_busy op k (round_bound h.tries b.layout) h.tries x z a in
       record {
-        onward = onward_more (n * round_bound h.tries b.layout + round_bound h.tries b.layout) ((n + 1) * round_bound h.tries b.layout) w z (omega (arith, steps)) (onward_then (n * round_bound h.tries b.layout) (round_bound h.tries b.layout) w x z first.onward last);
-        met = subst (MetInterference op w.pass z.pass) (omega (arith, tries)) (met_then op (n * h.tries) h.tries w.pass x.pass z.pass (number_of_pass w.pass x.pass first.onward.on.same) first.met (a.busy refl));
+        onward = onward_more (n * round_bound h.tries b.layout + round_bound h.tries b.layout)
+            ((n + 1) * round_bound h.tries b.layout) w z (omega (arith, steps))
+            (onward_then (n * round_bound h.tries b.layout) (round_bound h.tries b.layout) w x z first.onward last);
+        met = subst (MetInterference op w.pass z.pass) (omega (arith, tries))
+            (met_then op (n * h.tries) h.tries w.pass x.pass z.pass (number_of_pass w.pass x.pass first.onward.on.same)
+            first.met (a.busy refl));
       }
 
   -- some were busy, and then others were made
-  pub answers_at_last : (k m n : ℕ) (w x z : WorkerView) (r : Result Bool CallFault) → 1 ≤ n → WereBusy b h op m w x → AnswersIn b h op k n x z r → AnswersIn b h op k (m + n) w z r
+  pub answers_at_last : (k m n : ℕ) (w x z : WorkerView) (r : Result Bool CallFault) → 1 ≤ n → WereBusy b h op m w x
+      → AnswersIn b h op k n x z r → AnswersIn b h op k (m + n) w z r
   answers_at_last k m n w x z r some first a =
       let steps = add-mul m n (round_bound h.tries b.layout) in
       let tries = add-mul m n h.tries in
-      answers_more op k (m * round_bound h.tries b.layout + n * round_bound h.tries b.layout) ((m + n) * round_bound h.tries b.layout) ((m + n) * h.tries) ((m + n) * h.tries) w z r (omega (arith, steps)) (λ _. refl)
-      (answers_since op k (m * round_bound h.tries b.layout) (n * round_bound h.tries b.layout) (n * h.tries) ((m + n) * h.tries) w x z r first.onward
-      (λ is. subst (MetInterference op w.pass z.pass) (sym tries) (met_then op (m * h.tries) (n * h.tries) w.pass x.pass z.pass (number_of_pass w.pass x.pass first.onward.on.same) first.met (a.busy is)))
-      (λ runs is. all_none (m + n) h.tries (none_each n h.tries some (a.alone (runs_on w x z first.onward.on a.on runs) is))) a)
+      answers_more op k (m * round_bound h.tries b.layout + n * round_bound h.tries b.layout)
+      ((m + n) * round_bound h.tries b.layout) ((m + n) * h.tries) ((m + n) * h.tries) w z r (omega (arith, steps))
+      (λ _. refl)
+      (answers_since op k (m * round_bound h.tries b.layout) (n * round_bound h.tries b.layout) (n * h.tries)
+      ((m + n) * h.tries) w x z r first.onward
+      (λ is. subst (MetInterference op w.pass z.pass) (sym tries)
+      (met_then op (m * h.tries) (n * h.tries) w.pass x.pass z.pass
+      (number_of_pass w.pass x.pass first.onward.on.same) first.met (a.busy is)))
+      (λ runs is. all_none (m + n) h.tries (none_each n h.tries some
+      (a.alone (runs_on w x z first.onward.on a.on runs) is))) a)
 
-  pub answers_once : (k : ℕ) (w z : WorkerView) (r : Result Bool CallFault) → AnswersOnce b.layout h.tries op k w z r → AnswersIn b h op k 1 w z r
+  pub answers_once : (k : ℕ) (w z : WorkerView) (r : Result Bool CallFault) → AnswersOnce b.layout h.tries op k w z r
+      → AnswersIn b h op k 1 w z r
   answers_once k w z r a =
       let one = suc-mul 0 (round_bound h.tries b.layout) in
       let try' = suc-mul 0 h.tries in
-      answers_more op k (round_bound h.tries b.layout) (1 * round_bound h.tries b.layout) h.tries (1 * h.tries) w z r (omega (arith, one)) (λ _. omega (arith, try')) a
+      answers_more op k (round_bound h.tries b.layout) (1 * round_bound h.tries b.layout) h.tries (1 * h.tries) w z r
+      (omega (arith, one)) (λ _. omega (arith, try')) a
 
   -- fewer calls, if the last one was not busy
-  pub answers_fewer : (k m n : ℕ) (w z : WorkerView) (r : Result Bool CallFault) → m ≤ n → (r ≡ busy → m ≡ n) → AnswersIn b h op k m w z r → AnswersIn b h op k n w z r
-  answers_fewer k m n w z r few all a = answers_more op k (m * round_bound h.tries b.layout) (n * round_bound h.tries b.layout) (m * h.tries) (n * h.tries) w z r (mul-le-mul_right (round_bound h.tries b.layout) few) (λ is. ap (λ (j : ℕ). j * h.tries) (all is)) a
+  pub answers_fewer : (k m n : ℕ) (w z : WorkerView) (r : Result Bool CallFault) → m ≤ n → (r ≡ busy → m ≡ n)
+      → AnswersIn b h op k m w z r → AnswersIn b h op k n w z r
+  answers_fewer k m n w z r few all a = answers_more op k (m * round_bound h.tries b.layout)
+      (n * round_bound h.tries b.layout) (m * h.tries) (n * h.tries) w z r
+      (mul-le-mul_right (round_bound h.tries b.layout) few) (λ is. ap (λ (j : ℕ). j * h.tries) (all is)) a
 
   -- the last of at most `rounds` calls, after n that were busy
-  pub answers_last : (k n rounds : ℕ) (w x z : WorkerView) (r : Result Bool CallFault) → n + 1 ≤ rounds → (r ≡ busy → n + 1 ≡ rounds) → WereBusy b h op n w x → AnswersOnce b.layout h.tries op k x z r → AnswersIn b h op k rounds w z r
-  answers_last k n rounds w x z r few all first a = answers_fewer k (n + 1) rounds w z r few all (answers_at_last k n 1 w x z r (omega arith) first (answers_once k x z r a))
+  pub answers_last : (k n rounds : ℕ) (w x z : WorkerView) (r : Result Bool CallFault) → n + 1 ≤ rounds
+      → (r ≡ busy → n + 1 ≡ rounds) → WereBusy b h op n w x → AnswersOnce b.layout h.tries op k x z r
+      → AnswersIn b h op k rounds w z r
+  answers_last k n rounds w x z r few all first a = answers_fewer k (n + 1) rounds w z r few all
+      (answers_at_last k n 1 w x z r (omega arith) first (answers_once k x z r a))
 
 -- ---- going on with a remove
 
 module _ (b : TreeView) (h : Options) where
-  pub finishes_once : (w z : WorkerView) (r : Result Bool CallFault) → w.held ≡ None → (IsAlone w.pass z.pass → IfErr r (FailsAlone 1 1 h.tries z)) → FreesNone w z → SaysFinish b.layout h.tries w z r → FinishesIn b h 1 w z r
+  pub finishes_once : (w z : WorkerView) (r : Result Bool CallFault) → w.held ≡ None
+      → (IsAlone w.pass z.pass → IfErr r (FailsAlone 1 1 h.tries z)) → FreesNone w z
+      → SaysFinish b.layout h.tries w z r → FinishesIn b h 1 w z r
   finishes_once w z r free alone frees l =
       let one = suc-mul 0 (round_bound h.tries b.layout) in
       record {
-        on = goes_more (round_bound h.tries b.layout) (1 * round_bound h.tries b.layout) w z (omega (arith, one)) (record {
-          same = l.same;
-          past = l.past;
-          queues = lose_by_call w.pass.view.number w.queues z.queues l.queues;
-          steps = in_tries h.tries b.layout (length w.pass.view.log) (length z.pass.view.log) (h.tries * (4 * reach b.layout + 512)) refl l.steps;
-          held = l.held ∙ free;
-          fit = l.fit;
-        });
+        on = goes_more (round_bound h.tries b.layout) (1 * round_bound h.tries b.layout) w z (omega (arith, one))
+            (record {
+              same = l.same;
+              past = l.past;
+              queues = lose_by_call w.pass.view.number w.queues z.queues l.queues;
+              steps = in_tries h.tries b.layout (length w.pass.view.log) (length z.pass.view.log)
+                  (h.tries * (4 * reach b.layout + 512)) refl l.steps;
+              held = l.held ∙ free;
+              fit = l.fit;
+            });
         told = l.told;
         moment = l.moment;
         won = l.won;
@@ -640,10 +868,20 @@ module _ (b : TreeView) (h : Options) where
         frees = frees;
       }
 
-  pub finishes_more : (m n : ℕ) (w z : WorkerView) (r : Result Bool CallFault) → m ≤ n → FinishesIn b h m w z r → FinishesIn b h n w z r
-  finishes_more m n w z r few a = record { on = goes_more (m * round_bound h.tries b.layout) (n * round_bound h.tries b.layout) w z (mul-le-mul_right (round_bound h.tries b.layout) few) a.on; told = a.told; moment = a.moment; won = a.won; alone = a.alone; frees = a.frees }
+  pub finishes_more : (m n : ℕ) (w z : WorkerView) (r : Result Bool CallFault) → m ≤ n → FinishesIn b h m w z r
+      → FinishesIn b h n w z r
+  finishes_more m n w z r few a = record {
+    on = goes_more (m * round_bound h.tries b.layout)
+        (n * round_bound h.tries b.layout) w z (mul-le-mul_right (round_bound h.tries b.layout) few) a.on;
+    told = a.told;
+    moment = a.moment;
+    won = a.won;
+    alone = a.alone;
+    frees = a.frees;
+  }
 
-  told_since : (w x z : WorkerView) (r : Result Bool CallFault) → FinishTold w x (Err fault.Unfinished) → FinishTold x z r → FinishTold w z r
+  told_since : (w x z : WorkerView) (r : Result Bool CallFault) → FinishTold w x (Err fault.Unfinished)
+      → FinishTold x z r → FinishTold w z r
   told_since w x z (Ok true) first last = (first.0, last.1)
   told_since w x z (Ok false) first last = none_there w.pending (sym first.1 ∙ last.0) first.0
   told_since w x z (Err fault.Unfinished) first last = (first.0, last.1 ∙ first.1)
@@ -654,18 +892,23 @@ module _ (b : TreeView) (h : Options) where
   told_since w x z (Err fault.Pinned) first last = absurd last
 
   had_since : (o p q : PassView) → Follows p q → HadNoCall o p → HadNoCall o q
-  had_since o p q on had = let all = follows_then o p q (record { same = had.same; past = had.past }) on in record { same = all.same; past = all.past; call = had.call }
+  had_since o p q on had = let all = follows_then o p q (record { same = had.same; past = had.past }) on in
+      record { same = all.same; past = all.past; call = had.call }
 
-  moment_after : (w x z : WorkerView) (r : Result Bool CallFault) → Follows w.pass x.pass → x.pending ≡ w.pending → FinishHasMoment x z r → FinishHasMoment w z r
-  moment_after w x z (Ok true) on same (n, is, at) = (n, sym same ∙ is, λ o had. at o (had_since o w.pass x.pass on had))
+  moment_after : (w x z : WorkerView) (r : Result Bool CallFault) → Follows w.pass x.pass → x.pending ≡ w.pending
+      → FinishHasMoment x z r → FinishHasMoment w z r
+  moment_after w x z (Ok true) on same (n, is, at) =
+      (n, sym same ∙ is, λ o had. at o (had_since o w.pass x.pass on had))
   moment_after w x z (Ok false) on same m = tt
   moment_after w x z (Err f) on same m = tt
 
-  pub finishes_again : (m n : ℕ) (w x z : WorkerView) (r : Result Bool CallFault) → FinishesIn b h m w x (Err fault.Unfinished) → FinishesIn b h n x z r → FinishesIn b h (m + n) w z r
+  pub finishes_again : (m n : ℕ) (w x z : WorkerView) (r : Result Bool CallFault)
+      → FinishesIn b h m w x (Err fault.Unfinished) → FinishesIn b h n x z r → FinishesIn b h (m + n) w z r
   finishes_again m n w x z r first last =
       let steps = add-mul m n (round_bound h.tries b.layout) in
       record {
-        on = goes_more (m * round_bound h.tries b.layout + n * round_bound h.tries b.layout) ((m + n) * round_bound h.tries b.layout) w z (omega (arith, steps)) (goes_then w x z first.on last.on);
+        on = goes_more (m * round_bound h.tries b.layout + n * round_bound h.tries b.layout)
+            ((m + n) * round_bound h.tries b.layout) w z (omega (arith, steps)) (goes_then w x z first.on last.on);
         told = told_since w x z r first.told last.told;
         moment = moment_after w x z r (record { same = first.on.same; past = first.on.past }) first.told.1 last.moment;
         won = wins_after 0 0 w x z first.won last.won;
@@ -675,13 +918,19 @@ module _ (b : TreeView) (h : Options) where
 
   -- n calls so far left it pending: whatever comes after them comes after their rounds
   abbrev pub FinishesYet : ℕ → WorkerView → WorkerView → Type 0
-  FinishesYet n w x = (x.held ≡ None) × ((m : ℕ) (z : WorkerView) (r : Result Bool CallFault) → FinishesIn b h m x z r → FinishesIn b h (n + m) w z r)
+  FinishesYet n w x = (x.held ≡ None) × ((m : ℕ) (z : WorkerView) (r : Result Bool CallFault)
+      → FinishesIn b h m x z r → FinishesIn b h (n + m) w z r)
 
   pub not_yet_called : (w : WorkerView) → w.held ≡ None → FinishesYet 0 w w
   not_yet_called w free = (free, λ m z r f. subst (λ (n : ℕ). FinishesIn b h n w z r) (omega arith) f)
 
-  pub called_again : (n : ℕ) (w x y : WorkerView) → FinishesYet n w x → FinishesIn b h 1 x y (Err fault.Unfinished) → FinishesYet (n + 1) w y
-  called_again n w x y yet f = (f.on.held, λ m z r last. subst (λ (i : ℕ). FinishesIn b h i w z r) (omega arith) (yet.1 (1 + m) z r (finishes_again 1 m x y z r f last)))
+  pub called_again : (n : ℕ) (w x y : WorkerView) → FinishesYet n w x → FinishesIn b h 1 x y (Err fault.Unfinished)
+      → FinishesYet (n + 1) w y
+  called_again n w x y yet f = (
+    f.on.held,
+    λ m z r last. subst (λ (i : ℕ). FinishesIn b h i w z r) (omega arith)
+        (yet.1 (1 + m) z r (finishes_again 1 m x y z r f last)),
+  )
 
   pub finish_err : (n : ℕ) (w z : WorkerView) (f : CallFault) → FinishesIn b h n w z (Err f) → f ≡ fault.Unfinished
   finish_err n w z fault.Unfinished a = refl
@@ -691,24 +940,35 @@ module _ (b : TreeView) (h : Options) where
   finish_err n w z fault.Pending a = absurd a.told
   finish_err n w z fault.Pinned a = absurd a.told
 
-  pub finished : (n : ℕ) (w z : WorkerView) (answer : Bool) → FinishesIn b h n w z (Ok answer) → IsOnward (n * round_bound h.tries b.layout) w z
+  pub finished : (n : ℕ) (w z : WorkerView) (answer : Bool) → FinishesIn b h n w z (Ok answer)
+      → IsOnward (n * round_bound h.tries b.layout) w z
   finished n w z true a = record { on = a.on; none = a.told.1; won = a.won }
-  finished n w z false a = record { on = a.on; none = ap (λ (x : WorkerView). x.pending) a.told.1 ∙ a.told.0; won = a.won }
+  finished n w z false a = record {
+    on = a.on;
+    none = ap (λ (x : WorkerView). x.pending) a.told.1
+        ∙ a.told.0;
+    won = a.won;
+  }
 
   -- what was pending was removed
-  pub finished_earlier : (n : ℕ) (w z : WorkerView) (answer : Bool) → FinishesIn b h n w z (Ok answer) → (u : Unfinished) → w.pending ≡ Some u → (o : PassView) → HadNoCall o w.pass → AnswerHasMoment o z.pass Delete u.key true
+  pub finished_earlier : (n : ℕ) (w z : WorkerView) (answer : Bool) → FinishesIn b h n w z (Ok answer)
+      → (u : Unfinished) → w.pending ≡ Some u → (o : PassView) → HadNoCall o w.pass
+      → AnswerHasMoment o z.pass Delete u.key true
   finished_earlier n w z false a u is o had = absurd (none-some u (sym a.told.0 ∙ is))
-  finished_earlier n w z true a u is o had = subst (λ (v : Unfinished). AnswerHasMoment o z.pass Delete v.key true) (same_Some a.moment.0 u (sym a.moment.1 ∙ is)) (a.moment.2 o had)
+  finished_earlier n w z true a u is o had = subst (λ (v : Unfinished). AnswerHasMoment o z.pass Delete v.key true)
+      (same_Some a.moment.0 u (sym a.moment.1 ∙ is)) (a.moment.2 o had)
 
   -- nothing was pending, so nothing was done
-  pub finished_nothing : (n : ℕ) (w z : WorkerView) (answer : Bool) → w.pending ≡ None → FinishesIn b h n w z (Ok answer) → z ≡ w
+  pub finished_nothing : (n : ℕ) (w z : WorkerView) (answer : Bool) → w.pending ≡ None
+      → FinishesIn b h n w z (Ok answer) → z ≡ w
   finished_nothing n w z true none a = none_there w.pending none a.told.0
   finished_nothing n w z false none a = a.told.1
 
 -- ---- what comes before the operation
 
 -- nothing, if nothing is pending and few nodes wait
-pub prepares_nothing : (h : Options) (op : Op) (w : WorkerView) → w.pending ≡ None → (op ≢ Has → h.collect_after ≤ waiting_in w.queues → ⊥) → Prepares h op w w.pass
+pub prepares_nothing : (h : Options) (op : Op) (w : WorkerView) → w.pending ≡ None
+    → (op ≢ Has → h.collect_after ≤ waiting_in w.queues → ⊥) → Prepares h op w w.pass
 prepares_nothing h op w none few = record {
   finished = w.pass;
   first = record { after = seen_itself w.pass; earlier = λ u is o had. absurd (none-some u (sym none ∙ is)) };
@@ -716,10 +976,12 @@ prepares_nothing h op w none few = record {
   collects = λ not none many. absurd (few not many);
 }
 
-pub finishes_first : (b : TreeView) (h : Options) (n : ℕ) (w x : WorkerView) (answer : Bool) → FinishesIn b h n w x (Ok answer) → FinishesFirst w x.pass
+pub finishes_first : (b : TreeView) (h : Options) (n : ℕ) (w x : WorkerView) (answer : Bool)
+    → FinishesIn b h n w x (Ok answer) → FinishesFirst w x.pass
 finishes_first b h n w x answer f = record { after = f.on.past; earlier = finished_earlier b h n w x answer f }
 
-pub prepares_look : (b : TreeView) (h : Options) (n : ℕ) (w x : WorkerView) (answer : Bool) → FinishesIn b h n w x (Ok answer) → Prepares h Has w x.pass
+pub prepares_look : (b : TreeView) (h : Options) (n : ℕ) (w x : WorkerView) (answer : Bool)
+    → FinishesIn b h n w x (Ok answer) → Prepares h Has w x.pass
 prepares_look b h n w x answer f = record {
   finished = x.pass;
   first = finishes_first b h n w x answer f;
@@ -728,10 +990,12 @@ prepares_look b h n w x answer f = record {
 }
 
 -- a collection is one round
-relieved_in_round : (t : ℕ) (L : Layout) (w z : WorkerView) → IsOnward (L.nodes + 2 * L.workers + 2) w z → IsOnward (round_bound t L) w z
+relieved_in_round : (t : ℕ) (L : Layout) (w z : WorkerView) → IsOnward (L.nodes + 2 * L.workers + 2) w z
+    → IsOnward (round_bound t L) w z
 relieved_in_round t L w z on = onward_more (L.nodes + 2 * L.workers + 2) (round_bound t L) w z (omega arith) on
 
-module _ (b : TreeView) (h : Options) (w x : WorkerView) (answer : Bool) (f : FinishesIn b h (h.rounds + 1) w x (Ok answer)) where
+module _ (b : TreeView) (h : Options) (w x : WorkerView) (answer : Bool)
+    (f : FinishesIn b h (h.rounds + 1) w x (Ok answer)) where
   abbrev one : ℕ
   one = round_bound h.tries b.layout
 
@@ -742,12 +1006,15 @@ module _ (b : TreeView) (h : Options) (w x : WorkerView) (answer : Bool) (f : Fi
   ready_relieved z behind r =
       let sum = all in
       record {
-        onward = onward_more ((h.rounds + 1) * one + one) ((h.rounds + 2) * one) w z (omega (arith, sum)) (onward_then ((h.rounds + 1) * one) one w x z (finished b h (h.rounds + 1) w x answer f) (relieved_in_round h.tries b.layout x z r.onward));
+        onward = onward_more ((h.rounds + 1) * one + one) ((h.rounds + 2) * one) w z (omega (arith, sum))
+            (onward_then ((h.rounds + 1) * one) one w x z (finished b h (h.rounds + 1) w x answer f)
+            (relieved_in_round h.tries b.layout x z r.onward));
         prepares = λ op. record {
           finished = x.pass;
           first = finishes_first b h (h.rounds + 1) w x answer f;
           then = r.onward.on.past;
-          collects = λ not none many. subst (λ (v : WorkerView). Collects v z.pass) (finished_nothing b h (h.rounds + 1) w x answer none f) r.collects;
+          collects = λ not none many. subst (λ (v : WorkerView). Collects v z.pass)
+              (finished_nothing b h (h.rounds + 1) w x answer none f) r.collects;
         };
       }
 
@@ -755,27 +1022,34 @@ module _ (b : TreeView) (h : Options) (w x : WorkerView) (answer : Bool) (f : Fi
   ready_as_is few =
       let sum = all in
       record {
-        onward = onward_more ((h.rounds + 1) * one) ((h.rounds + 2) * one) w x (omega (arith, sum)) (finished b h (h.rounds + 1) w x answer f);
+        onward = onward_more ((h.rounds + 1) * one) ((h.rounds + 2) * one) w x (omega (arith, sum))
+            (finished b h (h.rounds + 1) w x answer f);
         prepares = λ op. record {
           finished = x.pass;
           first = finishes_first b h (h.rounds + 1) w x answer f;
           then = seen_itself x.pass;
-          collects = λ not none many. absurd (let few = subst (λ (v : WorkerView). waiting_in v.queues < h.collect_after) (finished_nothing b h (h.rounds + 1) w x answer none f) few in omega (arith, few, many));
+          collects = λ not none many. absurd (let few = subst
+              (λ (v : WorkerView). waiting_in v.queues < h.collect_after)
+              (finished_nothing b h (h.rounds + 1) w x answer none f) few in omega (arith, few, many));
         };
       }
 
 -- ---- the three calls
 
 -- where the remove of an earlier call is not finished, nothing else is done
-pub pending_manages : {map : Bool} (b : TreeView) (h : Options) (op : Op) (k : ℕ) (w z : WorkerView) → FinishesIn b h (h.rounds + 1) w z (Err fault.Unfinished) → ManagesIn map b h op k w z (Err fault.Pending)
+pub pending_manages : {map : Bool} (b : TreeView) (h : Options) (op : Op) (k : ℕ) (w z : WorkerView)
+    → FinishesIn b h (h.rounds + 1) w z (Err fault.Unfinished) → ManagesIn map b h op k w z (Err fault.Pending)
 pending_manages b h op k w z f =
     let none = wins_none op fault.Pending (λ is. let which = is in cc) in
     record {
       answers = record {
         moment = tt;
         left = (f.told.0, f.told.1);
-        won = subst (λ (n : ℕ). Wins w z n (flags_told_by op (Err fault.Pending))) (sym none.0) (subst (λ (n : ℕ). Wins w z 0 n) (sym none.1) f.won);
-        on = goes_more ((h.rounds + 1) * round_bound h.tries b.layout) ((3 * h.rounds + 5) * round_bound h.tries b.layout) w z (mul-le-mul_right (round_bound h.tries b.layout) (omega arith)) f.on;
+        won = subst (λ (n : ℕ). Wins w z n (flags_told_by op (Err fault.Pending))) (sym none.0)
+            (subst (λ (n : ℕ). Wins w z 0 n) (sym none.1) f.won);
+        on = goes_more ((h.rounds + 1) * round_bound h.tries b.layout)
+            ((3 * h.rounds + 5) * round_bound h.tries b.layout) w z
+            (mul-le-mul_right (round_bound h.tries b.layout) (omega arith)) f.on;
         busy = λ is. absurd (let no = is in cc);
         alone = λ runs is. absurd (let no = is in cc);
       };
@@ -787,9 +1061,12 @@ pending_manages b h op k w z f =
     }
 
 -- why it failed alone
-managed_fails : (h : Options) (op : Op) (k m : ℕ) (y z : WorkerView) (r : Result Bool CallFault) → Answers op k m ((h.rounds + 1) * h.tries) y z r → RunsAlone y.pass z.pass → (r ≡ Err fault.Unfinished → FailsAlone 1 1 h.tries z fault.Unfinished) → IfErr r (FailsAlone 1 1 h.tries z)
+managed_fails : (h : Options) (op : Op) (k m : ℕ) (y z : WorkerView) (r : Result Bool CallFault)
+    → Answers op k m ((h.rounds + 1) * h.tries) y z r → RunsAlone y.pass z.pass
+    → (r ≡ Err fault.Unfinished → FailsAlone 1 1 h.tries z fault.Unfinished) → IfErr r (FailsAlone 1 1 h.tries z)
 managed_fails h op k m y z (Ok answer) a runs last = tt
-managed_fails h op k m y z (Err fault.Busy) a runs last = let none = none_each (h.rounds + 1) h.tries (omega arith) (a.alone runs refl) in omega (arith, none)
+managed_fails h op k m y z (Err fault.Busy) a runs last =
+    let none = none_each (h.rounds + 1) h.tries (omega arith) (a.alone runs refl) in omega (arith, none)
 managed_fails h op k m y z (Err fault.Unfinished) a runs last = last refl
 managed_fails h op k m y z (Err fault.Full) a runs last = found_ever y.pass z.pass a.left.2
 managed_fails h op k m y z (Err fault.NoMemory) a runs last = a.left.2
@@ -797,53 +1074,72 @@ managed_fails h op k m y z (Err fault.Pending) a runs last = subst IsSome (sym a
 managed_fails h op k m y z (Err fault.Pinned) a runs last = absurd a.left
 
 -- the operation, after what came before it
-pub manages_in : (map : Bool) (b : TreeView) (h : Options) (op : Op) (k m n : ℕ) (w y z : WorkerView) (r : Result Bool CallFault) → m + n ≤ 3 * h.rounds + 5 → IsOnward (rounds_bound b h m) w y → IsReadyIn map h op w y.pass
+pub manages_in : (map : Bool) (b : TreeView) (h : Options) (op : Op) (k m n : ℕ) (w y z : WorkerView)
+    (r : Result Bool CallFault) → m + n ≤ 3 * h.rounds + 5 → IsOnward (rounds_bound b h m) w y
+    → IsReadyIn map h op w y.pass
     → Answers op k (rounds_bound b h n) ((h.rounds + 1) * h.tries) y z r → (r ≡ Err fault.Full → IsFullIn map w z)
-    → (IsAlone y.pass z.pass → r ≡ Err fault.Unfinished → FailsAlone 1 1 h.tries z fault.Unfinished) → (map ≡ true → FreesNone w z) → ManagesIn map b h op k w z r
+    → (IsAlone y.pass z.pass → r ≡ Err fault.Unfinished → FailsAlone 1 1 h.tries z fault.Unfinished)
+    → (map ≡ true → FreesNone w z) → ManagesIn map b h op k w z r
 manages_in map b h op k m n w y z r few on first a full last frees =
     let most = round_bound h.tries b.layout in
     let sum = add-mul m n most in
     let le = mul-le-mul_right most few in
     record {
-      answers = answers_more op k (m * most + n * most) ((3 * h.rounds + 5) * most) ((h.rounds + 1) * h.tries) ((h.rounds + 1) * h.tries) w z r (omega (arith, sum, le)) (λ _. refl)
+      answers = answers_more op k (m * most + n * most) ((3 * h.rounds + 5) * most) ((h.rounds + 1) * h.tries)
+          ((h.rounds + 1) * h.tries) w z r (omega (arith, sum, le)) (λ _. refl)
           (answers_after op k (m * most) (n * most) ((h.rounds + 1) * h.tries) w y z r on a);
       full = full;
       begins = λ other. (y.pass, first, a.moment);
-      alone = λ runs. (let more = runs_on w y z on.on a.on runs in managed_fails h op k (rounds_bound b h n) y z r a more (last more.alone));
+      alone = λ runs. (let more = runs_on w y z on.on a.on runs in
+          managed_fails h op k (rounds_bound b h n) y z r a more (last more.alone));
       pending = λ mine is. still mine is;
       frees = frees;
     }
   where
-    still : IsAlone w.pass z.pass → (r ≡ Err fault.Pending) ⊎ (r ≡ Err fault.Unfinished) → FailsAlone 1 1 h.tries z fault.Unfinished
+    still : IsAlone w.pass z.pass → (r ≡ Err fault.Pending) ⊎ (r ≡ Err fault.Unfinished)
+        → FailsAlone 1 1 h.tries z fault.Unfinished
     still mine (inl is) = none_there y.pending on.none (subst (IsLeft op k y z) is a.left).0
     still mine (inr is) = last (alone_later w.pass y.pass z.pass on.on.same on.on.past a.on.past mine) is
 
 -- and so in a set
-pub manages : (b : TreeView) (h : Options) (op : Op) (k m n : ℕ) (w y z : WorkerView) (r : Result Bool CallFault) → m + n ≤ 3 * h.rounds + 5 → IsOnward (rounds_bound b h m) w y → Prepares h op w y.pass
-    → Answers op k (rounds_bound b h n) ((h.rounds + 1) * h.tries) y z r → (r ≡ Err fault.Full → (f : Fullness) × WasFull w z f)
-    → (IsAlone y.pass z.pass → r ≡ Err fault.Unfinished → FailsAlone 1 1 h.tries z fault.Unfinished) → Manages b h op k w z r
-manages b h op k m n w y z r few on first a full last = manages_in false b h op k m n w y z r few on first a full last (λ is. absurd (true≢false (sym is)))
+pub manages : (b : TreeView) (h : Options) (op : Op) (k m n : ℕ) (w y z : WorkerView) (r : Result Bool CallFault)
+    → m + n ≤ 3 * h.rounds + 5 → IsOnward (rounds_bound b h m) w y → Prepares h op w y.pass
+    → Answers op k (rounds_bound b h n) ((h.rounds + 1) * h.tries) y z r
+    → (r ≡ Err fault.Full → (f : Fullness) × WasFull w z f)
+    → (IsAlone y.pass z.pass → r ≡ Err fault.Unfinished → FailsAlone 1 1 h.tries z fault.Unfinished)
+    → Manages b h op k w z r
+manages b h op k m n w y z r few on first a full last = manages_in false b h op k m n w y z r few on first a full
+    last (λ is. absurd (true≢false (sym is)))
 
 -- which was the first thing that it did
-pub manages_at_once : (b : TreeView) (h : Options) (op : Op) (k n : ℕ) (w z : WorkerView) (r : Result Bool CallFault) → n ≤ 3 * h.rounds + 5 → w.held ≡ None → w.pending ≡ None → (op ≢ Has → h.collect_after ≤ waiting_in w.queues → ⊥)
-    → Answers op k (rounds_bound b h n) ((h.rounds + 1) * h.tries) w z r → (r ≡ Err fault.Full → (f : Fullness) × WasFull w z f)
-    → (IsAlone w.pass z.pass → r ≡ Err fault.Unfinished → FailsAlone 1 1 h.tries z fault.Unfinished) → Manages b h op k w z r
+pub manages_at_once : (b : TreeView) (h : Options) (op : Op) (k n : ℕ) (w z : WorkerView) (r : Result Bool CallFault)
+    → n ≤ 3 * h.rounds + 5 → w.held ≡ None → w.pending ≡ None → (op ≢ Has → h.collect_after ≤ waiting_in w.queues → ⊥)
+    → Answers op k (rounds_bound b h n) ((h.rounds + 1) * h.tries) w z r
+    → (r ≡ Err fault.Full → (f : Fullness) × WasFull w z f)
+    → (IsAlone w.pass z.pass → r ≡ Err fault.Unfinished → FailsAlone 1 1 h.tries z fault.Unfinished)
+    → Manages b h op k w z r
 manages_at_once b h op k n w z r few free none tidy a full last =
     let most = round_bound h.tries b.layout in
     let nothing = zero-mul most in
-    manages b h op k 0 n w w z r (omega (arith, few)) (onward_more 0 (0 * most) w w (omega (arith, nothing)) (onward_itself w none free)) (prepares_nothing h op w none tidy) a full last
+    manages b h op k 0 n w w z r (omega (arith, few))
+    (onward_more 0 (0 * most) w w (omega (arith, nothing)) (onward_itself w none free))
+    (prepares_nothing h op w none tidy) a full last
 
 -- only an insert is full
-pub never_full : {A : Type 0} (op : Op) (k m t : ℕ) (w z : WorkerView) (r : Result Bool CallFault) → op ≢ Insert → Answers op k m t w z r → r ≡ Err fault.Full → A
+pub never_full : {A : Type 0} (op : Op) (k m t : ℕ) (w z : WorkerView) (r : Result Bool CallFault) → op ≢ Insert
+    → Answers op k m t w z r → r ≡ Err fault.Full → A
 never_full op k m t w z r other a is = absurd (other (subst (IsLeft op k w z) is a.left).0)
 
 -- and only a remove is not finished
-pub never_unfinished : {A : Type 0} (op : Op) (k m t : ℕ) (w z : WorkerView) (r : Result Bool CallFault) → op ≢ Delete → Answers op k m t w z r → r ≡ Err fault.Unfinished → A
+pub never_unfinished : {A : Type 0} (op : Op) (k m t : ℕ) (w z : WorkerView) (r : Result Bool CallFault)
+    → op ≢ Delete → Answers op k m t w z r → r ≡ Err fault.Unfinished → A
 never_unfinished op k m t w z r other a is = absurd (other (subst (IsLeft op k w z) is a.left).0)
 
 -- an answer was given by one call
-pub answered : (b : TreeView) (h : Options) (op : Op) (k : ℕ) (w z : WorkerView) (answer : Bool) → AnswersOnce b.layout h.tries op k w z (Ok answer) → AnswersIn b h op k (h.rounds + 1) w z (Ok answer)
-answered b h op k w z answer a = answers_fewer b h op k 1 (h.rounds + 1) w z (Ok answer) (omega arith) (λ is. absurd (let no = is in cc)) (answers_once b h op k w z (Ok answer) a)
+pub answered : (b : TreeView) (h : Options) (op : Op) (k : ℕ) (w z : WorkerView) (answer : Bool)
+    → AnswersOnce b.layout h.tries op k w z (Ok answer) → AnswersIn b h op k (h.rounds + 1) w z (Ok answer)
+answered b h op k w z answer a = answers_fewer b h op k 1 (h.rounds + 1) w z (Ok answer) (omega arith)
+    (λ is. absurd (let no = is in cc)) (answers_once b h op k w z (Ok answer) a)
 
 -- ---- an insert, and one more after a collection
 
@@ -861,7 +1157,9 @@ fullness_told behind n (Err fault.Pending) = refl
 fullness_told behind n (Err fault.Pinned) = refl
 
 -- what it is if it was full
-pub as_full : (w z : WorkerView) (r : Result Bool InsertFault) → (of_insert r ≡ Err fault.Full → (f : Fullness) × (r ≡ Err (inserting.Full f)) × WasFull w z f) → (f : Fullness) → r ≡ Err (inserting.Full f) → WasFull w z f
+pub as_full : (w z : WorkerView) (r : Result Bool InsertFault)
+    → (of_insert r ≡ Err fault.Full → (f : Fullness) × (r ≡ Err (inserting.Full f)) × WasFull w z f) → (f : Fullness)
+    → r ≡ Err (inserting.Full f) → WasFull w z f
 as_full w z r full f is = by (full (ap of_insert is))
   where
     same : (g : Fullness) → ◌≡◌ {A = Result Bool InsertFault} (Err (inserting.Full g)) (Err (inserting.Full f)) → g ≡ f
@@ -874,28 +1172,35 @@ module _ (b : TreeView) (h : Options) (k : ℕ) (w : WorkerView) where
   abbrev round : ℕ
   round = round_bound h.tries b.layout
 
-  pub inserts_plain : (z : WorkerView) (r : Result Bool CallFault) → r ≢ Err fault.Full → AnswersIn b h Insert k (h.rounds + 1) w z r → Inserts b h k w z (plain r)
+  pub inserts_plain : (z : WorkerView) (r : Result Bool CallFault) → r ≢ Err fault.Full
+      → AnswersIn b h Insert k (h.rounds + 1) w z r → Inserts b h k w z (plain r)
   inserts_plain z r other a = record {
-    answers = subst (λ (q : Result Bool CallFault). Answers Insert k (rounds_bound b h (2 * h.rounds + 3)) ((h.rounds + 1) * h.tries) w z q) (sym (plain_told r))
-        (answers_more Insert k ((h.rounds + 1) * round) ((2 * h.rounds + 3) * round) ((h.rounds + 1) * h.tries) ((h.rounds + 1) * h.tries) w z r (mul-le-mul_right round (omega arith)) (λ _. refl) a);
+    answers = subst (λ (q : Result Bool CallFault). Answers Insert k (rounds_bound b h (2 * h.rounds + 3))
+        ((h.rounds + 1) * h.tries) w z q) (sym (plain_told r))
+        (answers_more Insert k ((h.rounds + 1) * round) ((2 * h.rounds + 3) * round) ((h.rounds + 1) * h.tries)
+        ((h.rounds + 1) * h.tries) w z r (mul-le-mul_right round (omega arith)) (λ _. refl) a);
     full = λ is. absurd (other (sym (plain_told r) ∙ is));
   }
 
   -- no slot was free at first
-  module _ (x y z : WorkerView) (behind : Option ℕ) (r : Result Bool CallFault) (first : AnswersIn b h Insert k (h.rounds + 1) w x (Err fault.Full)) (relieved : IsRelieved b.layout x y behind)
+  module _ (x y z : WorkerView) (behind : Option ℕ) (r : Result Bool CallFault)
+      (first : AnswersIn b h Insert k (h.rounds + 1) w x (Err fault.Full)) (relieved : IsRelieved b.layout x y behind)
       (last : AnswersIn b h Insert k (h.rounds + 1) y z r) (known : IsKnown w) (tried : IsKnown x) where
     to_x : IsOnward ((h.rounds + 1) * round) w x
     to_x = record { on = first.on; none = first.left.1; won = first.won }
 
     to_y : IsOnward ((h.rounds + 1) * round + round) w y
-    to_y = onward_then ((h.rounds + 1) * round) round w x y to_x (relieved_in_round h.tries b.layout x y relieved.onward)
+    to_y = onward_then ((h.rounds + 1) * round) round w x y to_x
+        (relieved_in_round h.tries b.layout x y relieved.onward)
 
     found : r ≡ Err fault.Full → WasFull w z (record { waiting = waiting_in z.queues; behind = behind })
     found is = record {
-      finds = finds_since w.pass x.pass y.pass z.pass behind (record { same = first.on.same; past = first.on.past }) (record { same = last.on.same; past = last.on.past }) relieved.finds;
+      finds = finds_since w.pass x.pass y.pass z.pass behind (record { same = first.on.same; past = first.on.past })
+          (record { same = last.on.same; past = last.on.past }) relieved.finds;
       collected = y.pass;
       after = to_y.on.past;
-      collects = collects_since (rounds_bound b h (h.rounds + 1)) w x y.pass y.pass known tried first.on relieved.onward.on.past (follows_itself y.pass) relieved.collects;
+      collects = collects_since (rounds_bound b h (h.rounds + 1)) w x y.pass y.pass known tried first.on
+          relieved.onward.on.past (follows_itself y.pass) relieved.collects;
       tried = (subst (IsLeft Insert k y z) is last.left).2;
       waiting = refl;
     }
@@ -904,36 +1209,63 @@ module _ (b : TreeView) (h : Options) (k : ℕ) (w : WorkerView) where
     inserts_again =
         let sum = add-mul (h.rounds + 1) 1 round in
         let whole = add-mul ((h.rounds + 1) + 1) (h.rounds + 1) round in
-        let le = mul-le-mul_right {m = (h.rounds + 1) + 1 + (h.rounds + 1)} {n = 2 * h.rounds + 3} round (omega arith) in
+        let le = mul-le-mul_right {m = (h.rounds + 1) + 1 + (h.rounds + 1)} {n = 2 * h.rounds + 3} round
+        (omega arith) in
         let single = suc-mul 0 round in
         record {
-          answers = subst (λ (q : Result Bool CallFault). Answers Insert k (rounds_bound b h (2 * h.rounds + 3)) ((h.rounds + 1) * h.tries) w z q) (sym (fullness_told behind (waiting_in z.queues) r))
-              (answers_more Insert k (((h.rounds + 1) * round + round) + (h.rounds + 1) * round) ((2 * h.rounds + 3) * round) ((h.rounds + 1) * h.tries) ((h.rounds + 1) * h.tries) w z r (omega (arith, sum, whole, le, single)) (λ _. refl)
-              (answers_after Insert k ((h.rounds + 1) * round + round) ((h.rounds + 1) * round) ((h.rounds + 1) * h.tries) w y z r to_y last));
-          full = λ is. (record { waiting = waiting_in z.queues; behind = behind }, ap (with_fullness behind (waiting_in z.queues)) (sym (fullness_told behind (waiting_in z.queues) r) ∙ is), found (sym (fullness_told behind (waiting_in z.queues) r) ∙ is));
+          answers = subst (λ (q : Result Bool CallFault). Answers Insert k (rounds_bound b h (2 * h.rounds + 3))
+              ((h.rounds + 1) * h.tries) w z q) (sym (fullness_told behind (waiting_in z.queues) r))
+              (answers_more Insert k (((h.rounds + 1) * round + round) + (h.rounds + 1) * round)
+              ((2 * h.rounds + 3) * round) ((h.rounds + 1) * h.tries) ((h.rounds + 1) * h.tries) w z r
+              (omega (arith, sum, whole, le, single)) (λ _. refl)
+              (answers_after Insert k ((h.rounds + 1) * round + round) ((h.rounds + 1) * round)
+              ((h.rounds + 1) * h.tries) w y z r to_y last));
+          full = λ is. (
+            record { waiting = waiting_in z.queues; behind = behind },
+            ap
+                (with_fullness behind (waiting_in z.queues)) (sym (fullness_told behind (waiting_in z.queues) r) ∙ is),
+            found (sym (fullness_told behind (waiting_in z.queues) r) ∙ is),
+          );
         }
 
 -- what was full after something had come before
-pub full_since : (m : ℕ) (w y z : WorkerView) (f : Fullness) → IsKnown w → IsKnown y → GoesOn m w y → Follows y.pass z.pass → WasFull y z f → WasFull w z f
+pub full_since : (m : ℕ) (w y z : WorkerView) (f : Fullness) → IsKnown w → IsKnown y → GoesOn m w y
+    → Follows y.pass z.pass → WasFull y z f → WasFull w z f
 full_since m w y z f known later on last full = record {
-  finds = finds_since w.pass y.pass z.pass z.pass f.behind (record { same = on.same; past = on.past }) (follows_itself z.pass) full.finds;
+  finds = finds_since w.pass y.pass z.pass z.pass f.behind (record { same = on.same; past = on.past })
+      (follows_itself z.pass) full.finds;
   collected = full.collected;
   after = seen_through w.pass y.pass full.collected on.past full.after;
-  collects = collects_since m w y full.collected full.collected known later on full.after (follows_itself full.collected) full.collects;
+  collects = collects_since m w y full.collected full.collected known later on full.after
+      (follows_itself full.collected) full.collects;
   tried = full.tried;
   waiting = full.waiting;
 }
 
 -- the whole of an insert
-pub inserts_manage : (b : TreeView) (h : Options) (k m : ℕ) (w y z : WorkerView) (r : Result Bool InsertFault) → m ≤ h.rounds + 2 → IsKnown w → IsKnown y → IsOnward (rounds_bound b h m) w y → Prepares h Insert w y.pass → Inserts b h k y z r
+pub inserts_manage : (b : TreeView) (h : Options) (k m : ℕ) (w y z : WorkerView) (r : Result Bool InsertFault)
+    → m ≤ h.rounds + 2 → IsKnown w → IsKnown y → IsOnward (rounds_bound b h m) w y → Prepares h Insert w y.pass
+    → Inserts b h k y z r
     → ManagesInsert b h k w z r
 inserts_manage b h k m w y z r few known later on first i =
-    let full : of_insert r ≡ Err fault.Full → (f : Fullness) × (r ≡ Err (inserting.Full f)) × WasFull w z f = λ is. (let found = i.full is in (found.0, found.1, full_since (rounds_bound b h m) w y z found.0 known later on.on (record { same = i.answers.on.same; past = i.answers.on.past }) found.2)) in
-    (manages b h Insert k m (2 * h.rounds + 3) w y z (of_insert r) (omega (arith, few)) on first i.answers (λ is. (let found = full is in (found.0, found.2))) (λ runs is. never_unfinished Insert k _ _ y z (of_insert r) (λ no. (let which = no in cc)) i.answers is), as_full w z r full)
+    let full : of_insert r ≡ Err fault.Full → (f : Fullness) × (r ≡ Err (inserting.Full f))
+    × WasFull w z f = λ is. (let found = i.full is in (
+      found.0,
+      found.1,
+      full_since (rounds_bound b h m) w y z found.0 known later on.on
+          (record { same = i.answers.on.same; past = i.answers.on.past }) found.2,
+    )) in (
+      manages b h Insert k m (2 * h.rounds + 3) w y z (of_insert r) (omega (arith, few)) on first i.answers
+          (λ is. (let found = full is in (found.0, found.2)))
+          (λ runs is. never_unfinished Insert k _ _ y z (of_insert r) (λ no. (let which = no in cc)) i.answers is),
+      as_full w z r full,
+    )
 
 -- an answer at once
-pub inserts_at_once : (b : TreeView) (h : Options) (k : ℕ) (w z : WorkerView) (answer : Bool) → AnswersOnce b.layout h.tries Insert k w z (Ok answer) → Inserts b h k w z (Ok answer)
-inserts_at_once b h k w z answer a = inserts_plain b h k w z (Ok answer) (λ is. absurd (let no = is in cc)) (answered b h Insert k w z answer a)
+pub inserts_at_once : (b : TreeView) (h : Options) (k : ℕ) (w z : WorkerView) (answer : Bool)
+    → AnswersOnce b.layout h.tries Insert k w z (Ok answer) → Inserts b h k w z (Ok answer)
+inserts_at_once b h k w z answer a = inserts_plain b h k w z (Ok answer) (λ is. absurd (let no = is in cc))
+    (answered b h Insert k w z answer a)
 
 -- ---- a remove, and what is left to do of it
 
@@ -941,13 +1273,17 @@ module _ (b : TreeView) (h : Options) (k : ℕ) (w : WorkerView) where
   abbrev round' : ℕ
   round' = round_bound h.tries b.layout
 
-  removes_so : (z : WorkerView) (r : Result Bool CallFault) → AnswersIn b h Delete k (h.rounds + 1) w z r → Answers Delete k (rounds_bound b h (2 * h.rounds + 2)) ((h.rounds + 1) * h.tries) w z r
-  removes_so z r a = answers_more Delete k ((h.rounds + 1) * round') ((2 * h.rounds + 2) * round') ((h.rounds + 1) * h.tries) ((h.rounds + 1) * h.tries) w z r (mul-le-mul_right round' (omega arith)) (λ _. refl) a
+  removes_so : (z : WorkerView) (r : Result Bool CallFault) → AnswersIn b h Delete k (h.rounds + 1) w z r
+      → Answers Delete k (rounds_bound b h (2 * h.rounds + 2)) ((h.rounds + 1) * h.tries) w z r
+  removes_so z r a = answers_more Delete k ((h.rounds + 1) * round') ((2 * h.rounds + 2) * round')
+      ((h.rounds + 1) * h.tries) ((h.rounds + 1) * h.tries) w z r (mul-le-mul_right round' (omega arith)) (λ _. refl) a
 
-  pub removes_plain : (z : WorkerView) (r : Result Bool CallFault) → r ≢ Err fault.Unfinished → AnswersIn b h Delete k (h.rounds + 1) w z r → Removes b h k w z r
+  pub removes_plain : (z : WorkerView) (r : Result Bool CallFault) → r ≢ Err fault.Unfinished
+      → AnswersIn b h Delete k (h.rounds + 1) w z r → Removes b h k w z r
   removes_plain z r other a = record { answers = removes_so z r a; alone = λ runs is. absurd (other is) }
 
-  module _ (x z : WorkerView) (idle : IsIdle w) (none : w.pending ≡ None) (first : AnswersIn b h Delete k (h.rounds + 1) w x (Err fault.Unfinished)) where
+  module _ (x z : WorkerView) (idle : IsIdle w) (none : w.pending ≡ None)
+      (first : AnswersIn b h Delete k (h.rounds + 1) w x (Err fault.Unfinished)) where
     abbrev mine : Unfinished
     mine = record { key = k; leaf = first.left.1 }
 
@@ -955,12 +1291,14 @@ module _ (b : TreeView) (h : Options) (k : ℕ) (w : WorkerView) where
     goes r f =
         let sum = add-mul (h.rounds + 1) (h.rounds + 1) round' in
         let le = mul-le-mul_right {m = (h.rounds + 1) + (h.rounds + 1)} {n = 2 * h.rounds + 2} round' (omega arith) in
-        goes_more ((h.rounds + 1) * round' + (h.rounds + 1) * round') ((2 * h.rounds + 2) * round') w z (omega (arith, sum, le)) (goes_then w x z first.on f.on)
+        goes_more ((h.rounds + 1) * round' + (h.rounds + 1) * round') ((2 * h.rounds + 2) * round') w z
+        (omega (arith, sum, le)) (goes_then w x z first.on f.on)
 
     had : HadNoCall w.pass x.pass
     had = record { same = first.on.same; past = first.on.past; call = idle none }
 
-    removes_ended : (r : Result Bool CallFault) → FinishesIn b h (h.rounds + 1) x z r → Answers Delete k (rounds_bound b h (2 * h.rounds + 2)) ((h.rounds + 1) * h.tries) w z r
+    removes_ended : (r : Result Bool CallFault) → FinishesIn b h (h.rounds + 1) x z r
+        → Answers Delete k (rounds_bound b h (2 * h.rounds + 2)) ((h.rounds + 1) * h.tries) w z r
     removes_ended (Ok true) f = record {
       moment = finished_earlier b h (h.rounds + 1) x z true f mine first.left.2 w.pass had;
       left = f.told.1;
@@ -987,50 +1325,70 @@ module _ (b : TreeView) (h : Options) (k : ℕ) (w : WorkerView) where
     pub removes_at_last : (r : Result Bool CallFault) → FinishesIn b h (h.rounds + 1) x z r → Removes b h k w z r
     removes_at_last r f = record {
       answers = removes_ended r f;
-      alone = λ mine is. subst (λ (q : Result Bool CallFault). IfErr q (FailsAlone 1 1 h.tries z)) is (f.alone (alone_later w.pass x.pass z.pass first.on.same first.on.past f.on.past mine));
+      alone = λ mine is. subst (λ (q : Result Bool CallFault). IfErr q (FailsAlone 1 1 h.tries z)) is
+          (f.alone (alone_later w.pass x.pass z.pass first.on.same first.on.past f.on.past mine));
     }
 
 -- ---- a call that failed at once, and what was done after it
 
 -- a call that found an earlier remove pending has changed nothing
-pub pending_has : (L : Layout) (t k : ℕ) (w z : WorkerView) (f : CallFault) → f ≡ fault.Pending → LeavesHas L t k w z (Err f) → z ≡ w
+pub pending_has : (L : Layout) (t k : ℕ) (w z : WorkerView) (f : CallFault) → f ≡ fault.Pending
+    → LeavesHas L t k w z (Err f) → z ≡ w
 pending_has L t k w z f is l = (subst (λ (g : CallFault). LeavesHas L t k w z (Err g)) is l).says.told.1
 
-pub pending_insert : (L : Layout) (t k : ℕ) (w z : WorkerView) (f : CallFault) → f ≡ fault.Pending → LeavesInsert L t k w z (Err f) → z ≡ w
+pub pending_insert : (L : Layout) (t k : ℕ) (w z : WorkerView) (f : CallFault) → f ≡ fault.Pending
+    → LeavesInsert L t k w z (Err f) → z ≡ w
 pending_insert L t k w z f is l = (subst (λ (g : CallFault). LeavesInsert L t k w z (Err g)) is l).says.told.1
 
-pub pending_delete : (L : Layout) (t k : ℕ) (w z : WorkerView) (f : CallFault) → f ≡ fault.Pending → LeavesDelete L t k w z (Err f) → z ≡ w
+pub pending_delete : (L : Layout) (t k : ℕ) (w z : WorkerView) (f : CallFault) → f ≡ fault.Pending
+    → LeavesDelete L t k w z (Err f) → z ≡ w
 pending_delete L t k w z f is l = (subst (λ (g : CallFault). LeavesDelete L t k w z (Err g)) is l).says.told.1
 
 other_fault : (f : CallFault) → f ≢ fault.Pending → ◌≢◌ {A = Result Bool CallFault} (Err f) (Err fault.Pending)
 other_fault f other is = other (let same = is in cc)
 
-pub has_failed : (L : Layout) (t k : ℕ) (w z : WorkerView) (f : CallFault) → f ≢ fault.Pending → LeavesHas L t k w z (Err f) → (w.pending ≡ None) × AnswersOnce L t Has k w z (Err f)
-has_failed L t k w z f other l = let none = had_none_has L t k w z (Err f) (other_fault f other) l in (none, has_answers L t k w z (Err f) none l)
+pub has_failed : (L : Layout) (t k : ℕ) (w z : WorkerView) (f : CallFault) → f ≢ fault.Pending
+    → LeavesHas L t k w z (Err f) → (w.pending ≡ None) × AnswersOnce L t Has k w z (Err f)
+has_failed L t k w z f other l = let none = had_none_has L t k w z (Err f) (other_fault f other) l in
+    (none, has_answers L t k w z (Err f) none l)
 
-pub insert_failed : (L : Layout) (t k : ℕ) (w z : WorkerView) (f : CallFault) → f ≢ fault.Pending → LeavesInsert L t k w z (Err f) → (w.pending ≡ None) × AnswersOnce L t Insert k w z (Err f)
-insert_failed L t k w z f other l = let none = had_none_insert L t k w z (Err f) (other_fault f other) l in (none, insert_answers L t k w z (Err f) none l)
+pub insert_failed : (L : Layout) (t k : ℕ) (w z : WorkerView) (f : CallFault) → f ≢ fault.Pending
+    → LeavesInsert L t k w z (Err f) → (w.pending ≡ None) × AnswersOnce L t Insert k w z (Err f)
+insert_failed L t k w z f other l = let none = had_none_insert L t k w z (Err f) (other_fault f other) l in
+    (none, insert_answers L t k w z (Err f) none l)
 
-pub delete_failed : (L : Layout) (t k : ℕ) (w z : WorkerView) (f : CallFault) → f ≢ fault.Pending → LeavesDelete L t k w z (Err f) → (w.pending ≡ None) × AnswersOnce L t Delete k w z (Err f)
-delete_failed L t k w z f other l = let none = had_none_delete L t k w z (Err f) (other_fault f other) l in (none, delete_answers L t k w z (Err f) none l)
+pub delete_failed : (L : Layout) (t k : ℕ) (w z : WorkerView) (f : CallFault) → f ≢ fault.Pending
+    → LeavesDelete L t k w z (Err f) → (w.pending ≡ None) × AnswersOnce L t Delete k w z (Err f)
+delete_failed L t k w z f other l = let none = had_none_delete L t k w z (Err f) (other_fault f other) l in
+    (none, delete_answers L t k w z (Err f) none l)
 
 -- ---- a call with nothing to do first
 
-pub looks_at_once : (b : TreeView) (h : Options) (k : ℕ) (w z : WorkerView) (r : Result Bool CallFault) → w.held ≡ None → w.pending ≡ None → AnswersIn b h Has k (h.rounds + 1) w z r → Manages b h Has k w z r
-looks_at_once b h k w z r free none a = manages_at_once b h Has k (h.rounds + 1) w z r (omega arith) free none (λ not many. not refl) a (never_full Has k _ _ w z r (λ is. let no = is in cc) a) (λ runs. never_unfinished Has k _ _ w z r (λ is. let no = is in cc) a)
+pub looks_at_once : (b : TreeView) (h : Options) (k : ℕ) (w z : WorkerView) (r : Result Bool CallFault)
+    → w.held ≡ None → w.pending ≡ None → AnswersIn b h Has k (h.rounds + 1) w z r → Manages b h Has k w z r
+looks_at_once b h k w z r free none a = manages_at_once b h Has k (h.rounds + 1) w z r (omega arith) free none
+    (λ not many. not refl) a (never_full Has k _ _ w z r (λ is. let no = is in cc) a)
+    (λ runs. never_unfinished Has k _ _ w z r (λ is. let no = is in cc) a)
 
-module _ (b : TreeView) (h : Options) (k : ℕ) (w z : WorkerView) (free : w.held ≡ None) (none : w.pending ≡ None) (few : waiting_in w.queues < h.collect_after) where
+module _ (b : TreeView) (h : Options) (k : ℕ) (w z : WorkerView) (free : w.held ≡ None) (none : w.pending ≡ None)
+    (few : waiting_in w.queues < h.collect_after) where
   tidy : (op : Op) → op ≢ Has → h.collect_after ≤ waiting_in w.queues → ⊥
   tidy op not many = omega (arith, few, many)
 
   pub inserts_tidy : IsKnown w → (r : Result Bool InsertFault) → Inserts b h k w z r → ManagesInsert b h k w z r
   inserts_tidy known r i =
       let most = round_bound h.tries b.layout in
-      inserts_manage b h k 0 w w z r (omega arith) known known (onward_more 0 (0 * most) w w (omega arith) (onward_itself w none free)) (prepares_nothing h Insert w none (tidy Insert)) i
+      inserts_manage b h k 0 w w z r (omega arith) known known
+      (onward_more 0 (0 * most) w w (omega arith) (onward_itself w none free))
+      (prepares_nothing h Insert w none (tidy Insert)) i
 
   pub removes_tidy : (r : Result Bool CallFault) → Removes b h k w z r → Manages b h Delete k w z r
-  removes_tidy r a = manages_at_once b h Delete k (2 * h.rounds + 2) w z r (omega arith) free none (tidy Delete) a.answers (never_full Delete k _ _ w z r (λ is. let no = is in cc) a.answers) a.alone
+  removes_tidy r a = manages_at_once b h Delete k (2 * h.rounds + 2) w z r (omega arith) free none (tidy Delete)
+      a.answers (never_full Delete k _ _ w z r (λ is. let no = is in cc) a.answers) a.alone
 
 -- a remove after what came before it
-pub removes_after : (b : TreeView) (h : Options) (k : ℕ) (w y z : WorkerView) (r : Result Bool CallFault) → IsReady b h w y → Removes b h k y z r → Manages b h Delete k w z r
-removes_after b h k w y z r ready a = manages b h Delete k (h.rounds + 2) (2 * h.rounds + 2) w y z r (omega arith) ready.onward (ready.prepares Delete) a.answers (never_full Delete k _ _ y z r (λ is. let no = is in cc) a.answers) a.alone
+pub removes_after : (b : TreeView) (h : Options) (k : ℕ) (w y z : WorkerView) (r : Result Bool CallFault)
+    → IsReady b h w y → Removes b h k y z r → Manages b h Delete k w z r
+removes_after b h k w y z r ready a = manages b h Delete k (h.rounds + 2) (2 * h.rounds + 2) w y z r (omega arith)
+    ready.onward (ready.prepares Delete) a.answers (never_full Delete k _ _ y z r (λ is. let no = is in cc)
+    a.answers) a.alone

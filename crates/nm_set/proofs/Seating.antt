@@ -10,7 +10,8 @@ use Rattle.nm_set.specs.declared.home.Site.{Site}
 use Rattle.nm_set.specs.Seats.{AreOnSeats, AreOwn, IsResident, sits}
 
 -- a new worker may sit on its seat
-pub new_resident : (b : TreeView) (f : Fit) (i : ℕ) (w : WorkerView) (ws : List WorkerView) → AreNew b i (w ∷ ws) → w.fit ≡ f → IsResident b f i w
+pub new_resident : (b : TreeView) (f : Fit) (i : ℕ) (w : WorkerView) (ws : List WorkerView) → AreNew b i (w ∷ ws)
+    → w.fit ≡ f → IsResident b f i w
 new_resident b f i w ws new fit = record {
   own = record { table = new.0; layout = ap (λ (v : View). v.layout) new.1 };
   alive = ap (λ (v : View). v.resigned) new.1;
@@ -20,7 +21,8 @@ new_resident b f i w ws new fit = record {
 }
 
 -- one more at the end
-pub seated_and : (b : Site) (i : ℕ) (ws : List (Option WorkerView)) (n : ℕ) (w : WorkerView) → n ≡ i + length ws → AreOnSeats b i ws → sits b n 0 w
+pub seated_and : (b : Site) (i : ℕ) (ws : List (Option WorkerView)) (n : ℕ) (w : WorkerView) → n ≡ i + length ws
+    → AreOnSeats b i ws → sits b n 0 w
     → AreOnSeats b i (ws ++ Some w ∷ [])
 seated_and b i [] n w e are here = let at : n ≡ i = omega (arith, e) in (subst (λ (k : ℕ). sits b k 0 w) at here, tt)
 seated_and b i (None ∷ ws) n w e are here = absurd are
@@ -29,7 +31,11 @@ seated_and b i (Some x ∷ ws) n w e are here = (are.0, seated_and b (suc i) ws 
 -- those that were on their seats are the tree's
 pub own_residents : (b : Site) (ws : List WorkerView) → AreResident sits b ws → AreOwn b.tree ws
 own_residents b [] are = tt
-own_residents b (w ∷ ws) are = (record { own = are.0.2.resident.own; alive = are.0.2.resident.alive }, own_residents b ws are.1)
+own_residents b (w ∷ ws) are = (
+  record { own = are.0.2.resident.own; alive = are.0.2.resident.alive },
+  own_residents
+      b ws are.1,
+)
 
 pub own_both : (b : TreeView) (vs ws : List WorkerView) → AreOwn b vs → AreOwn b ws → AreOwn b (vs ++ ws)
 own_both b [] ws are own = own

@@ -39,10 +39,28 @@ letter_sync : IsSync letter.the_row
 letter_sync = search (sendable, crosses, note_sync) depth 20
 
 home_sync : IsSync home.the_row
-home_sync = search (sendable, crosses, tree.the_sync, counted.the_sync, seats.the_sync, worker_crosses.the_send, letter_crosses.the_send, letter_sync, worker_sync) depth 60
+home_sync = search (
+  sendable,
+  crosses,
+  tree.the_sync,
+  counted.the_sync,
+  seats.the_sync,
+  worker_crosses.the_send,
+  letter_crosses.the_send,
+  letter_sync,
+  worker_sync,
+) depth 60
 
 pub member_send : (V : RattleType) (g : contents.Ghosts V.Denot) → IsSend (member.the_row V g)
-member_send V g = search (sendable, crosses, home_crosses.the_send, home_sync, worker_crosses.the_send, way_back.the_send) depth 60
+member_send V g = search (
+  sendable,
+  crosses,
+  home_crosses.the_send,
+  home_sync,
+  worker_crosses.the_send,
+  way_back.the_send,
+) depth 60
 
 pub set_send : (V : RattleType) (g : contents.Ghosts V.Denot) → IsSend (set.the_row V g)
-set_send V g = search (sendable, crosses, home_crosses.the_send, home_sync, tree.the_send, worker_crosses.the_send) depth 80
+set_send V g = search (sendable, crosses, home_crosses.the_send, home_sync, tree.the_send, worker_crosses.the_send)
+    depth 80

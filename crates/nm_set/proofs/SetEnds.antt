@@ -1,5 +1,27 @@
 -- A set that is closed, or left open, by what its tree has told.
-use Rattle.std.proofs.Common.{◌≡◌, ◌∙◌, ◌+◌, ◌≤◌, ℕ, false, true, inr, List, [], ◌∷◌, ◌++◌, append-nil, length, length-append, map, refl, sym, ap, subst, arith}
+use Rattle.std.proofs.Common.{
+  ◌≡◌,
+  ◌∙◌,
+  ◌+◌,
+  ◌≤◌,
+  ℕ,
+  false,
+  true,
+  inr,
+  List,
+  [],
+  ◌∷◌,
+  ◌++◌,
+  append-nil,
+  length,
+  length-append,
+  map,
+  refl,
+  sym,
+  ap,
+  subst,
+  arith,
+}
 use Rattle.std.specs.Prelude.{Result, Ok, Err, IfOk, IfErr}
 use Rattle.nm_edge.specs.declared.placement.Fit.{Fit}
 use Rattle.nm_steps.specs.Steps.{TreeView}
@@ -40,7 +62,8 @@ tree_of (Open home) kept = refl
 tree_of (Closing site) kept = refl
 
 -- with one that was kept there is room still
-pub room_behind : (state : State) (kept : List WorkerView) (w : WorkerView) (room : ℕ) → length kept + room_for_one state ≤ room → MayGather state (kept ++ w ∷ []) room
+pub room_behind : (state : State) (kept : List WorkerView) (w : WorkerView) (room : ℕ)
+    → length kept + room_for_one state ≤ room → MayGather state (kept ++ w ∷ []) room
 room_behind (Open home) kept w room enough = inr (let size = length-append kept (w ∷ []) in omega (arith, size, enough))
 room_behind (Closing site) kept w room enough = tt
 
@@ -83,7 +106,8 @@ map_said_ended s e r report keyed slots bare ends = record {
 }
 
 -- it keeps them, where its tree was not closed
-pub kept_all : (s : SetView) (site : Site) (all : List WorkerView) → Gathers s site all → (t : SetView) → t ≡ closing_set site all → (x : CloseReason) → IsCloseReason site.tree all x → HasGathered s x t
+pub kept_all : (s : SetView) (site : Site) (all : List WorkerView) → Gathers s site all → (t : SetView)
+    → t ≡ closing_set site all → (x : CloseReason) → IsCloseReason site.tree all x → HasGathered s x t
 kept_all s site all g t is x so =
     let tree : t.tree ≡ site.tree = ap (λ (u : SetView). u.tree) is in
     let kept : t.kept ≡ all = ap (λ (u : SetView). u.kept) is in
@@ -99,13 +123,16 @@ kept_all s site all g t is x so =
       reason = subst P (sym tree) (subst Q (sym kept) so);
     }
 
-pub left : (s : SetView) (site : Site) (all : List WorkerView) → Gathers s site all → (t : SetView) → t ≡ closing_set site all → (why : CloseReason) → IsCloseReason site.tree all why → IsLeftOpen s why t
+pub left : (s : SetView) (site : Site) (all : List WorkerView) → Gathers s site all → (t : SetView)
+    → t ≡ closing_set site all → (why : CloseReason) → IsCloseReason site.tree all why → IsLeftOpen s why t
 left s site all g t is because.Attached reason = absurd reason
-left s site all g t is (because.NotAll given made) reason = kept_all s site all g t is (because.NotAll given made) reason
+left s site all g t is (because.NotAll given made) reason = kept_all s site all g t is (because.NotAll given made)
+    reason
 left s site all g t is because.NoMemory reason = kept_all s site all g t is because.NoMemory reason
 
 -- of a set whose workers had been gathered before
-pub had_gathered : (s : SetView) (site : Site) (kept : List WorkerView) → closing_set site kept ≡ s → AreOwn site.tree kept → Gathers s site kept
+pub had_gathered : (s : SetView) (site : Site) (kept : List WorkerView) → closing_set site kept ≡ s
+    → AreOwn site.tree kept → Gathers s site kept
 had_gathered s site kept is own = record {
   tree = ap (λ (u : SetView). u.tree) (sym is);
   fit = ap (λ (u : SetView). u.fit) (sym is);
@@ -116,7 +143,8 @@ had_gathered s site kept is own = record {
 }
 
 -- of an open set
-pub gathered_now : (s : SetView) (site : Site) (kept all : List WorkerView) → open_set site kept ≡ s → BeginsWith kept all → AreOwn site.tree all → Gathers s site all
+pub gathered_now : (s : SetView) (site : Site) (kept all : List WorkerView) → open_set site kept ≡ s
+    → BeginsWith kept all → AreOwn site.tree all → Gathers s site all
 gathered_now s site kept all is (home, are) own = record {
   tree = ap (λ (u : SetView). u.tree) (sym is);
   fit = ap (λ (u : SetView). u.fit) (sym is);
@@ -130,20 +158,33 @@ gathered_now s site kept all is (home, are) own = record {
     differ e = cc
 
 -- of one that keeps a member's worker alone
-pub gathered_with : (m : MemberView) (site : Site) (w : WorkerView) (all : List WorkerView) (t : SetView) → site.tree ≡ m.tree → m.worker.fit ≡ site.fit → w ≡ m.worker → BeginsWith (w ∷ []) all → t ≡ closing_set site all → AreOwn t.tree t.kept
+pub gathered_with : (m : MemberView) (site : Site) (w : WorkerView) (all : List WorkerView) (t : SetView)
+    → site.tree ≡ m.tree → m.worker.fit ≡ site.fit → w ≡ m.worker → BeginsWith (w ∷ []) all
+    → t ≡ closing_set site all → AreOwn t.tree t.kept
     → Gathers (set_of m) site all
 gathered_with m site w all t tree fit mine begins is own =
-    gathered_now (set_of m) site (m.worker ∷ []) all (sites ∙ fits) (subst (λ (x : WorkerView). BeginsWith (x ∷ []) all) mine begins) (subst (λ (x : SetView). AreOwn x.tree x.kept) is own)
+    gathered_now (set_of m) site (m.worker ∷ []) all (sites ∙ fits)
+    (subst (λ (x : WorkerView). BeginsWith (x ∷ []) all) mine begins)
+    (subst (λ (x : SetView). AreOwn x.tree x.kept) is own)
   where
-    sites : open_set site (m.worker ∷ []) ≡ record { tree = m.tree; fit = site.fit; closing = false; kept = m.worker ∷ [] }
+    sites : open_set site (m.worker ∷ []) ≡ record {
+      tree = m.tree;
+      fit = site.fit;
+      closing = false;
+      kept = m.worker
+          ∷ [];
+    }
     sites = ap (λ (b : TreeView). record { tree = b; fit = site.fit; closing = false; kept = m.worker ∷ [] }) tree
 
-    fits : ◌≡◌ {A = SetView} (record { tree = m.tree; fit = site.fit; closing = false; kept = m.worker ∷ [] }) (set_of m)
+    fits : ◌≡◌ {A = SetView} (record { tree = m.tree; fit = site.fit; closing = false; kept = m.worker ∷ [] })
+        (set_of m)
     fits = ap (λ (f : Fit). record { tree = m.tree; fit = f; closing = false; kept = m.worker ∷ [] }) (sym fit)
 
 -- and of one that is as it was
-pub as_before : (s t : SetView) (site : Site) (kept : List WorkerView) → open_set site kept ≡ s → t ≡ open_set site kept → (why : CloseReason) → why ≡ because.Attached → IsLeftOpen s why t
-as_before s t site kept is same why e = subst (λ (w : CloseReason). IsLeftOpen s w t) (sym e) (ap (λ (u : SetView). u.closing) (sym is), same ∙ is)
+pub as_before : (s t : SetView) (site : Site) (kept : List WorkerView) → open_set site kept ≡ s
+    → t ≡ open_set site kept → (why : CloseReason) → why ≡ because.Attached → IsLeftOpen s why t
+as_before s t site kept is same why e = subst (λ (w : CloseReason). IsLeftOpen s w t) (sym e)
+    (ap (λ (u : SetView). u.closing) (sym is), same ∙ is)
 
 -- ---- from one clause to another
 
@@ -151,12 +192,14 @@ pub if_ok : {X E : Type 0} (P Q : X → Type 0) (r : Result X E) → IfOk r P �
 if_ok P Q (Ok x) p f = f x p
 if_ok P Q (Err e) p f = tt
 
-pub if_err : {X E : Type 0} (P Q R : E → Type 0) (r : Result X E) → IfErr r P → IfErr r Q → ((e : E) → P e → Q e → R e) → IfErr r R
+pub if_err : {X E : Type 0} (P Q R : E → Type 0) (r : Result X E) → IfErr r P → IfErr r Q
+    → ((e : E) → P e → Q e → R e) → IfErr r R
 if_err P Q R (Ok x) p q f = tt
 if_err P Q R (Err e) p q f = f e p q
 
 -- a close that has such workers
-module _ (s : SetView) (site : Site) (all : List WorkerView) (g : Gathers s site all) (told : Result Ended (CloseError SetView)) where
+module _ (s : SetView) (site : Site) (all : List WorkerView) (g : Gathers s site all)
+    (told : Result Ended (CloseError SetView)) where
   pub closes : IfOk told
       (λ r. SaysClosed site.tree all r.report.queues.items r.report.keys.items r.report.free r.report.reached)
       → IfOk told (λ r. SaysEnded s r.report)
@@ -173,7 +216,10 @@ module _ (s : SetView) (site : Site) (all : List WorkerView) (g : Gathers s site
       r.layout r.report.free r.report.reached) (EndsMapSet s) told (values (subst HasValues g.tree has))
       (map_ended s site all g)
 
-  pub refuses : IfErr told (λ e. e.set ≡ closing_set site all) → IfErr told (λ e. IsCloseReason site.tree all e.reason) → IfErr told (λ e. IsLeftOpen s e.reason e.set)
+  pub refuses : IfErr told (λ e. e.set ≡ closing_set site all)
+      → IfErr told (λ e. IsCloseReason site.tree all e.reason) → IfErr told (λ e. IsLeftOpen s e.reason e.set)
   refuses refused reason =
-      if_err (λ (e : CloseError SetView). e.set ≡ closing_set site all) (λ (e : CloseError SetView). IsCloseReason site.tree all e.reason) (λ (e : CloseError SetView). IsLeftOpen s e.reason e.set) told refused reason
+      if_err (λ (e : CloseError SetView). e.set ≡ closing_set site all)
+      (λ (e : CloseError SetView). IsCloseReason site.tree all e.reason)
+      (λ (e : CloseError SetView). IsLeftOpen s e.reason e.set) told refused reason
       (λ e is why. left s site all g e.set is e.reason why)

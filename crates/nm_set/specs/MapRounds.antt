@@ -35,7 +35,8 @@ pub record LooksWereBusy (b : TreeView) (h : Options) (n : ℕ) (w z : WorkerVie
   pub frees : FreesNone w z
 
 -- at most n look-ups of a value, made until one is not busy
-pub record GetsIn (b : TreeView) (h : Options) (k n : ℕ) (w z : WorkerView) (r : Result (Option ℕ) CallFault) : Type 0 where
+pub record GetsIn (b : TreeView) (h : Options) (k n : ℕ) (w z : WorkerView) (r : Result (Option ℕ) CallFault) : Type
+    0 where
   pub answers : AnswersGet k (n * look_bound h.tries b.layout) n h.tries w z r
   pub stores : KeepsStores w z
   pub frees : FreesNone w z

@@ -1,5 +1,27 @@
 -- Maps: what managed calls and collections of a map leave.
-use Rattle.std.specs.Prelude.{◌≡◌, ◌≢◌, ◌≤◌, ◌+◌, ◌*◌, ℕ, nat_lt, Bool, true, List, length, take, Option, Some, None, Result, Ok, Err, IfOk, IfErr, IfSome}
+use Rattle.std.specs.Prelude.{
+  ◌≡◌,
+  ◌≢◌,
+  ◌≤◌,
+  ◌+◌,
+  ◌*◌,
+  ℕ,
+  nat_lt,
+  Bool,
+  true,
+  List,
+  length,
+  take,
+  Option,
+  Some,
+  None,
+  Result,
+  Ok,
+  Err,
+  IfOk,
+  IfErr,
+  IfSome,
+}
 use Rattle.nm_edge.specs.Layouts.{Layout}
 use Rattle.nm_model.specs.declared.event.Op.{Op}
 use Rattle.nm_model.specs.declared.event.Op.TheVariants.{Has}
@@ -77,7 +99,8 @@ pub record AnswersGet (k most rounds tries : ℕ) (w z : WorkerView) (r : Result
 -- first. If the worker ran alone, an error is due to a number of tries that is 0 (`alone`), or the
 -- remove stays pending for a lack of room (`pending`). If no remove was pending, the worker has seen
 -- all stores that it had seen (`stores`). It has freed no node (`frees`)
-pub record ManagesGet (b : TreeView) (h : Options) (k : ℕ) (w z : WorkerView) (r : Result (Option ℕ) CallFault) : Type 0 where
+pub record ManagesGet (b : TreeView) (h : Options) (k : ℕ) (w z : WorkerView)
+    (r : Result (Option ℕ) CallFault) : Type 0 where
   pub answers : AnswersGet k
       ((h.rounds + 1) * (round_bound h.tries b.layout + look_bound h.tries b.layout)) (h.rounds + 1)
       h.tries w z r

@@ -16,7 +16,8 @@ pub is_open : (h : Handle) (x : Owner) → h.place.held ≡ Some x → h.in_use 
 unfolding held_by
 is_open h x e z = ap (λ (y : Option Owner). hold y h.in_use) e ∙ ap (hold (Some x)) z
 
-refuses_used : (x : Option Owner) (n m : ℕ) → (n ≡ 0 → ⊥) → m ≡ 1 → IsRefused (hold x n) (hold x m) outcome.InUse × CannotOpen (hold x n) (hold x m) outcome.InUse
+refuses_used : (x : Option Owner) (n m : ℕ) → (n ≡ 0 → ⊥) → m ≡ 1
+    → IsRefused (hold x n) (hold x m) outcome.InUse × CannotOpen (hold x n) (hold x m) outcome.InUse
 unfolding IsRefused CannotOpen
 refuses_used x zero m used one = absurd (used refl)
 refuses_used x (suc n) m used one = let e = in_use x m one in ((refl, e), (refl, e)) where

@@ -17,13 +17,29 @@ with_queue r worker g = record r { report = record (r.report) { queues = with_it
 
 pub leaf_taken : (r : Remains) (v : MapValuesView) (worker old new : ℕ) (h g : HeldQueue) (e : Entry)
     → r.values ≡ Some v → slice_get r.report.queues.items worker ≡ Some h → LosesLeaf v h g e
-    → new ≡ slot_written (value_at_slot v.slots e.node.slot) old → TakesReturned worker old new r (with_queue r worker g) Yes
+    → new ≡ slot_written (value_at_slot v.slots e.node.slot) old
+    → TakesReturned worker old new r (with_queue r worker g) Yes
 leaf_taken r v worker old new h g e valued found loses written =
     let queues = r.report.queues.items in
     let q : Remains = with_queue r worker g in
     subst (λ (w : Option MapValuesView). IsReturnedOf w worker old new r q Yes) (sym valued)
     (subst (λ (o : Option HeldQueue). IsReturned v o worker old new r q Yes) (sym found)
-    (inr (refl, e, g, loses, written, record { here = get_written queues worker g (slice_get_within queues worker h found); others = λ i apart. get_beside queues worker i g apart; keys = refl; free = refl; reached = refl; values = refl })))
+    (inr (
+      refl,
+      e,
+      g,
+      loses,
+      written,
+      record {
+        here = get_written queues worker g
+            (slice_get_within queues worker h found);
+        others = λ i apart. get_beside queues worker i g apart;
+        keys = refl;
+        free = refl;
+        reached = refl;
+        values = refl;
+      },
+    )))
 
 pub none_taken : (r : Remains) (v : MapValuesView) (worker old new : ℕ) (h g : HeldQueue) → r.values ≡ Some v
     → slice_get r.report.queues.items worker ≡ Some h → LosesAll v h g

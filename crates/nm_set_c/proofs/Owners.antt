@@ -15,25 +15,31 @@ has_done does m n o d = d
 
 -- ---- of a handle of any kind: it is refused, or has something of the kind, or something else
 
-pub refused : {A : Type 0} (kind : A → Owner) (does : A → A → Outcome → Type 0) (same : Type 0) (old new : Hold) (o : Outcome) → IsRefused old new o → same → OfHandle kind does same old new o
+pub refused : {A : Type 0} (kind : A → Owner) (does : A → A → Outcome → Type 0) (same : Type 0) (old new : Hold)
+    (o : Outcome) → IsRefused old new o → same → OfHandle kind does same old new o
 unfolding OfHandle
 refused kind does same old new o r s = inl (r, s)
 
-pub owned : {A : Type 0} (kind : A → Owner) (does : A → A → Outcome → Type 0) (same : Type 0) (old new : Hold) (x y : Owner) (o : Outcome)
+pub owned : {A : Type 0} (kind : A → Owner) (does : A → A → Outcome → Type 0) (same : Type 0) (old new : Hold)
+    (x y : Owner) (o : Outcome)
     → old ≡ Open x → new ≡ Open y → Owns kind does same x (Open y) o → OfHandle kind does same old new o
 unfolding OfHandle
 owned kind does same old new x y o e f d = inr (x, e, subst (λ (h : Hold). Owns kind does same x h o) (sym f) d)
 
-pub does_owned : {A : Type 0} (kind : A → Owner) (does : A → A → Outcome → Type 0) (same : Type 0) (x : Owner) (m n : A) (o : Outcome)
+pub does_owned : {A : Type 0} (kind : A → Owner) (does : A → A → Outcome → Type 0) (same : Type 0) (x : Owner)
+    (m n : A) (o : Outcome)
     → x ≡ kind m → does m n o → Owns kind does same x (Open (kind n)) o
 unfolding Owns
 does_owned kind does same x m n o e d = inl (m, e, (n, refl, d))
 
-pub told : {A : Type 0} (kind : A → Owner) (does : A → A → Outcome → Type 0) (same : Type 0) (old new : Hold) (m n : A) (o : Outcome)
+pub told : {A : Type 0} (kind : A → Owner) (does : A → A → Outcome → Type 0) (same : Type 0) (old new : Hold)
+    (m n : A) (o : Outcome)
     → old ≡ Open (kind m) → new ≡ Open (kind n) → does m n o → OfHandle kind does same old new o
-told kind does same old new m n o e f d = owned kind does same old new (kind m) (kind n) o e f (does_owned kind does same (kind m) m n o refl d)
+told kind does same old new m n o e f d = owned kind does same old new (kind m) (kind n) o e f
+    (does_owned kind does same (kind m) m n o refl d)
 
-pub asked : {A : Type 0} (kind : A → Owner) (does : A → A → Outcome → Type 0) (same : Type 0) (old new : Hold) (m n : A) (o : Outcome)
+pub asked : {A : Type 0} (kind : A → Owner) (does : A → A → Outcome → Type 0) (same : Type 0) (old new : Hold)
+    (m n : A) (o : Outcome)
     → HasDone does m n o → new ≡ Open (kind n) → old ≡ Open (kind m) → OfHandle kind does same old new o
 unfolding HasDone
 asked kind does same old new m n o d f e = told kind does same old new m n o e f d
@@ -43,7 +49,8 @@ pub is_other : {A : Type 0} (kind : A → Owner) (does : A → A → Outcome →
 unfolding Owns
 is_other kind does same x not s = inr (not, (refl, refl, s))
 
-pub other : {A : Type 0} (kind : A → Owner) (does : A → A → Outcome → Type 0) (same : Type 0) (old new : Hold) (x : Owner)
+pub other : {A : Type 0} (kind : A → Owner) (does : A → A → Outcome → Type 0) (same : Type 0) (old new : Hold)
+    (x : Owner)
     → ((a : A) → x ≡ kind a → ⊥) → old ≡ Open x → new ≡ Open x → same → OfHandle kind does same old new Kind
 other kind does same old new x not e f s = owned kind does same old new x x Kind e f (is_other kind does same x not s)
 

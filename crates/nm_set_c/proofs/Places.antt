@@ -11,7 +11,34 @@ use base.Fml.{ftrue, fsep}
 use prog.Model.{Model}
 use prog.Wired.{Wired}
 use types.Logic.{Logic, sem}
-use types.Kit.{Item, Goal, Seq, Step, step, ‵, raw, given, ◌$◌, ◌∵◌, !, qed, move, keep, drop, join, fsplit, fjoin, fpick, fpack, feq_i, feq_l, use1, learn, show, done}
+use types.Kit.{
+  Item,
+  Goal,
+  Seq,
+  Step,
+  step,
+  ‵,
+  raw,
+  given,
+  ◌$◌,
+  ◌∵◌,
+  !,
+  qed,
+  move,
+  keep,
+  drop,
+  join,
+  fsplit,
+  fjoin,
+  fpick,
+  fpack,
+  feq_i,
+  feq_l,
+  use1,
+  learn,
+  show,
+  done,
+}
 use contract.Monad.{fact_use}
 use contract.Running.{Running}
 use denote.Exit.{no}
@@ -75,34 +102,46 @@ block_good b o h fits = (and_tt (has_ty (layout Z) h) fits.0, (tt, (fits.1, tt))
 module _ {M : Type 1} {𝓤 : Ura M} {𝓛 : Logic 𝓤} {K : Type 0} {Γ : List (Item 𝓤)} {G : Goal 𝓤 𝓛.H} where
   -- a place is its pointer and the heap's, with what it holds, and is made of these
   pub place_out : K → (d : Place.Denot) (vs : List Val)
-      → ((h : Val) → vs ≡ both (ptr_val d.at) h ∷ [] → Good (layout Z) h → Seq K 𝓛 (‵ (owned_at d.alloc d.at d.held) ∷ ‵ (Z.own_val d.alloc (h ∷ [])) ∷ Γ) G)
+      → ((h : Val) → vs ≡ both (ptr_val d.at) h ∷ [] → Good (layout Z) h
+      → Seq K 𝓛 (‵ (owned_at d.alloc d.at d.held) ∷ ‵ (Z.own_val d.alloc (h ∷ [])) ∷ Γ) G)
       → Seq K 𝓛 (‵ (Place.own_val d vs) ∷ Γ) G
   place_out t d vs k =
-      fsplit t $ fpick t (λ vss. fsplit t $ feq_l t (λ ev. fsplit t $ feq_l t (λ ep. fsplit t $ handle_tells al t d.alloc vss.1.0 (λ h ea fits. move t (1 ∷ []) $ drop t $ move t (1 ∷ []) $ k h
-      (subst (λ (ws : List Val). vs ≡ vstruct (of_list (ptr_val d.at ∷ (ws ++ []))) ∷ []) ea (subst (λ (ps : List Val). vs ≡ vstruct (of_list (ps ++ (vss.1.0 ++ []))) ∷ []) ep ev)) fits))))
+      fsplit t $ fpick t (λ vss. fsplit t $ feq_l t (λ ev. fsplit t $ feq_l t
+      (λ ep. fsplit t $ handle_tells al t d.alloc vss.1.0
+      (λ h ea fits. move t (1 ∷ []) $ drop t $ move t (1 ∷ []) $ k h
+      (subst (λ (ws : List Val). vs ≡ vstruct (of_list (ptr_val d.at ∷ (ws ++ []))) ∷ []) ea
+      (subst (λ (ps : List Val). vs ≡ vstruct (of_list (ps ++ (vss.1.0 ++ []))) ∷ []) ep ev)) fits))))
 
   pub place_in : K → (p : Ptr) (h : Val) (a : Z.Denot) (x : Option R.Denot)
-      → Step K 𝓛 (‵ (Place.own_val (record { at = p; alloc = a; held = x }) (both (ptr_val p) h ∷ [])) ∷ Γ) G (‵ (owned_at a p x) ∷ ‵ (Z.own_val a (h ∷ [])) ∷ Γ) G
+      → Step K 𝓛 (‵ (Place.own_val (record { at = p; alloc = a; held = x }) (both (ptr_val p) h ∷ [])) ∷ Γ) G
+      (‵ (owned_at a p x) ∷ ‵ (Z.own_val a (h ∷ [])) ∷ Γ) G
   place_in t p h a x = step (λ s. let v : Val = both (ptr_val p) h in
-      nothing t $ move t (2 ∷ 0 ∷ []) $ fjoin t $ feq_i t (List Val) (ptr_val p ∷ []) (ptr_val p ∷ []) refl $ fjoin t $ feq_i t (List Val) (v ∷ []) (v ∷ []) refl $ fjoin t $
-      fpack t (Valss (RawPtr ∷ Z ∷ [])) (within (shape place.the_type) (p, (((tt, tt), tt), tt)) (v ∷ [])) (ptr_val p ∷ [], (h ∷ [], tt)) $ fjoin t $ s)
+      nothing t $ move t (2 ∷ 0 ∷ []) $ fjoin t $ feq_i t (List Val) (ptr_val p ∷ []) (ptr_val p ∷ []) refl $ fjoin t
+      $ feq_i t (List Val) (v ∷ []) (v ∷ []) refl $ fjoin t $
+      fpack t (Valss (RawPtr ∷ Z ∷ [])) (within (shape place.the_type) (p, (((tt, tt), tt), tt)) (v ∷ []))
+      (ptr_val p ∷ [], (h ∷ [], tt)) $ fjoin t $ s)
 
 module _ {M : Type 1} {𝓤 : Ura M} (𝓛 : Logic 𝓤) where
   -- the pointer of a box may be compared with null
   pub tested : (a : Z.Denot) (p : Ptr) (x : R.Denot)
-      → ent 𝓤 (sem 𝓛 (box_owns (ghosts.dealloc_token a) R p x)) (guard 𝓤 (Testable p) (sem 𝓛 (box_owns (ghosts.dealloc_token a) R p x)))
+      → ent 𝓤 (sem 𝓛 (box_owns (ghosts.dealloc_token a) R p x))
+      (guard 𝓤 (Testable p) (sem 𝓛 (box_owns (ghosts.dealloc_token a) R p x)))
   tested a p x = let B : SProp 𝓤 = sem 𝓛 (box_owns (ghosts.dealloc_token a) R p x) in
-      fact_use 𝓤 (Testable p) (via 𝓤 _ (snd∗ 𝓤 (sem 𝓛 (lies_at R full_share p x)) (sem 𝓛 (ghosts.dealloc_token a (bare (lone R.mir)) p))) (dealloc_token-Testable 𝓛 a (bare (lone R.mir)) p)) (guard_i 𝓤 (Testable p) B)
+      fact_use 𝓤 (Testable p) (via 𝓤 _ (snd∗ 𝓤 (sem 𝓛 (lies_at R full_share p x))
+      (sem 𝓛 (ghosts.dealloc_token a (bare (lone R.mir)) p))) (dealloc_token-Testable 𝓛 a (bare (lone R.mir)) p))
+      (guard_i 𝓤 (Testable p) B)
 
 module _ {M : Type 1} {𝓤 : Ura M} {𝓛 : Logic 𝓤} {K : Type 0} {Γ : List (Item 𝓤)} {G : Goal 𝓤 𝓛.H} where
   -- by whether it holds one: a null pointer, or a box at a pointer that may be compared with null
   pub either_held : K → (a : Z.Denot) (p : Ptr) (x : Option R.Denot) → (p ≡ null_ptr → x ≡ None → Seq K 𝓛 Γ G)
-      → ((b o : ℕ) (w : R.Denot) → p ≡ block_ptr b o → x ≡ Some w → Testable (block_ptr b o) → Seq K 𝓛 (‵ (box_owns (ghosts.dealloc_token a) R (block_ptr b o) w) ∷ Γ) G)
+      → ((b o : ℕ) (w : R.Denot) → p ≡ block_ptr b o → x ≡ Some w → Testable (block_ptr b o)
+      → Seq K 𝓛 (‵ (box_owns (ghosts.dealloc_token a) R (block_ptr b o) w) ∷ Γ) G)
       → Seq K 𝓛 (‵ (owned_at a p x) ∷ Γ) G
   either_held t a p None none one = feq_l t (λ e. none e refl)
   either_held t a p (Some w) none one =
       use1 𝓛 (given (Testable p) (‵ (box_owns (ghosts.dealloc_token a) R p w))) (tested 𝓛 a p w) $ learn t (λ test.
-      in_a_block t p (λ q. box_owns (ghosts.dealloc_token a) R q w) (fst∗ 𝓤 (never 𝓤) (sem 𝓛 (ghosts.dealloc_token a (bare (lone R.mir)) null_ptr))) (λ b o e.
+      in_a_block t p (λ q. box_owns (ghosts.dealloc_token a) R q w)
+      (fst∗ 𝓤 (never 𝓤) (sem 𝓛 (ghosts.dealloc_token a (bare (lone R.mir)) null_ptr))) (λ b o e.
       one b o w e refl (subst Testable e test)))
 
 -- ---- the owner and the heap as the type arguments of a call, which passes a type without its names
@@ -128,18 +167,38 @@ owner_drop = impl (its_drop.symbol ∷ []) tnil dnil
 
 -- the box of an owner, as a call has it
 abbrev pub Boxed : box.Bx
-Boxed = record { row = X; laws = X_laws; al = record { row = Y; laws = Y_laws; g = ghosts; d = dict; drops = heap_drop } }
+Boxed = record {
+  row = X;
+  laws = X_laws;
+  al = record {
+    row = Y;
+    laws = Y_laws;
+    g = ghosts;
+    d = dict;
+    drops =
+        heap_drop;
+  };
+}
 
 module _ {M : Type 1} (𝓤 : Ura M) (𝓛 : Logic 𝓤) (𝓜 : Model 𝓤 𝓛.H) (𝓡 : Running 𝓤 𝓛.H 𝓜) where
   -- an owner's drop is the glue that a call is handed
   pub owner_glued : Wired 𝓡.env its_drop.code → Met 𝓛 𝓜 𝓡 𝓡.env X owner_drop
   owner_glued wired =
-      let k : Callee = method owner_drop 0 no_args in let run = 𝓡.run (𝓡.env k) in let framed = run_framed 𝓤 𝓛.H 𝓜 𝓡 (𝓡.env k) in
+      let k : Callee = method owner_drop 0 no_args in let run = 𝓡.run (𝓡.env k) in
+      let framed = run_framed 𝓤 𝓛.H 𝓜 𝓡 (𝓡.env k) in
       let says : Spec 𝓤 dropping.signature = dropping.spec 𝓛 𝓜.mem 𝓡.returns in
       let ends : SProp 𝓤 = sep 𝓤 (sem 𝓛 (fsep ftrue ftrue)) (emp 𝓤) in
-      let silent : Spec 𝓤 dropping.signature = λ κs a. record { ghost = Unit {0}; requires = λ _. emp 𝓤; ensures = λ _ r. ex 𝓤 (λ (_ : Unit {0} × Unit {0}). ends) } in
+      let silent : Spec 𝓤 dropping.signature = λ κs a.
+      record {
+        ghost = Unit {0};
+        requires = λ _. emp 𝓤;
+        ensures = λ _ r. ex 𝓤
+            (λ (_ : Unit {0} × Unit {0}). ends);
+      } in
       spared 𝓛 dropping.signature run framed 1 (X.lives, tt) silent
       (beside 𝓛 dropping.signature run framed says silent (λ κs a g. tt) (λ κs a g. emp 𝓤) (λ κs a g. emp∗ 𝓤 (emp 𝓤))
-      (λ κs a g r. qed 𝓛 (raw ((says κs a).ensures tt r) ∷ raw (emp 𝓤) ∷ []) ∵ keep ! [] $ show ! (λ (_ : Unit {0} × Unit {0}). ends) (tt, tt) $ nothing ! $ nothing ! $ nothing ! $ fjoin ! $ join ! $
+      (λ κs a g r. qed 𝓛 (raw ((says κs a).ensures tt r) ∷ raw (emp 𝓤) ∷ []) ∵ keep ! [] $ show !
+      (λ (_ : Unit {0} × Unit {0}). ends) (tt, tt) $ nothing ! $ nothing ! $ nothing ! $ fjoin ! $ join ! $
       done !)
-      (widened 𝓤 𝓛.H (triple_of 𝓛 dropping.signature says) 𝓜 𝓡 𝓡.env (𝓡.env its_drop.name) (𝓡.env k) (its_drop.as_method 𝓡.env wired k refl) (drop_met.met 𝓤 𝓛 𝓜 𝓡 wired)))
+      (widened 𝓤 𝓛.H (triple_of 𝓛 dropping.signature says) 𝓜 𝓡 𝓡.env (𝓡.env its_drop.name) (𝓡.env k)
+      (its_drop.as_method 𝓡.env wired k refl) (drop_met.met 𝓤 𝓛 𝓜 𝓡 wired)))

@@ -1,5 +1,25 @@
 -- A member that was borrowed, asked once, and given back.
-use Rattle.std.proofs.Common.{◌≡◌, ◌∙◌, ℕ, suc, ◌+◌, ◌<◌, Bool, List, [], ◌∷◌, ◌++◌, length, inl, inr, sym, ap, subst, arith, refl}
+use Rattle.std.proofs.Common.{
+  ◌≡◌,
+  ◌∙◌,
+  ℕ,
+  suc,
+  ◌+◌,
+  ◌<◌,
+  Bool,
+  List,
+  [],
+  ◌∷◌,
+  ◌++◌,
+  length,
+  inl,
+  inr,
+  sym,
+  ap,
+  subst,
+  arith,
+  refl,
+}
 use Rattle.std.specs.Prelude.{Option, Some, None, Result, Ok, Err}
 use Rattle.atomic_table.specs.Seated.{TableId}
 use Rattle.nm_calls.specs.declared.fault.CallFault.{CallFault}
@@ -32,7 +52,19 @@ use Rattle.nm_lending.specs.Visits.{AreSeated}
 use Rattle.nm_lending.specs.Views.{LoanView, NoneIsLent}
 use Rattle.nm_lending.specs.Views as lending
 use Rattle.nm_shared.specs.SharedMaps.{AsksIfPinned, AsksUnderPin, GetsMany}
-use Rattle.nm_shared.specs.Sharing.{SharedView, CallerView, NoneWasFree, Sits, IsBorrowed, MayComeBack, SitsIn, Visited, SaysShared, goes_on, note_of}
+use Rattle.nm_shared.specs.Sharing.{
+  SharedView,
+  CallerView,
+  NoneWasFree,
+  Sits,
+  IsBorrowed,
+  MayComeBack,
+  SitsIn,
+  Visited,
+  SaysShared,
+  goes_on,
+  note_of,
+}
 
 -- ---- what each managed call keeps
 
@@ -100,7 +132,8 @@ not_held t w p pinning.Pinned free did = absurd did
 asks_keep : (L : Layout) (old new : List Query) (p z : WorkerView) (r : Result (Unit {0}) CallFault)
     → AsksUnderPin L old new p z r → Keeps p z
 asks_keep L old new p z r a = record {
-  same = same_then p.pass a.asked.pass z.pass a.gets.same (same_by_step a.asked.pass z.pass Leave Departed a.unpins.step);
+  same = same_then p.pass a.asked.pass z.pass a.gets.same
+      (same_by_step a.asked.pass z.pass Leave Departed a.unpins.step);
   past = seen_through p.pass a.asked.pass z.pass a.gets.past a.unpins.past;
   free = λ none'. a.unpins.held;
 }

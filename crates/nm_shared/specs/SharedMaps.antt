@@ -27,13 +27,15 @@ use Rattle.nm_shared.specs.Sharing.{CallerView, SharedView, Visited}
 
 -- an insert with a value v: if it returns true, the map had the key with v at a moment of the call, and
 -- if it returns false, with the value f
-pub record PutsValue (b : TreeView) (h : Options) (k v f : ℕ) (w z : WorkerView) (r : Result Bool CallFault) : Type 0 where
+pub record PutsValue (b : TreeView) (h : Options) (k v f : ℕ) (w z : WorkerView) (r : Result Bool CallFault) : Type
+    0 where
   pub says : SaysChange Insert b h k w z r
   pub puts : r ≡ Ok true → HasPut w.pass z.pass k v
   pub finds : r ≡ Ok false → MapGave w.pass z.pass k (Some f)
 
 -- a remove: the map had the key with the value v right before the leaf was flagged
-pub record TakesValue (b : TreeView) (h : Options) (k v : ℕ) (w z : WorkerView) (r : Result Bool CallFault) : Type 0 where
+pub record TakesValue (b : TreeView) (h : Options) (k v : ℕ) (w z : WorkerView) (r : Result Bool CallFault) : Type
+    0 where
   pub says : SaysChange Delete b h k w z r
   pub takes : IfTaken r (TookMeanwhile w.pass z.pass k v)
 

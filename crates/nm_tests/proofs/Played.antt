@@ -13,7 +13,8 @@ use Rattle.nm_walks.proofs.Adding.{Adds}
 use Rattle.nm_walks.proofs.KeptLedgers.{holds_on}
 use Rattle.nm_walks.proofs.GoingOn.{pinned_still, own_still}
 
-pub removing_still : (p q : PassView) (k : ℕ) (n : NodeId) → IsRemoving p k n → GoesOn p q → OnlyLooks p q → IsRemoving q k n
+pub removing_still : (p q : PassView) (k : ℕ) (n : NodeId) → IsRemoving p k n → GoesOn p q → OnlyLooks p q
+    → IsRemoving q k n
 removing_still p q k n r on only = record {
   run = on.run;
   pinned = pinned_still p q on r.pinned;
@@ -25,7 +26,8 @@ removing_still p q k n r on only = record {
   labelled = ap (λ (b : Brief). b.unlabelled) only.epochs ∙ r.labelled;
 }
 
-pub pending_still : {m : ℕ} (b : TreeView) (p q : PassView) (h : HeldQueue) (k : ℕ) (n : NodeId) → IsPendingFor b p h k n → GoesOn p q → OnlyLooks p q → Adds 0 0 0 m p.view.log q.view.log → IsPendingFor b q h k n
+pub pending_still : {m : ℕ} (b : TreeView) (p q : PassView) (h : HeldQueue) (k : ℕ) (n : NodeId)
+    → IsPendingFor b p h k n → GoesOn p q → OnlyLooks p q → Adds 0 0 0 m p.view.log q.view.log → IsPendingFor b q h k n
 pending_still b p q h k n pending on only adds = record {
   own = own_still b p q pending.own on.same;
   kept = holds_on p q h on.same only.ledgers adds pending.kept;

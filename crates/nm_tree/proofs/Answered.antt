@@ -17,7 +17,18 @@ use Rattle.nm_calls.specs.Inserts.{InsertDid}
 use Rattle.nm_calls.specs.PlainWalks.{LooksUnderPin, PlainMissed}
 use Rattle.nm_calls.specs.Scans.{count_of}
 use Rattle.nm_calls.specs.declared.scanning.Scanned.{Scanned}
-use Rattle.nm_tree.specs.Answers.{IsFree, LacksRoom, HasTold, HasAnswered, InsertTold, HasInserted, FailsAlone, FindsNoSlot, FoundNoSlot, HasMade}
+use Rattle.nm_tree.specs.Answers.{
+  IsFree,
+  LacksRoom,
+  HasTold,
+  HasAnswered,
+  InsertTold,
+  HasInserted,
+  FailsAlone,
+  FindsNoSlot,
+  FoundNoSlot,
+  HasMade,
+}
 use Rattle.nm_tree.specs.Looked.{HasSeenMore}
 use Rattle.nm_tree.specs.Workers.{WorkerView}
 
@@ -27,20 +38,28 @@ of_error {X} {P} r f is holds = subst (λ (s : Result X CallFault). IfErr s (λ 
 
 -- ---- why a call failed that ran alone
 
-pub look_fails : (tries : ℕ) (z : WorkerView) (r : Result Bool CallFault) → IfErr r (λ e. e ≡ fault.Busy) → (IsErrOf r fault.Busy → tries ≡ 0) → IfErr r (FailsAlone 1 1 tries z)
+pub look_fails : (tries : ℕ) (z : WorkerView) (r : Result Bool CallFault) → IfErr r (λ e. e ≡ fault.Busy)
+    → (IsErrOf r fault.Busy → tries ≡ 0) → IfErr r (FailsAlone 1 1 tries z)
 look_fails tries z (Ok b) busy none = tt
-look_fails tries z (Err e) busy none = subst (FailsAlone 1 1 tries z) (sym busy) (let zero = none (let P : CallFault → Type 0 = λ f. IsErrOf {T = Bool} (Err f) fault.Busy in subst P (sym busy) refl) in omega (arith, zero))
+look_fails tries z (Err e) busy none = subst (FailsAlone 1 1 tries z) (sym busy)
+    (let zero = none (let P : CallFault → Type 0 = λ f. IsErrOf {T = Bool} (Err f) fault.Busy in
+    subst P (sym busy) refl) in omega (arith, zero))
 
 -- a worker that found no slot since a moment found none in all
 pub found_ever : (p q : PassView) → FoundNoSlot p q → FindsNoSlot q.view.layout.nodes q.view.number q.view.past
-found_ever p q (turns, is, finds) = λ s low high. subst (λ (ts : List Turn). HasMade q.view.number ts (Claim s) Taken ⊎ HasMade q.view.number ts (Look s Birth) (BirthIs last_number)) (sym is) (by s (finds s low high))
+found_ever p q (turns, is, finds) = λ s low high. subst
+    (λ (ts : List Turn). HasMade q.view.number ts (Claim s) Taken
+    ⊎ HasMade q.view.number ts (Look s Birth) (BirthIs last_number)) (sym is) (by s (finds s low high))
   where
-    by : (s : ℕ) → HasMade q.view.number turns (Claim s) Taken ⊎ HasMade q.view.number turns (Look s Birth) (BirthIs last_number)
-        → HasMade q.view.number (p.view.past ++ turns) (Claim s) Taken ⊎ HasMade q.view.number (p.view.past ++ turns) (Look s Birth) (BirthIs last_number)
+    by : (s : ℕ) → HasMade q.view.number turns (Claim s) Taken
+        ⊎ HasMade q.view.number turns (Look s Birth) (BirthIs last_number)
+        → HasMade q.view.number (p.view.past ++ turns) (Claim s) Taken
+        ⊎ HasMade q.view.number (p.view.past ++ turns) (Look s Birth) (BirthIs last_number)
     by s (inl made) = inl (Contains-append_right p.view.past turns _ made)
     by s (inr made) = inr (Contains-append_right p.view.past turns _ made)
 
-pub insert_fails : (tries : ℕ) (w z : WorkerView) (r : Result Bool CallFault) → InsertTold w z r → (IsErrOf r fault.Busy → tries ≡ 0) → IfErr r (FailsAlone 1 1 tries z)
+pub insert_fails : (tries : ℕ) (w z : WorkerView) (r : Result Bool CallFault) → InsertTold w z r
+    → (IsErrOf r fault.Busy → tries ≡ 0) → IfErr r (FailsAlone 1 1 tries z)
 insert_fails tries w z (Ok b) told none = tt
 insert_fails tries w z (Err fault.Busy) told none = let zero = none refl in omega (arith, zero)
 insert_fails tries w z (Err fault.Unfinished) told none = absurd told
@@ -56,11 +75,16 @@ module _ (L : Layout) (tries k : ℕ) (w z : WorkerView) (free : IsFree w z) whe
   has_told (Ok b) busy = free
   has_told (Err e) busy = subst (λ (f : CallFault). HasTold w z (Err f)) (sym busy) free
 
-  pub has_answered : (r : Result Bool CallFault) → IfOk r (HasDid L tries k w.pass.view.log z.pass.view.log) → IfErr r (λ e. HasMissed L tries k w.pass.view.log z.pass.view.log) → IfErr r (λ e. e ≡ fault.Busy) → HasAnswered L tries k w z r
+  pub has_answered : (r : Result Bool CallFault) → IfOk r (HasDid L tries k w.pass.view.log z.pass.view.log)
+      → IfErr r (λ e. HasMissed L tries k w.pass.view.log z.pass.view.log) → IfErr r (λ e. e ≡ fault.Busy)
+      → HasAnswered L tries k w z r
   has_answered (Ok b) did missed busy = (free, did)
-  has_answered (Err e) did missed busy = subst (λ (f : CallFault). HasAnswered L tries k w z (Err f)) (sym busy) (free, missed)
+  has_answered (Err e) did missed busy = subst (λ (f : CallFault). HasAnswered L tries k w z (Err f)) (sym busy)
+      (free, missed)
 
-  pub insert_told : (r : Result Bool CallFault) → (IsErrOf r fault.Full → FoundNoSlot w.pass z.pass) → (IsErrOf r fault.NoMemory → LacksRoom z) → InsertDid w.fit L tries k w.pass.view.log z.pass.view.log r → InsertTold w z r
+  pub insert_told : (r : Result Bool CallFault) → (IsErrOf r fault.Full → FoundNoSlot w.pass z.pass)
+      → (IsErrOf r fault.NoMemory → LacksRoom z) → InsertDid w.fit L tries k w.pass.view.log z.pass.view.log r
+      → InsertTold w z r
   insert_told (Ok b) full lacks did = free
   insert_told (Err fault.Busy) full lacks did = free
   insert_told (Err fault.Full) full lacks did = (free, full refl)
@@ -69,7 +93,8 @@ module _ (L : Layout) (tries k : ℕ) (w z : WorkerView) (free : IsFree w z) whe
   insert_told (Err fault.Pinned) full lacks did = absurd did.3
   insert_told (Err fault.Unfinished) full lacks did = absurd did.3
 
-  pub has_inserted : (r : Result Bool CallFault) → InsertDid w.fit L tries k w.pass.view.log z.pass.view.log r → HasInserted L tries k w z r
+  pub has_inserted : (r : Result Bool CallFault) → InsertDid w.fit L tries k w.pass.view.log z.pass.view.log r
+      → HasInserted L tries k w z r
   has_inserted (Ok b) did = (free, did)
   has_inserted (Err fault.Busy) did = (free, did)
   has_inserted (Err fault.Full) did = (free, did)
@@ -78,12 +103,20 @@ module _ (L : Layout) (tries k : ℕ) (w z : WorkerView) (free : IsFree w z) whe
   has_inserted (Err fault.Pinned) did = absurd did.3
   has_inserted (Err fault.Unfinished) did = absurd did.3
 
-pub has_looked : {X : Type 0} (GivesUp : List Entry → List Entry → Type 0) (tries most : ℕ) (w z : WorkerView) → IsFree w z → (r : Result X CallFault) → IfOk r (λ x. LooksUnderPin tries most w.pass.view.log z.pass.view.log) → IfErr r (λ e. PlainMissed GivesUp tries w.pass.view.log z.pass.view.log) → IfErr r (λ e. e ≡ fault.Busy)
+pub has_looked : {X : Type 0} (GivesUp : List Entry → List Entry → Type 0) (tries most : ℕ) (w z : WorkerView)
+    → IsFree w z → (r : Result X CallFault) → IfOk r (λ x. LooksUnderPin tries most w.pass.view.log z.pass.view.log)
+    → IfErr r (λ e. PlainMissed GivesUp tries w.pass.view.log z.pass.view.log) → IfErr r (λ e. e ≡ fault.Busy)
     → HasSeenMore GivesUp tries most w z r
 has_looked GivesUp tries most w z free (Ok x) did missed busy = (free, did)
-has_looked {X} GivesUp tries most w z free (Err e) did missed busy = subst (λ (f : CallFault). HasSeenMore {X = X} GivesUp tries most w z (Err f)) (sym busy) (free, missed)
+has_looked {X} GivesUp tries most w z free (Err e) did missed busy = subst
+    (λ (f : CallFault). HasSeenMore {X = X} GivesUp tries most w z (Err f)) (sym busy) (free, missed)
 
-pub has_scanned : (GivesUp : List Entry → List Entry → Type 0) (tries each : ℕ) (w z : WorkerView) → IsFree w z → (r : Result Scanned CallFault) → IfOk r (λ s. LooksUnderPin tries ((s.count + tries) * each) w.pass.view.log z.pass.view.log) → IfErr r (λ e. PlainMissed GivesUp tries w.pass.view.log z.pass.view.log) → IfErr r (λ e. e ≡ fault.Busy)
+pub has_scanned : (GivesUp : List Entry → List Entry → Type 0) (tries each : ℕ) (w z : WorkerView) → IsFree w z
+    → (r : Result Scanned CallFault) → IfOk r (λ s. LooksUnderPin tries ((s.count + tries) * each) w.pass.view.log
+    z.pass.view.log) → IfErr r (λ e. PlainMissed GivesUp tries w.pass.view.log z.pass.view.log)
+    → IfErr r (λ e. e ≡ fault.Busy)
     → HasSeenMore GivesUp tries ((count_of r + tries) * each) w z r
 has_scanned GivesUp tries each w z free (Ok s) did missed busy = (free, did)
-has_scanned GivesUp tries each w z free (Err e) did missed busy = subst (λ (f : CallFault). HasSeenMore {X = Scanned} GivesUp tries ((0 + tries) * each) w z (Err f)) (sym busy) (free, missed)
+has_scanned GivesUp tries each w z free (Err e) did missed busy = subst
+    (λ (f : CallFault). HasSeenMore {X = Scanned} GivesUp tries ((0 + tries) * each) w z (Err f)) (sym busy)
+    (free, missed)

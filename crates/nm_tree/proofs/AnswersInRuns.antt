@@ -1,5 +1,23 @@
 -- What turns tell as answered is answered so in a run that goes on from them.
-use Rattle.std.proofs.Common.{◌≡◌, ℕ, ◌<◌, ◌≤◌, Bool, List, [], ◌∷◌, ◌++◌, append_assoc, length, length-append, sym, ap, subst, ◌∙◌, arith}
+use Rattle.std.proofs.Common.{
+  ◌≡◌,
+  ℕ,
+  ◌<◌,
+  ◌≤◌,
+  Bool,
+  List,
+  [],
+  ◌∷◌,
+  ◌++◌,
+  append_assoc,
+  length,
+  length-append,
+  sym,
+  ap,
+  subst,
+  ◌∙◌,
+  arith,
+}
 use Rattle.std.specs.Prelude.{All, Ok}
 use Rattle.nm_edge.specs.Layouts.{Layout, IsLayout}
 use Rattle.nm_model.specs.declared.event.Op.{Op}
@@ -19,12 +37,14 @@ use Rattle.nm_theorem.proofs.HistoriesOfRuns.{called_is}
 use Rattle.nm_theorem.proofs.Runs.{Parts, parts_of, Head, head_of, enough_of}
 
 -- what turns tell as answered, in a run that goes on from them
-pub record AnsweredBy (L : Layout) (events : List (ℕ × Event)) (was now : List Turn) (w : ℕ) (op : Op) (k : ℕ) (answer : Bool) : Type 0 where
+pub record AnsweredBy (L : Layout) (events : List (ℕ × Event)) (was now : List Turn) (w : ℕ) (op : Op) (k : ℕ)
+    (answer : Bool) : Type 0 where
   pub is : IsAnsweredIn L events w op k answer
   pub short : length is.before < length now
   pub pinned : length was ≤ pin_of L is.before w
 
-module _ (L : Layout) (fits : IsLayout L) (events : List (ℕ × Event)) (keys : All (λ t. HasKey t.1) events) (was now later : List Turn) (goes_on : trace_in (ordered L) events ≡ now ++ later)
+module _ (L : Layout) (fits : IsLayout L) (events : List (ℕ × Event)) (keys : All (λ t. HasKey t.1) events)
+    (was now later : List Turn) (goes_on : trace_in (ordered L) events ≡ now ++ later)
     (w : ℕ) (op : Op) (k : ℕ) (answer : Bool) (s : AnswerStands L was now w op k answer) where
   abbrev before : List Turn
   before = was ++ s.since
@@ -42,7 +62,8 @@ module _ (L : Layout) (fits : IsLayout L) (events : List (ℕ × Event)) (keys :
   event_is = λ i. ((sym h.turn_is i).worker, (sym h.turn_is i).event)
 
   whole : events ≡ p.early ++ (w, LeaveWith answer) ∷ h.others
-  whole = p.all ∙ (ap (λ (us : List (ℕ × Event)). p.early ++ us) h.all ∙ ap (λ (t : ℕ × Event). p.early ++ t ∷ h.others) event_is)
+  whole = p.all ∙ (ap (λ (us : List (ℕ × Event)). p.early ++ us) h.all
+      ∙ ap (λ (t : ℕ × Event). p.early ++ t ∷ h.others) event_is)
 
   leaves : outcome_in (after_in (ordered L) p.early) (w, LeaveWith answer) ≡ Ok Departed
   leaves = ap (outcome_in (after_in (ordered L) p.early)) (sym event_is) ∙ ap (λ (t : Turn). t.outcome) (sym h.turn_is)
@@ -51,15 +72,24 @@ module _ (L : Layout) (fits : IsLayout L) (events : List (ℕ × Event)) (keys :
   keyed = first_keys p.early p.late (subst (λ (us : List (ℕ × Event)). All (λ t. HasKey t.1) us) p.all keys)
 
   call : (s.pin ≡ pin_of L p.early w) × IsCalled (after_in (ordered L) p.early) w op k
-  call = called_is L (enough_of L fits) w p.early keyed (record { pin = s.pin; op = op; key = k }) (ap (call_begun w) (sym p.first_is) ∙ s.call)
+  call = called_is L (enough_of L fits) w p.early keyed (record { pin = s.pin; op = op; key = k })
+      (ap (call_begun w) (sym p.first_is) ∙ s.call)
 
   may : MayAnswer (after_in (ordered L) p.early) w op k answer
   may = record { called = call.1; leaves = leaves }
 
   pub answered_by : AnsweredBy L events was now w op k answer
   answered_by = record {
-    is = record { before = p.early; since = h.others; is_run = whole; may = may; moment = moment_of L (enough_of L fits) p.early keyed w op k answer may };
-    short = let size = p.size in let l = ap (λ (ts : List Turn). length ts) s.are in let m = length-append before (answer_turn w answer ∷ []) in omega (arith, size, l, m);
+    is = record {
+      before = p.early;
+      since = h.others;
+      is_run = whole;
+      may = may;
+      moment = moment_of L
+          (enough_of L fits) p.early keyed w op k answer may;
+    };
+    short = let size = p.size in let l = ap (λ (ts : List Turn). length ts) s.are in
+        let m = length-append before (answer_turn w answer ∷ []) in omega (arith, size, l, m);
     pinned = let e = call.0 in let b = s.begins in omega (arith, e, b);
   }
 

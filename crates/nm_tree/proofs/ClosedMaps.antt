@@ -1,5 +1,34 @@
 -- What the end of a map leaves of its values.
-use Rattle.std.proofs.Common.{◌≡◌, ℕ, zero, suc, ◌+◌, ◌-◌, ◌<◌, ◌≤◌, ◌==◌, inl, inr, Bool, true, false, List, [], ◌∷◌, ◌++◌, append-nil, length, map, refl, sym, ap, subst, ◌∙◌, arith, true≢false}
+use Rattle.std.proofs.Common.{
+  ◌≡◌,
+  ℕ,
+  zero,
+  suc,
+  ◌+◌,
+  ◌-◌,
+  ◌<◌,
+  ◌≤◌,
+  ◌==◌,
+  inl,
+  inr,
+  Bool,
+  true,
+  false,
+  List,
+  [],
+  ◌∷◌,
+  ◌++◌,
+  append-nil,
+  length,
+  map,
+  refl,
+  sym,
+  ap,
+  subst,
+  ◌∙◌,
+  arith,
+  true≢false,
+}
 use Rattle.std.specs.Prelude.{All, AllPairs, Contains, Some, ◌/◌, nat_lt, slice_get, slice_index}
 use Rattle.std.proofs.lemmas.Bool.{cases_lt, eq-eqb, le-ltb, lt-ltb, ne_eqb}
 use Rattle.std.proofs.lemmas.List.{length-append, length-map, map-append, nil_from_length}
@@ -45,7 +74,16 @@ use Rattle.nm_tree.specs.declared.closing.Report.{Report}
 use Rattle.nm_tree.specs.declared.map_closing.MapReport.{MapReport}
 use Rattle.nm_tree.specs.Closing.{AreFrom, IsClosed, StandsForAll, all_merged, given_in}
 use Rattle.nm_tree.specs.Ended.{IsEndOf, end_of}
-use Rattle.nm_tree.specs.MapReports.{AreLeavesOf, EndsMap, IsLeafOf, LeavesValues, SaysMapClosed, Waits, is_bare_in, value_in}
+use Rattle.nm_tree.specs.MapReports.{
+  AreLeavesOf,
+  EndsMap,
+  IsLeafOf,
+  LeavesValues,
+  SaysMapClosed,
+  Waits,
+  is_bare_in,
+  value_in,
+}
 use Rattle.nm_tree.specs.Workers.{IsWorker, WorkerView}
 use Rattle.nm_tree.proofs.Closed.{GoesOnFromAll, StoresGoOnFromAll, closed, in_order, stores_from_earlier, turns_are}
 use Rattle.nm_tree.proofs.EndWorkers.{are as logs_shown}
@@ -74,24 +112,29 @@ below_four n = elim (cases_lt n 4) [
   | inr more ↦ le-ltb n 4 more ∙ sym (ne_eqb (n / 4) 0 (λ e. omega (arith, more, e)))
 ]
 
-held_there : (k : Knowledge) (hs : List HeldQueue) (u : ℕ) (h : HeldQueue) → AreHeld k hs → slice_get hs u ≡ Some h → IsQueueOf k h.origin h.queue.items
+held_there : (k : Knowledge) (hs : List HeldQueue) (u : ℕ) (h : HeldQueue) → AreHeld k hs → slice_get hs u ≡ Some h
+    → IsQueueOf k h.origin h.queue.items
 held_there k [] u h are at = absurd (none-some h at)
-held_there k (g ∷ hs) zero h are at = subst (λ (x : HeldQueue). IsQueueOf k x.origin x.queue.items) (same_Some g h at) are.0
+held_there k (g ∷ hs) zero h are at = subst (λ (x : HeldQueue). IsQueueOf k x.origin x.queue.items)
+    (same_Some g h at) are.0
 held_there k (g ∷ hs) (suc u) h are at = held_there k hs u h are.2 at
 
 -- the entry after these
-get_after : (xs : List Entry) (e : Entry) (ys : List Entry) → slice_get (map queued (xs ++ e ∷ ys)) (length xs) ≡ Some (queued e)
+get_after : (xs : List Entry) (e : Entry) (ys : List Entry)
+    → slice_get (map queued (xs ++ e ∷ ys)) (length xs) ≡ Some (queued e)
 get_after [] e ys = refl
 get_after (x ∷ xs) e ys = get_after xs e ys
 
-leaves_within : (L : Layout) (m : Memory) (n : ℕ) (ks xs : List ℕ) → n ≡ L.nodes → AreLeavesOf L m ks xs → All (λ (x : ℕ). (1 ≤ x) × (x ≤ n)) xs
+leaves_within : (L : Layout) (m : Memory) (n : ℕ) (ks xs : List ℕ) → n ≡ L.nodes → AreLeavesOf L m ks xs
+    → All (λ (x : ℕ). (1 ≤ x) × (x ≤ n)) xs
 leaves_within L m n [] [] long are = All-nil (λ (x : ℕ). (1 ≤ x) × (x ≤ n))
 leaves_within L m n [] (x ∷ xs) long are = absurd are
 leaves_within L m n (k ∷ ks) [] long are = absurd are
 leaves_within L m n (k ∷ ks) (x ∷ xs) long are =
     let low = are.0.slot.0 in
     let high = are.0.slot.1 in
-    All-cons (λ (y : ℕ). (1 ≤ y) × (y ≤ n)) x xs (omega (arith, low), omega (arith, high, long)) (leaves_within L m n ks xs long are.1)
+    All-cons (λ (y : ℕ). (1 ≤ y) × (y ≤ n)) x xs (omega (arith, low), omega (arith, high, long))
+    (leaves_within L m n ks xs long are.1)
 
 as_many_leaves : (L : Layout) (m : Memory) (ks xs : List ℕ) → AreLeavesOf L m ks xs → length xs ≡ length ks
 as_many_leaves L m [] [] are = refl
@@ -105,7 +148,8 @@ module _ (L : Layout) (fits : IsLayout L) (events : List (ℕ × Event)) (all_ke
     (stores : List Stored) (were : WereHeld L events stores) (linked : LinksHaveValues L events stores)
     (order : AllPairs ComesBefore stores) (slots core : List ℕ) (long : length slots ≡ L.nodes)
     (core_is : core ≡ words_of L (after_in (ordered L) events).state.memory)
-    (each : (i : ℕ) → i < L.nodes → slice_index slots i ≡ value_of stores (i + 1)) (no_hands : (u x : ℕ) → has_after (opening L) u x false (trace_in (ordered L) events) ≡ false) where
+    (each : (i : ℕ) → i < L.nodes → slice_index slots i ≡ value_of stores (i + 1))
+    (no_hands : (u x : ℕ) → has_after (opening L) u x false (trace_in (ordered L) events) ≡ false) where
   abbrev turns : List Turn
   turns = trace_in (ordered L) events
 
@@ -128,7 +172,8 @@ module _ (L : Layout) (fits : IsLayout L) (events : List (ℕ × Event)) (all_ke
       each (x - 1) (omega (arith, low, high)) ∙ ap (value_of stores) back
 
   nobody : (x : ℕ) → NobodyHolds L events (length turns) x
-  nobody x before since is le v = sym (run_hands v x L fits true before) ∙ (ap (λ (es : List (ℕ × Event)). has_after (opening L) v x false (trace_in (ordered L) es)) all ∙ no_hands v x)
+  nobody x before since is le v = sym (run_hands v x L fits true before)
+      ∙ (ap (λ (es : List (ℕ × Event)). has_after (opening L) v x false (trace_in (ordered L) es)) all ∙ no_hands v x)
     where
       none' : since ≡ []
       none' =
@@ -234,10 +279,15 @@ module _ (L : Layout) (fits : IsLayout L) (events : List (ℕ × Event)) (all_ke
 
 -- ---- the whole
 
-module _ (b : TreeView) (w : WorkerView) (home : ℕ) (ws : List WorkerView) (kept leaves : List ℕ) (free reached : ℕ) (left : EndedWords) (is : IsWorker w home)
-    (view : StandsForAll ws w.pass.view) (seen : GoesOnFromAll w.pass.view.past ws) (stores_seen : StoresGoOnFromAll w.pass.view.stores ws) (queues : w.queues ≡ all_merged ws) (enough : b.layout.workers ≤ given_in ws)
-    (of_runs : All (λ (u : WorkerView). HasSeen u.pass.view) ws) (v : EndsWithValues b.layout left w.pass.view) (run : IsInRun w.pass) (keys_are : (e' : IsEndOf b.layout left.core) → kept ≡ keys (end_of b.layout left.core e'))
-    (free_are : (e' : IsEndOf b.layout left.core) → free ≡ (counts (end_of b.layout left.core e')).pool) (reached_are : (e' : IsEndOf b.layout left.core) → reached ≡ (counts (end_of b.layout left.core e')).reached)
+module _ (b : TreeView) (w : WorkerView) (home : ℕ) (ws : List WorkerView) (kept leaves : List ℕ) (free reached : ℕ)
+    (left : EndedWords) (is : IsWorker w home)
+    (view : StandsForAll ws w.pass.view) (seen : GoesOnFromAll w.pass.view.past ws)
+    (stores_seen : StoresGoOnFromAll w.pass.view.stores ws) (queues : w.queues ≡ all_merged ws)
+    (enough : b.layout.workers ≤ given_in ws)
+    (of_runs : All (λ (u : WorkerView). HasSeen u.pass.view) ws) (v : EndsWithValues b.layout left w.pass.view)
+    (run : IsInRun w.pass) (keys_are : (e' : IsEndOf b.layout left.core) → kept ≡ keys (end_of b.layout left.core e'))
+    (free_are : (e' : IsEndOf b.layout left.core) → free ≡ (counts (end_of b.layout left.core e')).pool)
+    (reached_are : (e' : IsEndOf b.layout left.core) → reached ≡ (counts (end_of b.layout left.core e')).reached)
     (leaves_are : (e' : IsEndOf b.layout left.core)
     → AreLeavesOf b.layout (end_of b.layout left.core e').memory kept leaves) (layout : Layout)
     (same_layout_as : layout ≡ b.layout)
@@ -249,11 +299,13 @@ module _ (b : TreeView) (w : WorkerView) (home : ℕ) (ws : List WorkerView) (ke
   T = trace_in (ordered L) v.ends.turns
 
   c : IsClosed b ws w.queues kept free reached
-  c = closed b w home ws kept free reached left.core is view seen queues enough of_runs v.ends run keys_are free_are reached_are
+  c = closed b w home ws kept free reached left.core is view seen queues enough of_runs v.ends run keys_are free_are
+      reached_are
 
   same : c.says.turns ≡ T
   unfolding c
-  same = turns_are b w home ws kept free reached left.core is view seen queues enough of_runs v.ends run keys_are free_are reached_are
+  same = turns_are b w home ws kept free reached left.core is view seen queues enough of_runs v.ends run keys_are
+      free_are reached_are
 
   the_end : IsEndOf L left.core
   the_end = record { fits = v.ends.fits; turns = v.ends.turns; keys = v.ends.keys; words_are = v.ends.words_are }
@@ -261,25 +313,32 @@ module _ (b : TreeView) (w : WorkerView) (home : ℕ) (ws : List WorkerView) (ke
   no_hands : (u x : ℕ) → has_after (opening L) u x false T ≡ false
   no_hands u x = ap (has_after (opening L) u x false) (sym same) ∙ c.says.headline.no_hands u x
 
-  waiting : (u : ℕ) (h : HeldQueue) → slice_get w.queues u ≡ Some h → map (λ (n : Entry). n.node) h.queue.items ≡ waits_of u T
+  waiting : (u : ℕ) (h : HeldQueue) → slice_get w.queues u ≡ Some h
+      → map (λ (n : Entry). n.node) h.queue.items ≡ waits_of u T
   waiting u h at = c.says.headline.waiting u h at ∙ ap (waits_of u) same
 
   leaves_now : AreLeavesOf L (words_after L T) kept leaves
   unfolding the_end
-  leaves_now = subst (λ (m : Memory). AreLeavesOf L m kept leaves) (sym (run_words L v.ends.fits true v.ends.turns)) (leaves_are the_end)
+  leaves_now = subst (λ (m : Memory). AreLeavesOf L m kept leaves) (sym (run_words L v.ends.fits true v.ends.turns))
+      (leaves_are the_end)
 
   same_layout : w.pass.view.layout ≡ L
   unfolding the_end
   same_layout = (logs_shown L left.core the_end w home is v.ends.shown all_there.0 all_there.1).0
     where
       all_there : AreFrom 0 w.queues × (length w.queues ≡ b.layout.workers)
-      all_there = in_order b w home ws kept free reached left.core is view seen queues enough of_runs v.ends run keys_are free_are reached_are
+      all_there = in_order b w home ws kept free reached left.core is view seen queues enough of_runs v.ends run
+          keys_are free_are reached_are
 
-  pooled : (u : ℕ) (h : HeldQueue) (early later : List Entry) (e : Entry) → slice_get w.queues u ≡ Some h → h.queue.items ≡ early ++ e ∷ later → IsPooled L e.node.slot
+  pooled : (u : ℕ) (h : HeldQueue) (early later : List Entry) (e : Entry) → slice_get w.queues u ≡ Some h
+      → h.queue.items ≡ early ++ e ∷ later → IsPooled L e.node.slot
   pooled u h early later e at are =
       subst (λ (l : Layout). IsPooled l e.node.slot) same_layout
       ((apart_in_run w.pass run).waiting h.origin (length early) (queued e)
-      (ap (λ (q : List Queued). slice_get q (length early)) (shown_queue (held (knowledge w.pass.view).ledgers h.origin) (map queued h.queue.items) (held_there (knowledge w.pass.view) w.queues u h is.between.queues at) ∙ ap (λ (l : List Entry). map queued l) are) ∙ get_after early e later))
+      (ap (λ (q : List Queued). slice_get q (length early))
+      (shown_queue (held (knowledge w.pass.view).ledgers h.origin) (map queued h.queue.items)
+      (held_there (knowledge w.pass.view) w.queues u h is.between.queues at)
+      ∙ ap (λ (l : List Entry). map queued l) are) ∙ get_after early e later))
 
   values : LeavesValues L ws T w.queues kept (map (value_in left.values) leaves) left.values (is_bare_in L left.core)
   values = record {

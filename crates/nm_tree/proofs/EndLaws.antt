@@ -27,7 +27,8 @@ rest_ascends : (x : ℕ) (xs : List ℕ) → Ascend (x ∷ xs) → Ascend xs
 rest_ascends x xs up i j d less below = up (suc i) (suc j) d (omega (arith, less)) (omega (arith, below))
 
 first_is_least : (x : ℕ) (xs : List ℕ) → Ascend (x ∷ xs) → (k : ℕ) → Contains xs k → x < k
-first_is_least x xs up k (i, below, is) = let less = up 0 (suc i) k (omega arith) (omega (arith, below)) in omega (arith, less, is)
+first_is_least x xs up k (i, below, is) = let less = up 0 (suc i) k (omega arith) (omega (arith, below)) in
+    omega (arith, less, is)
 
 is_first : (x : ℕ) (xs : List ℕ) → Contains (x ∷ xs) x
 is_first x xs = (0, omega arith, refl)
@@ -37,7 +38,8 @@ is_later x xs k (i, below, is) = (suc i, omega (arith, below), is)
 
 at_least_first : (x : ℕ) (xs : List ℕ) → Ascend (x ∷ xs) → (k : ℕ) → Contains (x ∷ xs) k → x ≤ k
 at_least_first x xs up k (zero, below, is) = omega (arith, is)
-at_least_first x xs up k (suc i, below, is) = let less = first_is_least x xs up k (i, omega (arith, below), is) in omega (arith, less)
+at_least_first x xs up k (suc i, below, is) = let less = first_is_least x xs up k (i, omega (arith, below), is) in
+    omega (arith, less)
 
 behind_first : (x : ℕ) (xs : List ℕ) (k : ℕ) → x < k → Contains (x ∷ xs) k → Contains xs k
 behind_first x xs k less (zero, below, is) = absurd (omega (arith, less, is))
@@ -46,7 +48,8 @@ behind_first x xs k less (suc i, below, is) = (i, omega (arith, below), is)
 none_in : (k : ℕ) → Contains [] k → ⊥
 none_in k (i, below, is) = omega (arith, below)
 
-ascending_alike : (xs ys : List ℕ) → Ascend xs → Ascend ys → ((k : ℕ) → Contains xs k → Contains ys k) → ((k : ℕ) → Contains ys k → Contains xs k) → xs ≡ ys
+ascending_alike : (xs ys : List ℕ) → Ascend xs → Ascend ys → ((k : ℕ) → Contains xs k → Contains ys k)
+    → ((k : ℕ) → Contains ys k → Contains xs k) → xs ≡ ys
 ascending_alike [] [] up up' to from = refl
 ascending_alike [] (y ∷ ys) up up' to from = absurd (none_in y (from y (is_first y ys)))
 ascending_alike (x ∷ xs) [] up up' to from = absurd (none_in x (to x (is_first x xs)))
@@ -55,18 +58,22 @@ ascending_alike (x ∷ xs) (y ∷ ys) up up' to from =
     let high = at_least_first x xs up y (from y (is_first y ys)) in
     let same : x ≡ y = omega (arith, low, high) in
     ap₂ (λ (z : ℕ) (zs : List ℕ). z ∷ zs) same (ascending_alike xs ys (rest_ascends x xs up) (rest_ascends y ys up')
-    (λ k has. behind_first y ys k (let less = first_is_least x xs up k has in omega (arith, less, same)) (to k (is_later x xs k has)))
-    (λ k has. behind_first x xs k (let less = first_is_least y ys up' k has in omega (arith, less, same)) (from k (is_later y ys k has))))
+    (λ k has. behind_first y ys k (let less = first_is_least x xs up k has in omega (arith, less, same))
+    (to k (is_later x xs k has)))
+    (λ k has. behind_first x xs k (let less = first_is_least y ys up' k has in omega (arith, less, same))
+    (from k (is_later y ys k has))))
 
 -- ---- the keys
 
-module _ (L : Layout) (fits : IsLayout L) (turns : List (ℕ × Event)) (for_keys : All (λ t. HasKey t.1) turns) (kept : List ℕ) where
+module _ (L : Layout) (fits : IsLayout L) (turns : List (ℕ × Event)) (for_keys : All (λ t. HasKey t.1) turns)
+    (kept : List ℕ) where
   abbrev now : Memory
   now = (after_in (ordered L) turns).state.memory
 
   module _ (told : kept ≡ keys (after_in (ordered L) turns).state) where
     pub set_of : (k : ℕ) → Contains kept k ↔ InSet now k × (k < infinity_0)
-    set_of k = subst (λ (ks : List ℕ). Contains ks k ↔ InSet now k × (k < infinity_0)) (sym told) (each_core_tells_the_set L (enough_nodes L fits) turns for_keys k)
+    set_of k = subst (λ (ks : List ℕ). Contains ks k ↔ InSet now k × (k < infinity_0)) (sym told)
+        (each_core_tells_the_set L (enough_nodes L fits) turns for_keys k)
 
     pub ascend_of : Ascend kept
     ascend_of = subst Ascend (sym told) (each_key_ascends L (enough_nodes L fits) turns for_keys)
@@ -74,7 +81,8 @@ module _ (L : Layout) (fits : IsLayout L) (turns : List (ℕ × Event)) (for_key
   module _ (set : (k : ℕ) → Contains kept k ↔ InSet now k × (k < infinity_0)) where
     -- the ascending list of the set is what a core tells
     pub keys_of : Ascend kept → kept ≡ keys (after_in (ordered L) turns).state
-    keys_of up = ascending_alike kept (keys (after_in (ordered L) turns).state) up (each_key_ascends L (enough_nodes L fits) turns for_keys)
+    keys_of up = ascending_alike kept (keys (after_in (ordered L) turns).state) up
+        (each_key_ascends L (enough_nodes L fits) turns for_keys)
         (λ k has. (each_core_tells_the_set L (enough_nodes L fits) turns for_keys k).1 ((set k).0 has))
         (λ k has. (set k).1 ((each_core_tells_the_set L (enough_nodes L fits) turns for_keys k).0 has))
 
@@ -82,11 +90,15 @@ module _ (L : Layout) (fits : IsLayout L) (turns : List (ℕ × Event)) (for_key
     -- flagged, both counted on the turns
     pub totals_of : KeysAreTheTotals L (trace_in (ordered L) turns) kept
     totals_of none k is = agree
-        (subst (λ (n : ℕ). Agree n (how_often Delete k [] (trace_in (ordered L) turns)) (InSet now k)) (sym (links_are L fits turns for_keys k))
+        (subst (λ (n : ℕ). Agree n (how_often Delete k [] (trace_in (ordered L) turns)) (InSet now k))
+        (sym (links_are L fits turns for_keys k))
         (subst (λ (n : ℕ). Agree (links_of k L turns) n (InSet now k)) (sym (flags_are L fits turns for_keys k))
-        (each_total_is_the_set L (enough_nodes L fits) turns for_keys (nothing_is_pending L (enough_nodes L fits) turns for_keys none) k is)))
+        (each_total_is_the_set L (enough_nodes L fits) turns for_keys
+        (nothing_is_pending L (enough_nodes L fits) turns for_keys none) k is)))
       where
-        agree : Agree (how_often Insert k [] (trace_in (ordered L) turns)) (how_often Delete k [] (trace_in (ordered L) turns)) (InSet now k)
-            → Agree (how_often Insert k [] (trace_in (ordered L) turns)) (how_often Delete k [] (trace_in (ordered L) turns)) (Contains kept k)
+        agree : Agree (how_often Insert k [] (trace_in (ordered L) turns))
+            (how_often Delete k [] (trace_in (ordered L) turns)) (InSet now k)
+            → Agree (how_often Insert k [] (trace_in (ordered L) turns))
+            (how_often Delete k [] (trace_in (ordered L) turns)) (Contains kept k)
         agree (inl a) = inl (a.0, (set k).1 (a.1, omega (arith, is)))
         agree (inr a) = inr (a.0, λ has. a.1 ((set k).0 has).0)

@@ -24,7 +24,8 @@ undrafted k x none' is = not_true (sym (ap (λ (ds : List (ℕ × Draft)). has d
     not_true : false ≡ true → ⊥
     not_true e = absurd (cc)
 
-module _ (L : Layout) (words : List ℕ) (e : IsEndOf L words) (w : WorkerView) (home : ℕ) (is : IsWorker w home) (is_shown : IsShown L (trace_in (ordered L) e.turns) w.pass.view)
+module _ (L : Layout) (words : List ℕ) (e : IsEndOf L words) (w : WorkerView) (home : ℕ) (is : IsWorker w home)
+    (is_shown : IsShown L (trace_in (ordered L) e.turns) w.pass.view)
     (each : AreFrom 0 w.queues) (all : length w.queues ≡ L.workers) where
   abbrev s : State
   s = end_of L words e
@@ -36,13 +37,19 @@ module _ (L : Layout) (words : List ℕ) (e : IsEndOf L words) (w : WorkerView) 
   pub none_private : (u x : ℕ) → is_private (of s u) x ≡ true → ⊥
   none_private u x mine = elim (cases_lt u (length s.workers)) [
     | inl less ↦ let at = slice_get-get_or s.workers u (newcomer s.layout u) less in
-        undrafted (of s u) x (sym (ap (λ (k : Knowledge). length k.drafts) (worker_at L words e w home is is_shown each all u (of s u) at)) ∙ no_drafts L words e w home is is_shown each all u
-        (there L words e w home is is_shown each all u (inside L words e w home is is_shown each all u (of s u) at))) mine
-    | inr past ↦ undrafted (newcomer s.layout u) x refl (sym (ap (λ (k : Knowledge). is_private k x) (get_or_past s.workers u (newcomer s.layout u) past)) ∙ mine)
+        undrafted (of s u) x (sym (ap (λ (k : Knowledge). length k.drafts)
+        (worker_at L words e w home is is_shown each all u (of s u) at))
+        ∙ no_drafts L words e w home is is_shown each all u
+        (there L words e w home is is_shown each all u (inside L words e w home is is_shown each all u (of s u) at)))
+        mine
+    | inr past ↦ undrafted (newcomer s.layout u) x refl
+        (sym (ap (λ (k : Knowledge). is_private k x) (get_or_past s.workers u (newcomer s.layout u) past)) ∙ mine)
   ]
 
   -- and what the last one holds is what the run's end tells
   pub known : of s v.number ≡ knowledge v
   known =
-      let at : slice_get s.workers v.number ≡ Some (of s v.number) = slice_get-get_or s.workers v.number (newcomer s.layout v.number) (here L words e w home is is_shown each all) in
-      sym (worker_at L words e w home is is_shown each all v.number (of s v.number) at) ∙ own L words e w home is is_shown each all
+      let at : slice_get s.workers v.number ≡ Some (of s v.number) = slice_get-get_or s.workers v.number
+      (newcomer s.layout v.number) (here L words e w home is is_shown each all) in
+      sym (worker_at L words e w home is is_shown each all v.number (of s v.number) at)
+      ∙ own L words e w home is is_shown each all

@@ -1,5 +1,24 @@
 -- What each worker knows at a tree's end, by the logs of the one that stands for all.
-use Rattle.std.proofs.Common.{◌≡◌, ℕ, suc, ◌+◌, ◌<◌, ◌≤◌, inl, inr, List, [], ◌∷◌, length, refl, sym, ap, ◌∙◌, subst, arith}
+use Rattle.std.proofs.Common.{
+  ◌≡◌,
+  ℕ,
+  suc,
+  ◌+◌,
+  ◌<◌,
+  ◌≤◌,
+  inl,
+  inr,
+  List,
+  [],
+  ◌∷◌,
+  length,
+  refl,
+  sym,
+  ap,
+  ◌∙◌,
+  subst,
+  arith,
+}
 use Rattle.std.specs.Prelude.{Some, slice_get}
 use Rattle.std.proofs.lemmas.Bool.{cases_lt}
 use Rattle.std.proofs.lemmas.Option.{get_or_from_slice_get, slice_get_within}
@@ -41,19 +60,24 @@ from_below i (h ∷ hs) from u (inr has) = let rest = from_below (suc i) hs from
 
 -- ---- what each worker knows
 
-known_is : (l L : Layout) (t : List Turn) (n u : ℕ) (log : List LogEntry) → l ≡ L → log ≡ part_of n t → n ≡ u → known_by l n log ≡ known_by L u (part_of u t)
+known_is : (l L : Layout) (t : List Turn) (n u : ℕ) (log : List LogEntry) → l ≡ L → log ≡ part_of n t → n ≡ u
+    → known_by l n log ≡ known_by L u (part_of u t)
 known_is l L t n u log layout part is =
-    ap (λ (x : Layout). known_by x n log) layout ∙ (ap (λ (x : List LogEntry). known_by L n x) part ∙ ap (λ (x : ℕ). known_by L x (part_of x t)) is)
+    ap (λ (x : Layout). known_by x n log) layout ∙ (ap (λ (x : List LogEntry). known_by L n x) part
+    ∙ ap (λ (x : ℕ). known_by L x (part_of x t)) is)
 
 -- to one that resigned no slot is private
-nothing_of : (l L : Layout) (t : List Turn) (hs : List Held) → LogsAre l L t hs → HoldNoSlot l hs → (u : ℕ) → HasNumber u hs → length (known_by L u (part_of u t)).drafts ≡ 0
+nothing_of : (l L : Layout) (t : List Turn) (hs : List Held) → LogsAre l L t hs → HoldNoSlot l hs → (u : ℕ)
+    → HasNumber u hs → length (known_by L u (part_of u t)).drafts ≡ 0
 nothing_of l L t [] are none' u has = absurd has
-nothing_of l L t (h ∷ hs) are none' u (inl is) = ap (λ (x : Knowledge). length x.drafts) (sym (known_is l L t h.number u h.log are.0 are.1 is)) ∙ none'.0
+nothing_of l L t (h ∷ hs) are none' u (inl is) = ap (λ (x : Knowledge). length x.drafts)
+    (sym (known_is l L t h.number u h.log are.0 are.1 is)) ∙ none'.0
 nothing_of l L t (h ∷ hs) are none' u (inr has) = nothing_of l L t hs are.2 none'.1 u has
 
 -- ---- the whole
 
-module _ (L : Layout) (words : List ℕ) (e : IsEndOf L words) (w : WorkerView) (home : ℕ) (is : IsWorker w home) (is_shown : IsShown L (trace_in (ordered L) e.turns) w.pass.view)
+module _ (L : Layout) (words : List ℕ) (e : IsEndOf L words) (w : WorkerView) (home : ℕ) (is : IsWorker w home)
+    (is_shown : IsShown L (trace_in (ordered L) e.turns) w.pass.view)
     (each : AreFrom 0 w.queues) (all : length w.queues ≡ L.workers) where
   abbrev s : State
   s = end_of L words e
@@ -68,13 +92,16 @@ module _ (L : Layout) (words : List ℕ) (e : IsEndOf L words) (w : WorkerView) 
   are = subst (λ (hs : List Held). LogsAre v.layout L t hs) (live v is.alive) is_shown
 
   pub as_many_workers : length s.workers ≡ L.workers
-  as_many_workers = holds L words e (λ x. length x.workers ≡ x.layout.workers) (λ l room turns. (lawful l room turns).law.staffed.workers) ∙ ap (λ (l : Layout). l.workers) (layout_is L words e)
+  as_many_workers = holds L words e (λ x. length x.workers ≡ x.layout.workers)
+      (λ l room turns. (lawful l room turns).law.staffed.workers) ∙ ap (λ (l : Layout). l.workers) (layout_is L words e)
 
   pub inside : (u : ℕ) (k : Knowledge) → slice_get s.workers u ≡ Some k → u < L.workers
-  inside u k at = let below = slice_get_within s.workers u k at in let size = as_many_workers in omega (arith, below, size)
+  inside u k at = let below = slice_get_within s.workers u k at in let size = as_many_workers in
+      omega (arith, below, size)
 
   pub worker_at : (u : ℕ) (k : Knowledge) → slice_get s.workers u ≡ Some k → known_by L u (part_of u t) ≡ k
-  worker_at u k at = sym (logs_tell L e.turns u (inside u k at)) ∙ get_or_from_slice_get s.workers u k (newcomer s.layout u) at
+  worker_at u k at = sym (logs_tell L e.turns u (inside u k at))
+      ∙ get_or_from_slice_get s.workers u k (newcomer s.layout u) at
 
   pub there : (u : ℕ) → u < L.workers → HasNumber u (logs v)
   there u less = is.numbers.each u (from_has 0 w.queues each u (omega arith) (omega (arith, less, all)))
@@ -83,8 +110,10 @@ module _ (L : Layout) (words : List ℕ) (e : IsEndOf L words) (w : WorkerView) 
   own = sym (known_is v.layout L t v.number v.number v.log are.0 are.1 refl)
 
   pub no_drafts : (u : ℕ) → HasNumber u (logs v) → length (known_by L u (part_of u t)).drafts ≡ 0
-  no_drafts u (inl at) = ap (λ (k : Knowledge). length k.drafts) (sym (known_is v.layout L t v.number u v.log are.0 are.1 at)) ∙ (empty_hands w is.between).drafts
+  no_drafts u (inl at) = ap (λ (k : Knowledge). length k.drafts)
+      (sym (known_is v.layout L t v.number u v.log are.0 are.1 at)) ∙ (empty_hands w is.between).drafts
   no_drafts u (inr has) = nothing_of v.layout L t v.others are.2 is.resigned u has
 
   pub here : v.number < length s.workers
-  here = let below = from_below 0 w.queues each v.number (is.numbers.all v.number (inl refl)) in let size = as_many_workers in omega (arith, below, all, size)
+  here = let below = from_below 0 w.queues each v.number (is.numbers.all v.number (inl refl)) in
+      let size = as_many_workers in omega (arith, below, all, size)

@@ -1,5 +1,26 @@
 -- What the words at the end of a run tell of the state there.
-use Rattle.std.proofs.Common.{◌≡◌, ℕ, ◌-◌, ◌≤◌, ◌<◌, ◌^◌, ◌%◌, ◌==◌, Bool, true, false, cond, List, length, refl, sym, ap, ◌∙◌, subst, arith}
+use Rattle.std.proofs.Common.{
+  ◌≡◌,
+  ℕ,
+  ◌-◌,
+  ◌≤◌,
+  ◌<◌,
+  ◌^◌,
+  ◌%◌,
+  ◌==◌,
+  Bool,
+  true,
+  false,
+  cond,
+  List,
+  length,
+  refl,
+  sym,
+  ap,
+  ◌∙◌,
+  subst,
+  arith,
+}
 use Rattle.std.specs.Prelude.{bit_and, not, slice_index}
 use Rattle.std.proofs.lemmas.Bool.{ne_eqb}
 use Rattle.std.proofs.lemmas.Nat.{pow_pos}
@@ -68,14 +89,20 @@ module _ (L : Layout) (ws : List ℕ) (e : IsEndOf L ws) where
 
   -- each edge is found in its word, which is an edge's
   pub is_told_by_a_word : (x : ℕ) (side : Side) → IsSlot L x → is_word (slice_index ws (word L (at_edge x side))) ≡ true
-  is_told_by_a_word x side is = ap is_word (tells (at_edge x side) is) ∙ packed_is_word (edge s.memory x side) (unmarked x side) (let low = in_range.edges x side in let few = e.fits.most in omega (arith, low, few))
+  is_told_by_a_word x side is = ap is_word (tells (at_edge x side) is)
+      ∙ packed_is_word (edge s.memory x side) (unmarked x side)
+      (let low = in_range.edges x side in let few = e.fits.most in omega (arith, low, few))
 
-  pub edge_told : (x : ℕ) (side : Side) → IsSlot L x → edge_in (slice_index ws (word L (at_edge x side))) ≡ edge s.memory x side
+  pub edge_told : (x : ℕ) (side : Side) → IsSlot L x
+      → edge_in (slice_index ws (word L (at_edge x side))) ≡ edge s.memory x side
   edge_told x side is = ap edge_in (tells (at_edge x side) is) ∙ packed_word (edge s.memory x side)
 
   -- a slot's bit is set where the slot is in the pool
-  pub bit_told : (x : ℕ) → IsSlot L x → not (bit_and (slice_index ws (pool_place L x).word) (pool_place L x).mask == 0) ≡ in_pool s.memory x
-  bit_told x is = ap (λ (n : ℕ). not (n == 0)) (ap (λ (l : List ℕ). bit_and (slice_index l (pool_place L x).word) (pool_place L x).mask) e.words_are ∙ each_bit_is_its_slot L s.memory x fits is) ∙ go (in_pool s.memory x)
+  pub bit_told : (x : ℕ) → IsSlot L x → not (bit_and (slice_index ws (pool_place L x).word) (pool_place L x).mask
+      == 0) ≡ in_pool s.memory x
+  bit_told x is = ap (λ (n : ℕ). not (n == 0)) (ap
+      (λ (l : List ℕ). bit_and (slice_index l (pool_place L x).word) (pool_place L x).mask) e.words_are
+      ∙ each_bit_is_its_slot L s.memory x fits is) ∙ go (in_pool s.memory x)
     where
       go : (b : Bool) → not (cond b (pool_place L x).mask 0 == 0) ≡ b
       go true = ap not (ne_eqb (2 ^ ((x - 1) % 64)) 0 (let some = pow_pos ((x - 1) % 64) in omega (arith, some)))
@@ -83,12 +110,14 @@ module _ (L : Layout) (ws : List ℕ) (e : IsEndOf L ws) where
 
   -- the fixed slots are not in the pool, nor is slot 0
   pub pooled_above : (x : ℕ) → in_pool s.memory x ≡ true → 6 ≤ x
-  pooled_above = holds (λ t. (x : ℕ) → in_pool t.memory x ≡ true → 6 ≤ x) (λ l room turns x is. let k = lawful l room turns in (k.law.tree.pools x is).0)
+  pooled_above = holds (λ t. (x : ℕ) → in_pool t.memory x ≡ true → 6 ≤ x)
+      (λ l room turns x is. let k = lawful l room turns in (k.law.tree.pools x is).0)
 
   -- no more slots are reached than there are
   pub few_reached : length (tree_slots L.nodes s.memory 1) ≤ L.nodes
   few_reached =
-      let sum = subst (λ (l : Layout). length (tree_slots l.nodes s.memory 1) - 5 ≤ l.nodes - 5) layout_is (let adds = holds CountsAddUp each_state_adds_up in omega (arith, adds)) in
+      let sum = subst (λ (l : Layout). length (tree_slots l.nodes s.memory 1) - 5 ≤ l.nodes - 5) layout_is
+      (let adds = holds CountsAddUp each_state_adds_up in omega (arith, adds)) in
       omega (arith, sum, enough)
 
   -- the keys are the set, and ascend

@@ -1,5 +1,34 @@
 -- A key that was found, and then was not there to be deleted: some turn in between cut its leaf off.
-use Rattle.std.proofs.Common.{◌≡◌, ◌∙◌, ◌⊎◌, inl, inr, ℕ, zero, suc, ◌+◌, ◌<◌, ◌≤◌, Bool, true, false, cond, List, [], ◌∷◌, ◌++◌, append_assoc, length, length-append, refl, sym, ap, subst, arith, true≢false}
+use Rattle.std.proofs.Common.{
+  ◌≡◌,
+  ◌∙◌,
+  ◌⊎◌,
+  inl,
+  inr,
+  ℕ,
+  zero,
+  suc,
+  ◌+◌,
+  ◌<◌,
+  ◌≤◌,
+  Bool,
+  true,
+  false,
+  cond,
+  List,
+  [],
+  ◌∷◌,
+  ◌++◌,
+  append_assoc,
+  length,
+  length-append,
+  refl,
+  sym,
+  ap,
+  subst,
+  arith,
+  true≢false,
+}
 use Rattle.std.specs.Prelude.{All, unwrap_or, Option, Some, Ok, Result, ◌↔◌}
 use Rattle.nm_edge.specs.Layouts.{Layout, IsLayout}
 use Rattle.nm_edge.specs.declared.node.NodeId.{NodeId}
@@ -42,7 +71,8 @@ use Rattle.nm_tree.proofs.AnswersInRuns.{AnsweredBy, answered_by}
 -- ---- lists that begin alike
 
 -- the shorter of two first parts begins the other
-pub begins : {X : Type 0} (xs ys us vs : List X) → xs ++ us ≡ ys ++ vs → length xs ≤ length ys → (more : List X) × (ys ≡ xs ++ more)
+pub begins : {X : Type 0} (xs ys us vs : List X) → xs ++ us ≡ ys ++ vs → length xs ≤ length ys
+    → (more : List X) × (ys ≡ xs ++ more)
 begins {X = X} [] ys us vs e less = (ys, refl)
 begins {X = X} (x ∷ xs) [] us vs e less = absurd (omega (arith, less))
 begins {X = X} (x ∷ xs) (y ∷ ys) us vs e less =
@@ -62,7 +92,9 @@ cut_outcome_is (Ok (Cut ns)) is = (ns, refl)
 cut_outcome_is o is = absurd (true≢false (sym is))
 
 module _ (L : Layout) (enough : 5 ≤ L.nodes) where
-  stays_uncut : (c : Configuration) (t : ℕ × Event) → HasKey t.1 → IsOrdered L c → ((ns : List NodeId) → outcome_in c t ≡ Ok (Cut ns) → ⊥) → (k : ℕ) → InSet c.state.memory k → InSet (next_in c t).state.memory k
+  stays_uncut : (c : Configuration) (t : ℕ × Event) → HasKey t.1 → IsOrdered L c
+      → ((ns : List NodeId) → outcome_in c t ≡ Ok (Cut ns) → ⊥) → (k : ℕ) → InSet c.state.memory k
+      → InSet (next_in c t).state.memory k
   stays_uncut c t has o uncut k s = record {
     slot = s.slot;
     reached = uncut_stays L enough c t o uncut s.slot s.reached;
@@ -100,15 +132,20 @@ module _ (L : Layout) (enough : 5 ≤ L.nodes) where
       ]
 
   -- if no turn cuts, no key goes
-  keeps : (ts : List (ℕ × Event)) (c : Configuration) → IsOrdered L c → All (λ t. HasKey t.1) ts → cuts_in (trace_in c ts) ≡ 0 → (k : ℕ) → InSet c.state.memory k → InSet (after_in c ts).state.memory k
+  keeps : (ts : List (ℕ × Event)) (c : Configuration) → IsOrdered L c → All (λ t. HasKey t.1) ts
+      → cuts_in (trace_in c ts) ≡ 0 → (k : ℕ) → InSet c.state.memory k → InSet (after_in c ts).state.memory k
   unfolding after_in trace_in
   keeps [] c o keys none k there = there
-  keeps (t ∷ ts) c o keys none k there = go (cuts_on t.1 (outcome_in c t)) refl none (keeps ts (next_in c t) (ordered_after 0 L enough (t ∷ []) (first_keys (t ∷ []) ts keys) c o) (λ i d below. keys (suc i) d (omega (arith, below))))
+  keeps (t ∷ ts) c o keys none k there = go (cuts_on t.1 (outcome_in c t)) refl none
+      (keeps ts (next_in c t) (ordered_after 0 L enough (t ∷ []) (first_keys (t ∷ []) ts keys) c o)
+      (λ i d below. keys (suc i) d (omega (arith, below))))
     where
       has : HasKey t.1
       has = keys 0 t (omega arith)
 
-      go : (b : Bool) → cuts_on t.1 (outcome_in c t) ≡ b → cond b 1 0 + cuts_in (trace_in (next_in c t) ts) ≡ 0 → (cuts_in (trace_in (next_in c t) ts) ≡ 0 → (j : ℕ) → InSet (next_in c t).state.memory j → InSet (after_in (next_in c t) ts).state.memory j) → InSet (after_in (next_in c t) ts).state.memory k
+      go : (b : Bool) → cuts_on t.1 (outcome_in c t) ≡ b → cond b 1 0 + cuts_in (trace_in (next_in c t) ts) ≡ 0
+          → (cuts_in (trace_in (next_in c t) ts) ≡ 0 → (j : ℕ) → InSet (next_in c t).state.memory j
+          → InSet (after_in (next_in c t) ts).state.memory j) → InSet (after_in (next_in c t) ts).state.memory k
       go true is none rest = absurd (omega (arith, none))
       go false is none rest = rest (omega (arith, none)) k (stays_unspliced c t has o is k there)
 
@@ -123,16 +160,20 @@ pub record WasThere (L : Layout) (events : List (ℕ × Event)) (so_far : List T
   pub size : length early ≡ length so_far
   pub is : InSet (after_in (ordered L) early).state.memory k
 
-pub was_there : (L : Layout) → IsLayout L → (events : List (ℕ × Event)) (p q : PassView) (k : ℕ) → q.view.layout ≡ L → (later : List Turn) → trace_in (ordered L) events ≡ q.view.past ++ later → (was : WasSo p q k true) → WasThere L events was.so_far k
+pub was_there : (L : Layout) → IsLayout L → (events : List (ℕ × Event)) (p q : PassView) (k : ℕ) → q.view.layout ≡ L
+    → (later : List Turn) → trace_in (ordered L) events ≡ q.view.past ++ later → (was : WasSo p q k true)
+    → WasThere L events was.so_far k
 was_there L fits events p q k layout later run was =
-    let x = parts_of (ordered L) events was.so_far (was.rest ++ later) (run ∙ (ap (λ (ts : List Turn). ts ++ later) was.are ∙ append_assoc was.so_far was.rest later)) in
+    let x = parts_of (ordered L) events was.so_far (was.rest ++ later)
+    (run ∙ (ap (λ (ts : List Turn). ts ++ later) was.are ∙ append_assoc was.so_far was.rest later)) in
     record {
       early = x.early;
       rest = x.late;
       all = x.all;
       first_is = x.first_is;
       size = x.size;
-      is = subst (λ (M : Memory). InSet M k) (ap (words_after L) x.first_is ∙ run_words L fits true x.early) (subst (λ (M : Layout). InSet (words_after M was.so_far) k) layout was.gives);
+      is = subst (λ (M : Memory). InSet M k) (ap (words_after L) x.first_is ∙ run_words L fits true x.early)
+          (subst (λ (M : Layout). InSet (words_after M was.so_far) k) layout was.gives);
     }
 
 -- events up to a moment of a later call at which the set did not have it
@@ -144,7 +185,9 @@ pub record WasGone (L : Layout) (events : List (ℕ × Event)) (was now : List T
   pub short : length before < length now
   pub is : InSet (after_in (ordered L) before).state.memory k → ⊥
 
-pub was_gone : (L : Layout) → IsLayout L → (events : List (ℕ × Event)) → All (λ t. HasKey t.1) events → (was now : List Turn) (w : ℕ) (later : List Turn) → trace_in (ordered L) events ≡ now ++ later → (k : ℕ) → AnswerStands L was now w Delete k false → WasGone L events was now k
+pub was_gone : (L : Layout) → IsLayout L → (events : List (ℕ × Event)) → All (λ t. HasKey t.1) events
+    → (was now : List Turn) (w : ℕ) (later : List Turn) → trace_in (ordered L) events ≡ now ++ later → (k : ℕ)
+    → AnswerStands L was now w Delete k false → WasGone L events was now k
 was_gone L fits events keys was now w later run k answer = record {
   before = m.before;
   rest = rest;
@@ -168,7 +211,8 @@ was_gone L fits events keys was now w later run k answer = record {
     rest = m.since ++ (w, LeaveWith false) ∷ a.is.since
 
     all : events ≡ m.before ++ rest
-    all = a.is.is_run ∙ (ap (λ (us : List (ℕ × Event)). us ++ (w, LeaveWith false) ∷ a.is.since) m.is_run ∙ append_assoc m.before m.since ((w, LeaveWith false) ∷ a.is.since))
+    all = a.is.is_run ∙ (ap (λ (us : List (ℕ × Event)). us ++ (w, LeaveWith false) ∷ a.is.since) m.is_run
+        ∙ append_assoc m.before m.since ((w, LeaveWith false) ∷ a.is.since))
 
     call : (own_search (after_in (ordered L) m.before) w).call ≡ Some (record { op = Delete; key = k })
     call = ap (λ (o : Option (List Search)). (search_of (unwrap_or o []) w).call) m.called.are ∙ m.called.is_call
@@ -176,16 +220,23 @@ was_gone L fits events keys was now w later run k answer = record {
     far : length was < length m.before
     far =
         let begun = a.pinned in
-        let stays : pin_of L a.is.before w ≡ pin_of L m.before w = ap (λ (us : List (ℕ × Event)). pin_of L us w) m.is_run ∙ pin_stays L m.before m.since w m.stands in
-        let below = pin_below L (enough_of L fits) m.before (first_keys m.before rest (subst (λ (us : List (ℕ × Event)). All (λ t. HasKey t.1) us) all keys)) w (record { op = Delete; key = k }) call in
+        let stays : pin_of L a.is.before w ≡ pin_of L m.before w = ap (λ (us : List (ℕ × Event)). pin_of L us w)
+        m.is_run ∙ pin_stays L m.before m.since w m.stands in
+        let below = pin_below L (enough_of L fits) m.before
+        (first_keys m.before rest (subst (λ (us : List (ℕ × Event)). All (λ t. HasKey t.1) us) all keys)) w
+        (record { op = Delete; key = k }) call in
         omega (arith, begun, stays, below)
 
 -- ---- a turn between the two
 
-module _ (L : Layout) (fits : IsLayout L) (events : List (ℕ × Event)) (keys : All (λ t. HasKey t.1) events) (p q : PassView) (k : ℕ) (now later : List Turn) (run : trace_in (ordered L) events ≡ now ++ later) (more : List Turn) (goes_on : now ≡ q.view.past ++ more) (layout : q.view.layout ≡ L)
-    (was : WasSo p q k true) (w : ℕ) (answer : AnswerStands L q.view.past now w Delete k false) (turns : List Turn) (since : now ≡ p.view.past ++ turns) where
+module _ (L : Layout) (fits : IsLayout L) (events : List (ℕ × Event)) (keys : All (λ t. HasKey t.1) events)
+    (p q : PassView) (k : ℕ) (now later : List Turn) (run : trace_in (ordered L) events ≡ now ++ later)
+    (more : List Turn) (goes_on : now ≡ q.view.past ++ more) (layout : q.view.layout ≡ L)
+    (was : WasSo p q k true) (w : ℕ) (answer : AnswerStands L q.view.past now w Delete k false) (turns : List Turn)
+    (since : now ≡ p.view.past ++ turns) where
   there : WasThere L events was.so_far k
-  there = was_there L fits events p q k layout (more ++ later) (run ∙ (ap (λ (ts : List Turn). ts ++ later) goes_on ∙ append_assoc q.view.past more later)) was
+  there = was_there L fits events p q k layout (more ++ later)
+      (run ∙ (ap (λ (ts : List Turn). ts ++ later) goes_on ∙ append_assoc q.view.past more later)) was
 
   gone : WasGone L events q.view.past now k
   gone = was_gone L fits events keys q.view.past now w later run k answer
@@ -202,27 +253,40 @@ module _ (L : Layout) (fits : IsLayout L) (events : List (ℕ × Event)) (keys :
   found_at = after_in (ordered L) there.early
 
   before_keys : All (λ t. HasKey t.1) (there.early ++ between.0)
-  before_keys = subst (λ (us : List (ℕ × Event)). All (λ t. HasKey t.1) us) between.1 (first_keys gone.before gone.rest (subst (λ (us : List (ℕ × Event)). All (λ t. HasKey t.1) us) gone.all keys))
+  before_keys = subst (λ (us : List (ℕ × Event)). All (λ t. HasKey t.1) us) between.1
+      (first_keys gone.before gone.rest (subst (λ (us : List (ℕ × Event)). All (λ t. HasKey t.1) us) gone.all keys))
 
   some_cut : 1 ≤ cuts_in (trace_in (after_in (ordered L) there.early) between.0)
   some_cut = by (cuts_in (trace_in (after_in (ordered L) there.early) between.0)) refl
     where
       by : (n : ℕ) → cuts_in (trace_in (after_in (ordered L) there.early) between.0) ≡ n → 1 ≤ n
       by (suc n) is = omega arith
-      by zero none = absurd (gone.is (subst (λ (c : Configuration). InSet c.state.memory k) (sym (ap (after_in (ordered L)) between.1 ∙ after_in-append (ordered L) there.early between.0))
-          (keeps L (enough_of L fits) between.0 (after_in (ordered L) there.early) (each_ordered L (enough_of L fits) there.early (first_keys there.early between.0 before_keys)) (later_keys there.early between.0 before_keys) none k there.is)))
+      by zero none = absurd (gone.is (subst (λ (c : Configuration). InSet c.state.memory k)
+          (sym (ap (after_in (ordered L)) between.1 ∙ after_in-append (ordered L) there.early between.0))
+          (keeps L (enough_of L fits) between.0 (after_in (ordered L) there.early)
+          (each_ordered L (enough_of L fits) there.early (first_keys there.early between.0 before_keys))
+          (later_keys there.early between.0 before_keys) none k there.is)))
 
   -- the turns up to the later moment are the first ones that were seen
   told : trace_in (ordered L) gone.before ≡ was.so_far ++ trace_in (after_in (ordered L) there.early) between.0
-  told = ap (trace_in (ordered L)) between.1 ∙ (trace_in-append (ordered L) there.early between.0 ∙ ap (λ (ts : List Turn). ts ++ trace_in (after_in (ordered L) there.early) between.0) (sym there.first_is))
+  told = ap (trace_in (ordered L)) between.1 ∙ (trace_in-append (ordered L) there.early between.0
+      ∙ ap (λ (ts : List Turn). ts ++ trace_in (after_in (ordered L) there.early) between.0) (sym there.first_is))
 
   pub late_cut : 1 ≤ cuts_in turns
   late_cut =
       let cut = some_cut in
-      let seen = begins (trace_in (ordered L) gone.before) now (trace_in (after_in (ordered L) gone.before) gone.rest) later (sym (trace_in-append (ordered L) gone.before gone.rest) ∙ (ap (trace_in (ordered L)) (sym gone.all) ∙ run)) (let size = length_trace (ordered L) gone.before in let short = gone.short in omega (arith, size, short)) in
-      let first = begins p.view.past was.so_far (turns) (was.rest ++ more) (sym since ∙ (goes_on ∙ (ap (λ (ts : List Turn). ts ++ more) was.are ∙ append_assoc was.so_far was.rest more))) (let after = was.later in omega (arith, after)) in
-      let whole = ap cuts_in (seen.1 ∙ ap (λ (ts : List Turn). ts ++ seen.0) (told ∙ ap (λ (ts : List Turn). ts ++ trace_in (after_in (ordered L) there.early) between.0) first.1)) in
-      let three = cuts-append ((p.view.past ++ first.0) ++ trace_in (after_in (ordered L) there.early) between.0) seen.0 in
+      let seen = begins (trace_in (ordered L) gone.before) now
+      (trace_in (after_in (ordered L) gone.before) gone.rest) later
+      (sym (trace_in-append (ordered L) gone.before gone.rest)
+      ∙ (ap (trace_in (ordered L)) (sym gone.all) ∙ run))
+      (let size = length_trace (ordered L) gone.before in let short = gone.short in omega (arith, size, short)) in
+      let first = begins p.view.past was.so_far (turns) (was.rest ++ more)
+      (sym since ∙ (goes_on ∙ (ap (λ (ts : List Turn). ts ++ more) was.are
+      ∙ append_assoc was.so_far was.rest more))) (let after = was.later in omega (arith, after)) in
+      let whole = ap cuts_in (seen.1 ∙ ap (λ (ts : List Turn). ts ++ seen.0)
+      (told ∙ ap (λ (ts : List Turn). ts ++ trace_in (after_in (ordered L) there.early) between.0) first.1)) in
+      let three = cuts-append ((p.view.past ++ first.0) ++ trace_in (after_in (ordered L) there.early) between.0)
+      seen.0 in
       let two = cuts-append (p.view.past ++ first.0) (trace_in (after_in (ordered L) there.early) between.0) in
       let one = cuts-append p.view.past first.0 in
       let all = ap cuts_in since ∙ cuts-append p.view.past turns in

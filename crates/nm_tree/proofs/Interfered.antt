@@ -19,14 +19,28 @@ use Rattle.nm_progress.specs.Lost.{Interference, WasChanged, ChangeWasBusy}
 use Rattle.nm_epoch.specs.Resting.{IsResting}
 use Rattle.nm_progress.specs.Alone.{IsAlone, RunsAlone}
 use Rattle.nm_progress.specs.Walked.{ManyWereBusy, NearWasBusy}
-use Rattle.nm_progress.proofs.AloneCalls.{lookups_alone_are_answered, inserts_alone_are_answered, deletes_alone_are_not_busy}
+use Rattle.nm_progress.proofs.AloneCalls.{
+  lookups_alone_are_answered,
+  inserts_alone_are_answered,
+  deletes_alone_are_not_busy,
+}
 use Rattle.nm_progress.proofs.AloneRemovals.{deletes_alone_are_finished, finishes_alone_are_answered}
 use Rattle.nm_progress.proofs.LostLookups.{busy_lookups_met_interference}
-use Rattle.nm_progress.proofs.LostWalked.{busy_many_met_interference, busy_near_met_interference, short_scans_met_interference}
-use Rattle.nm_progress.proofs.InterferedCalls.{busy_inserts_were_lost, busy_deletes_were_lost, unfinished_deletes_were_lost, unfinished_finishes_were_lost}
+use Rattle.nm_progress.proofs.LostWalked.{
+  busy_many_met_interference,
+  busy_near_met_interference,
+  short_scans_met_interference,
+}
+use Rattle.nm_progress.proofs.InterferedCalls.{
+  busy_inserts_were_lost,
+  busy_deletes_were_lost,
+  unfinished_deletes_were_lost,
+  unfinished_finishes_were_lost,
+}
 
 -- of a tree and a worker whose insides are b and o, a call that ends at q
-module _ (b d : TreeView) (o p q : PassView) (k tries : ℕ) (tree : b ≡ d) (at : o ≡ p) (seen : HasSeen o.view) (after : HasSeen q.view) (fits : IsLayout o.view.layout) (same : IsSamePass o q) (past : HasSeenAllOf q o) where
+module _ (b d : TreeView) (o p q : PassView) (k tries : ℕ) (tree : b ≡ d) (at : o ≡ p) (seen : HasSeen o.view)
+    (after : HasSeen q.view) (fits : IsLayout o.view.layout) (same : IsSamePass o q) (past : HasSeenAllOf q o) where
   enough : 5 ≤ o.view.layout.nodes
   enough = let least = fits.least in omega (arith, least)
 
@@ -37,42 +51,58 @@ module _ (b d : TreeView) (o p q : PassView) (k tries : ℕ) (tree : b ≡ d) (a
   lookup_interfered own did =
       let layout = layouts own in
       subst (λ (x : PassView). WasBusy x q tries) at
-      (busy_lookups_met_interference k tries o q seen after enough same past (subst (λ (L : Layout). HasMissed L tries k o.view.log q.view.log) (sym layout) did))
+      (busy_lookups_met_interference k tries o q seen after enough same past
+      (subst (λ (L : Layout). HasMissed L tries k o.view.log q.view.log) (sym layout) did))
 
-  pub insert_interfered : IsOf d p → (f : Fit) → InsertDid f b.layout tries k o.view.log q.view.log (Err fault.Busy) → ChangeWasBusy p q tries
+  pub insert_interfered : IsOf d p → (f : Fit) → InsertDid f b.layout tries k o.view.log q.view.log (Err fault.Busy)
+      → ChangeWasBusy p q tries
   insert_interfered own f did =
       subst (λ (x : PassView). ChangeWasBusy x q tries) at
-      (busy_inserts_were_lost f k tries o q seen after enough fits.few same past (subst (λ (L : Layout). InsertDid f L tries k o.view.log q.view.log (Err fault.Busy)) (sym (layouts own)) did))
+      (busy_inserts_were_lost f k tries o q seen after enough fits.few same past
+      (subst (λ (L : Layout). InsertDid f L tries k o.view.log q.view.log (Err fault.Busy)) (sym (layouts own)) did))
 
-  pub delete_interfered : IsOf d p → DeleteDid b.layout tries k o.view.log q.view.log (Err fault.Busy) → ChangeWasBusy p q tries
+  pub delete_interfered : IsOf d p → DeleteDid b.layout tries k o.view.log q.view.log (Err fault.Busy)
+      → ChangeWasBusy p q tries
   delete_interfered own did =
       subst (λ (x : PassView). ChangeWasBusy x q tries) at
-      (busy_deletes_were_lost k tries o q seen after enough fits.few same past (subst (λ (L : Layout). DeleteDid L tries k o.view.log q.view.log (Err fault.Busy)) (sym (layouts own)) did))
+      (busy_deletes_were_lost k tries o q seen after enough fits.few same past
+      (subst (λ (L : Layout). DeleteDid L tries k o.view.log q.view.log (Err fault.Busy)) (sym (layouts own)) did))
 
-  pub delete_lost : IsOf d p → (n : NodeId) → IsRemoving q k n → LosesAfterFlag b.layout tries k o.view.log q.view.log n → Interference p q (tries - 1)
+  pub delete_lost : IsOf d p → (n : NodeId) → IsRemoving q k n
+      → LosesAfterFlag b.layout tries k o.view.log q.view.log n → Interference p q (tries - 1)
   delete_lost own n removing did =
       subst (λ (x : PassView). Interference x q (tries - 1)) at
-      (unfinished_deletes_were_lost k tries n o q seen after enough fits.few same past removing (subst (λ (L : Layout). LosesAfterFlag L tries k o.view.log q.view.log n) (sym (layouts own)) did))
+      (unfinished_deletes_were_lost k tries n o q seen after enough fits.few same past removing
+      (subst (λ (L : Layout). LosesAfterFlag L tries k o.view.log q.view.log n) (sym (layouts own)) did))
 
-  pub finish_lost : IsOf d p → (n : NodeId) → IsRemoving q k n → LosesEachTry b.layout k n tries o.view.log q.view.log → WasChanged p q tries
+  pub finish_lost : IsOf d p → (n : NodeId) → IsRemoving q k n
+      → LosesEachTry b.layout k n tries o.view.log q.view.log → WasChanged p q tries
   finish_lost own n removing did =
       subst (λ (x : PassView). WasChanged x q tries) at
-      (unfinished_finishes_were_lost k tries n o q seen after enough fits.few same past removing (subst (λ (L : Layout). LosesEachTry L k n tries o.view.log q.view.log) (sym (layouts own)) did))
+      (unfinished_finishes_were_lost k tries n o q seen after enough fits.few same past removing
+      (subst (λ (L : Layout). LosesEachTry L k n tries o.view.log q.view.log) (sym (layouts own)) did))
 
-  pub many_interfered : IsOf d p → (keys : List ℕ) → PlainMissed (GiveUpInTurns b.layout keys) tries o.view.log q.view.log → ManyWereBusy p q tries
+  pub many_interfered : IsOf d p → (keys : List ℕ)
+      → PlainMissed (GiveUpInTurns b.layout keys) tries o.view.log q.view.log → ManyWereBusy p q tries
   many_interfered own keys missed =
       subst (λ (x : PassView). ManyWereBusy x q tries) at
-      (busy_many_met_interference keys tries o q seen after enough same past (subst (λ (L : Layout). PlainMissed (GiveUpInTurns L keys) tries o.view.log q.view.log) (sym (layouts own)) missed))
+      (busy_many_met_interference keys tries o q seen after enough same past
+      (subst (λ (L : Layout). PlainMissed (GiveUpInTurns L keys) tries o.view.log q.view.log) (sym (layouts own))
+      missed))
 
-  pub near_interfered : IsOf d p → (side : Side) → PlainMissed (GiveUpNear side b.layout tries k) tries o.view.log q.view.log → NearWasBusy p q tries
+  pub near_interfered : IsOf d p → (side : Side) → PlainMissed (GiveUpNear side b.layout tries k) tries o.view.log
+      q.view.log → NearWasBusy p q tries
   near_interfered own side missed =
       subst (λ (x : PassView). NearWasBusy x q tries) at
-      (busy_near_met_interference side k tries o q seen after enough same past (subst (λ (L : Layout). PlainMissed (GiveUpNear side L tries k) tries o.view.log q.view.log) (sym (layouts own)) missed))
+      (busy_near_met_interference side k tries o q seen after enough same past
+      (subst (λ (L : Layout). PlainMissed (GiveUpNear side L tries k) tries o.view.log q.view.log)
+      (sym (layouts own)) missed))
 
   pub scan_interfered : IsOf d p → GivesUpUnderPin (StopsShort b.layout) tries o.view.log q.view.log → WasReshaped p q 1
   scan_interfered own short =
       subst (λ (x : PassView). WasReshaped x q 1) at
-      (short_scans_met_interference tries o q seen after enough same past (subst (λ (L : Layout). GivesUpUnderPin (StopsShort L) tries o.view.log q.view.log) (sym (layouts own)) short))
+      (short_scans_met_interference tries o q seen after enough same past
+      (subst (λ (L : Layout). GivesUpUnderPin (StopsShort L) tries o.view.log q.view.log) (sym (layouts own)) short))
 
   -- ---- alone
 
@@ -87,26 +117,31 @@ module _ (b d : TreeView) (o p q : PassView) (k tries : ℕ) (tree : b ≡ d) (a
 
   pub lookup_alone : IsOf d p → Alone → HasMissed b.layout tries k o.view.log q.view.log → tries ≡ 0
   lookup_alone own alone did =
-      lookups_alone_are_answered k tries o q seen after enough same past (mine alone) (subst (λ (L : Layout). HasMissed L tries k o.view.log q.view.log) (sym (layouts own)) did)
+      lookups_alone_are_answered k tries o q seen after enough same past (mine alone)
+      (subst (λ (L : Layout). HasMissed L tries k o.view.log q.view.log) (sym (layouts own)) did)
 
-  pub insert_alone : IsOf d p → (f : Fit) → RunsAlone p q → IsResting o → InsertDid f b.layout tries k o.view.log q.view.log (Err fault.Busy) → tries ≡ 0
+  pub insert_alone : IsOf d p → (f : Fit) → RunsAlone p q → IsResting o
+      → InsertDid f b.layout tries k o.view.log q.view.log (Err fault.Busy) → tries ≡ 0
   insert_alone own f runs rests did =
       inserts_alone_are_answered f k tries o q seen after enough same past (mine_too runs) rests
       (subst (λ (L : Layout). InsertDid f L tries k o.view.log q.view.log (Err fault.Busy)) (sym (layouts own)) did)
 
-  pub delete_alone : IsOf d p → RunsAlone p q → IsResting o → DeleteDid b.layout tries k o.view.log q.view.log (Err fault.Busy) → tries < 1
+  pub delete_alone : IsOf d p → RunsAlone p q → IsResting o
+      → DeleteDid b.layout tries k o.view.log q.view.log (Err fault.Busy) → tries < 1
   delete_alone own runs rests did =
       let none = deletes_alone_are_not_busy k tries o q seen after enough same past (mine_too runs) rests
       (subst (λ (L : Layout). DeleteDid L tries k o.view.log q.view.log (Err fault.Busy)) (sym (layouts own)) did) in
       omega (arith, none)
 
-  pub delete_finished : IsOf d p → (n : NodeId) → RunsAlone p q → IsResting o → LosesAfterFlag b.layout tries k o.view.log q.view.log n → tries < 2
+  pub delete_finished : IsOf d p → (n : NodeId) → RunsAlone p q → IsResting o
+      → LosesAfterFlag b.layout tries k o.view.log q.view.log n → tries < 2
   delete_finished own n runs rests did =
       let few = deletes_alone_are_finished k tries n o q seen after enough same past (mine_too runs) rests
       (subst (λ (L : Layout). LosesAfterFlag L tries k o.view.log q.view.log n) (sym (layouts own)) did) in
       omega (arith, few)
 
-  pub finish_alone : IsOf d p → (n : NodeId) → Alone → IsRemoving q k n → LosesEachTry b.layout k n tries o.view.log q.view.log → tries < 1
+  pub finish_alone : IsOf d p → (n : NodeId) → Alone → IsRemoving q k n
+      → LosesEachTry b.layout k n tries o.view.log q.view.log → tries < 1
   finish_alone own n alone removing did =
       let none = finishes_alone_are_answered k tries n o q seen after enough fits.few same past (mine alone) removing
       (subst (λ (L : Layout). LosesEachTry L k n tries o.view.log q.view.log) (sym (layouts own)) did) in

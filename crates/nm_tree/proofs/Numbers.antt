@@ -15,12 +15,16 @@ numbers_stay p q hs same is =
       all = λ o has. is.all o (there o (sym number) (sym others) has);
     }
   where
-    there : {m n : ℕ} {xs ys : List Held} (o : ℕ) → m ≡ n → xs ≡ ys → (n ≡ o) ⊎ HasNumber o ys → (m ≡ o) ⊎ HasNumber o xs
+    there : {m n : ℕ} {xs ys : List Held} (o : ℕ) → m ≡ n → xs ≡ ys → (n ≡ o) ⊎ HasNumber o ys
+        → (m ≡ o) ⊎ HasNumber o xs
     there o number others (inl is) = inl (number ∙ is)
-    there o number others (inr has) = inr (let P : List Held → Type 0 = λ hs. HasNumber o hs in subst P (sym others) has)
+    there o number others (inr has) = inr (let P : List Held → Type 0 = λ hs. HasNumber o hs in
+        subst P (sym others) has)
 
-pub resigned_stay : (p q : PassView) → IsSamePass p q → HoldNoSlot p.view.layout p.view.others → HoldNoSlot q.view.layout q.view.others
+pub resigned_stay : (p q : PassView) → IsSamePass p q → HoldNoSlot p.view.layout p.view.others
+    → HoldNoSlot q.view.layout q.view.others
 resigned_stay p q same are =
     let P : Layout → Type 0 = λ L. HoldNoSlot L p.view.others in
     let Q : List Held → Type 0 = λ hs. HoldNoSlot q.view.layout hs in
-    subst Q (sym (ap (λ (x : PassView). x.view.others) same)) (subst P (sym (ap (λ (x : PassView). x.view.layout) same)) are)
+    subst Q (sym (ap (λ (x : PassView). x.view.others) same))
+    (subst P (sym (ap (λ (x : PassView). x.view.layout) same)) are)

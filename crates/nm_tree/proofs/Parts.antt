@@ -1,5 +1,27 @@
 -- A walk over a tree, part by part: what it has found, what is left, and how many parts wait.
-use Rattle.std.proofs.Common.{◌≡◌, ◌≢◌, ◌⊎◌, ℕ, zero, suc, ◌+◌, ◌-◌, ◌<◌, ◌≤◌, List, [], ◌∷◌, ◌++◌, length, refl, sym, ap, subst, ◌∙◌, arith}
+use Rattle.std.proofs.Common.{
+  ◌≡◌,
+  ◌≢◌,
+  ◌⊎◌,
+  ℕ,
+  zero,
+  suc,
+  ◌+◌,
+  ◌-◌,
+  ◌<◌,
+  ◌≤◌,
+  List,
+  [],
+  ◌∷◌,
+  ◌++◌,
+  length,
+  refl,
+  sym,
+  ap,
+  subst,
+  ◌∙◌,
+  arith,
+}
 use Rattle.std.specs.Prelude.{Option, Some, None, option_to_list}
 use Rattle.std.specs.List.{filter_map, cons_option}
 use Rattle.std.proofs.lemmas.List.{length-append}
@@ -22,7 +44,8 @@ unfolding spread
 spread-append m [] qs = omega arith
 spread-append m (p ∷ ps) qs = let rest = spread-append m ps qs in omega (arith, rest)
 
-spread_pop : (m : Memory) (all rest : List Subtree) (p : Subtree) → all ≡ rest ++ p ∷ [] → spread m all ≡ spread m rest + length (tree_slots p.depth m p.slot)
+spread_pop : (m : Memory) (all rest : List Subtree) (p : Subtree) → all ≡ rest ++ p ∷ []
+    → spread m all ≡ spread m rest + length (tree_slots p.depth m p.slot)
 unfolding spread
 spread_pop m all rest p e = ap (spread m) e ∙ (spread-append m rest (p ∷ []) ∙ omega arith)
 
@@ -34,7 +57,9 @@ spread_none : (m : Memory) → spread m [] ≡ 0
 unfolding spread
 spread_none m = refl
 
-spread_below : (m : Memory) (x d : ℕ) (rest : List Subtree) → spread m (rest ++ below m x d) ≡ spread m rest + (length (tree_slots d m (child m x Left)) + length (tree_slots d m (child m x Right)))
+spread_below : (m : Memory) (x d : ℕ) (rest : List Subtree)
+    → spread m (rest ++ below m x d) ≡ spread m rest
+    + (length (tree_slots d m (child m x Left)) + length (tree_slots d m (child m x Right)))
 unfolding spread
 spread_below m x d rest = spread-append m rest (below m x d) ∙ omega arith
 
@@ -67,7 +92,8 @@ popped_fewer all rest p e = let old = steps_pop all rest p e in let some = some_
 
 -- two parts in place of one that is deeper
 pub visited_fewer : (all rest new : List Subtree) (p : Subtree) (left right : ℕ) → all ≡ rest ++ p ∷ [] → p.depth ≢ 0
-    → new ≡ rest ++ record { slot = right; depth = p.depth - 1 } ∷ record { slot = left; depth = p.depth - 1 } ∷ [] → steps new < steps all
+    → new ≡ rest ++ record { slot = right; depth = p.depth - 1 } ∷ record { slot = left; depth = p.depth - 1 } ∷ []
+    → steps new < steps all
 unfolding steps most
 visited_fewer all rest new p left right e deep waits = go p.depth refl
   where
@@ -76,7 +102,8 @@ visited_fewer all rest new p left right e deep waits = go p.depth refl
     go (suc d) at =
         let one : p.depth - 1 ≡ d = omega (arith, at) in
         let old = steps_pop all rest p e ∙ ap (λ (n : ℕ). steps rest + most n) at in
-        let next = ap steps (waits ∙ ap (λ (n : ℕ). rest ++ record { slot = right; depth = n } ∷ record { slot = left; depth = n } ∷ []) one)
+        let next = ap steps (waits ∙ ap (λ (n : ℕ). rest ++ record { slot = right; depth = n }
+        ∷ record { slot = left; depth = n } ∷ []) one)
         ∙ steps-append rest (record { slot = right; depth = d } ∷ record { slot = left; depth = d } ∷ []) in
         omega (arith, old, next)
 
@@ -103,7 +130,8 @@ pub record IsWalk (n : ℕ) (m : Memory) (done : ℕ) (found : List ℕ) (waitin
   pub counted : done + spread m waiting ≡ length (tree_slots n m 1)
   pub within : AreWithin n waiting
 
-pub begun : (n : ℕ) (m : Memory) (found : List ℕ) (all : List Subtree) → 1 ≤ n → found ≡ [] → all ≡ record { slot = 1; depth = n } ∷ [] → IsWalk n m 0 found all
+pub begun : (n : ℕ) (m : Memory) (found : List ℕ) (all : List Subtree) → 1 ≤ n → found ≡ []
+    → all ≡ record { slot = 1; depth = n } ∷ [] → IsWalk n m 0 found all
 begun n m found all some none one = record {
   told = whole m n n found all [] none refl one refl;
   counted = let first = ap (spread m) one ∙ spread_first m (record { slot = 1; depth = n }) in omega (arith, first);
@@ -111,31 +139,39 @@ begun n m found all some none one = record {
 }
 
 -- a part with no slot
-pub passed : (n : ℕ) (m : Memory) (done : ℕ) (found : List ℕ) (all rest : List Subtree) (p : Subtree) → all ≡ rest ++ p ∷ [] → (p.slot ≡ 0) ⊎ (p.depth ≡ 0)
+pub passed : (n : ℕ) (m : Memory) (done : ℕ) (found : List ℕ) (all rest : List Subtree) (p : Subtree)
+    → all ≡ rest ++ p ∷ [] → (p.slot ≡ 0) ⊎ (p.depth ≡ 0)
     → IsWalk n m done found all → IsWalk n m done found rest
 passed n m done found all rest p e empty w = record {
   told = skipped m found (keys_below n m 1) all rest p e empty w.told;
-  counted = let old = spread_pop m all rest p e in let nothing = ap length (no_slots p.depth m p.slot empty) in let sum = w.counted in omega (arith, old, nothing, sum);
+  counted = let old = spread_pop m all rest p e in let nothing = ap length (no_slots p.depth m p.slot empty) in
+      let sum = w.counted in omega (arith, old, nothing, sum);
   within = (within_split n rest p (subst (AreWithin n) e w.within)).0;
 }
 
 -- a part that is taken is none above the last slot
-pub part_within : (n : ℕ) (m : Memory) (done : ℕ) (found : List ℕ) (all rest : List Subtree) (p : Subtree) → all ≡ rest ++ p ∷ [] → IsWalk n m done found all → p.slot ≤ n
+pub part_within : (n : ℕ) (m : Memory) (done : ℕ) (found : List ℕ) (all rest : List Subtree) (p : Subtree)
+    → all ≡ rest ++ p ∷ [] → IsWalk n m done found all → p.slot ≤ n
 part_within n m done found all rest p e w = (within_split n rest p (subst (AreWithin n) e w.within)).1
 
 -- a slot is visited: its key is found, and the parts below it wait
-pub gone_on : (n : ℕ) (m : Memory) (done : ℕ) (found after : List ℕ) (all rest new : List Subtree) (p : Subtree) (x : Node) → ((y : ℕ) (side : Side) → child m y side ≤ n)
+pub gone_on : (n : ℕ) (m : Memory) (done : ℕ) (found after : List ℕ) (all rest new : List Subtree) (p : Subtree)
+    (x : Node) → ((y : ℕ) (side : Side) → child m y side ≤ n)
     → all ≡ rest ++ p ∷ [] → p.slot ≢ 0 → p.depth ≢ 0 → x ≡ node m p.slot → after ≡ found ++ option_to_list (set_key x)
-    → new ≡ rest ++ record { slot = x.right.slot; depth = p.depth - 1 } ∷ record { slot = x.left.slot; depth = p.depth - 1 } ∷ []
+    → new ≡ rest ++ record { slot = x.right.slot; depth = p.depth - 1 }
+    ∷ record { slot = x.left.slot; depth = p.depth - 1 } ∷ []
     → IsWalk n m done found all → IsWalk n m (done + 1) after new
 gone_on n m done found after all rest new p x low e slot deep is key waits w = record {
-  told = visited m found after (keys_below n m 1) all rest new p e slot deep (key ∙ ap (λ (y : Node). found ++ option_to_list (set_key y)) is) waits' w.told;
+  told = visited m found after (keys_below n m 1) all rest new p e slot deep
+      (key ∙ ap (λ (y : Node). found ++ option_to_list (set_key y)) is) waits' w.told;
   counted = sum p.depth refl;
-  within = subst (AreWithin n) (sym waits') (within-append n rest (below m p.slot (p.depth - 1)) (within_split n rest p (subst (AreWithin n) e w.within)).0 (low p.slot Right, (low p.slot Left, tt)));
+  within = subst (AreWithin n) (sym waits') (within-append n rest (below m p.slot (p.depth - 1))
+      (within_split n rest p (subst (AreWithin n) e w.within)).0 (low p.slot Right, (low p.slot Left, tt)));
 }
   where
     waits' : new ≡ rest ++ below m p.slot (p.depth - 1)
-    waits' = waits ∙ ap (λ (y : Node). rest ++ record { slot = y.right.slot; depth = p.depth - 1 } ∷ record { slot = y.left.slot; depth = p.depth - 1 } ∷ []) is
+    waits' = waits ∙ ap (λ (y : Node). rest ++ record { slot = y.right.slot; depth = p.depth - 1 }
+        ∷ record { slot = y.left.slot; depth = p.depth - 1 } ∷ []) is
 
     sum : (d : ℕ) → p.depth ≡ d → (done + 1) + spread m new ≡ length (tree_slots n m 1)
     sum zero at = absurd (deep at)
@@ -144,7 +180,8 @@ gone_on n m done found after all rest new p x low e slot deep is key waits w = r
         let old = spread_pop m all rest p e ∙ ap (λ (k : ℕ). spread m rest + length (tree_slots k m p.slot)) at in
         let fork = ap length (tree_fork d m p.slot slot) in
         let both = length-append (tree_slots d m (child m p.slot Left)) (tree_slots d m (child m p.slot Right)) in
-        let next = ap (spread m) (waits' ∙ ap (λ (k : ℕ). rest ++ below m p.slot k) one) ∙ spread_below m p.slot d rest in
+        let next = ap (spread m) (waits' ∙ ap (λ (k : ℕ). rest ++ below m p.slot k) one)
+        ∙ spread_below m p.slot d rest in
         let all_of = w.counted in
         omega (arith, old, fork, both, next, all_of)
 
@@ -156,21 +193,25 @@ kept_or_left (Some k) ks = omega arith
 
 fewer_told : {X : Type 0} (f : X → Option ℕ) (xs : List X) → length (filter_map f xs) ≤ length xs
 fewer_told f [] = omega arith
-fewer_told f (x ∷ xs) = let rest = fewer_told f xs in let one = kept_or_left (f x) (filter_map f xs) in omega (arith, rest, one)
+fewer_told f (x ∷ xs) = let rest = fewer_told f xs in let one = kept_or_left (f x) (filter_map f xs) in
+    omega (arith, rest, one)
 
 -- no more keys are found than there are slots in the tree
-pub few_found : (n : ℕ) (m : Memory) (done : ℕ) (found : List ℕ) (waiting : List Subtree) → IsWalk n m done found waiting → length found ≤ length (tree_slots n m 1)
+pub few_found : (n : ℕ) (m : Memory) (done : ℕ) (found : List ℕ) (waiting : List Subtree)
+    → IsWalk n m done found waiting → length found ≤ length (tree_slots n m 1)
 few_found n m done found waiting w =
     let all = sym (length-append found (pending m waiting)) ∙ ap length w.told in
     let few = fewer_told (λ x. set_key (node m x)) (tree_slots n m 1) in omega (arith, all, few)
 
 -- nor are more visited
-pub few_visited : (n : ℕ) (m : Memory) (done : ℕ) (found : List ℕ) (waiting : List Subtree) → IsWalk n m done found waiting → done ≤ length (tree_slots n m 1)
+pub few_visited : (n : ℕ) (m : Memory) (done : ℕ) (found : List ℕ) (waiting : List Subtree)
+    → IsWalk n m done found waiting → done ≤ length (tree_slots n m 1)
 few_visited n m done found waiting w = let all = w.counted in omega (arith, all)
 
 -- where no more slots are reached than there are, a slot that is visited is one of them, and there
 -- is room for its key
-pub room_left : (n : ℕ) (m : Memory) (done : ℕ) (found : List ℕ) (all rest : List Subtree) (p : Subtree) (x : Node) → ((y : ℕ) (side : Side) → child m y side ≤ n)
+pub room_left : (n : ℕ) (m : Memory) (done : ℕ) (found : List ℕ) (all rest : List Subtree) (p : Subtree) (x : Node)
+    → ((y : ℕ) (side : Side) → child m y side ≤ n)
     → all ≡ rest ++ p ∷ [] → p.slot ≢ 0 → p.depth ≢ 0 → x ≡ node m p.slot → length (tree_slots n m 1) ≤ n
     → IsWalk n m done found all → (done + 1 ≤ n) × (length found + length (option_to_list (set_key x)) ≤ n)
 room_left n m done found all rest p x low e slot deep is few w =
@@ -183,15 +224,19 @@ room_left n m done found all rest p x low e slot deep is few w =
     after = found ++ option_to_list (set_key x)
 
     new : List Subtree
-    new = rest ++ record { slot = x.right.slot; depth = p.depth - 1 } ∷ record { slot = x.left.slot; depth = p.depth - 1 } ∷ []
+    new = rest ++ record { slot = x.right.slot; depth = p.depth - 1 }
+        ∷ record { slot = x.left.slot; depth = p.depth - 1 } ∷ []
 
     then_on : IsWalk n m (done + 1) after new
     then_on = gone_on n m done found after all rest new p x low e slot deep is refl refl w
 
 -- ---- the end
 
-pub all_found : (n : ℕ) (m : Memory) (done : ℕ) (found : List ℕ) (waiting : List Subtree) → waiting ≡ [] → IsWalk n m done found waiting → found ≡ keys_below n m 1
+pub all_found : (n : ℕ) (m : Memory) (done : ℕ) (found : List ℕ) (waiting : List Subtree) → waiting ≡ []
+    → IsWalk n m done found waiting → found ≡ keys_below n m 1
 all_found n m done found waiting none w = finished m found (keys_below n m 1) waiting none w.told
 
-pub all_visited : (n : ℕ) (m : Memory) (done : ℕ) (found : List ℕ) (waiting : List Subtree) → waiting ≡ [] → IsWalk n m done found waiting → done ≡ length (tree_slots n m 1)
-all_visited n m done found waiting none w = let rest = ap (spread m) none ∙ spread_none m in let all = w.counted in omega (arith, rest, all)
+pub all_visited : (n : ℕ) (m : Memory) (done : ℕ) (found : List ℕ) (waiting : List Subtree) → waiting ≡ []
+    → IsWalk n m done found waiting → done ≡ length (tree_slots n m 1)
+all_visited n m done found waiting none w = let rest = ap (spread m) none ∙ spread_none m in let all = w.counted in
+    omega (arith, rest, all)

@@ -1,5 +1,25 @@
 -- What a worker is between two calls, after a call that changes nothing in its hands.
-use Rattle.std.proofs.Common.{◌≡◌, ℕ, inl, inr, true, false, ◌&&◌, List, [], ◌∷◌, Option, Some, None, refl, sym, ap, ◌∙◌, subst, true≢false}
+use Rattle.std.proofs.Common.{
+  ◌≡◌,
+  ℕ,
+  inl,
+  inr,
+  true,
+  false,
+  ◌&&◌,
+  List,
+  [],
+  ◌∷◌,
+  Option,
+  Some,
+  None,
+  refl,
+  sym,
+  ap,
+  ◌∙◌,
+  subst,
+  true≢false,
+}
 use Rattle.std.specs.List.{list_all}
 use Rattle.std.specs.Prelude.{IsSome, is_some, unwrap_or}
 use Rattle.nm_model.specs.declared.arrivals.Call.{Call}
@@ -39,26 +59,39 @@ use Rattle.nm_tree.proofs.Quiet.{Quiet}
 -- queues of ledgers that all stay are held still
 pub all_held : (k l : Knowledge) (hs : List HeldQueue) → l.ledgers ≡ k.ledgers → AreHeld k hs → AreHeld l hs
 all_held k l [] same are = tt
-all_held k l (h ∷ hs) same are = (queue_stays k l h.origin h.queue.items (ap (λ (ls : List (Option Ledger)). held ls h.origin) same) are.0, are.1, all_held k l hs same are.2)
+all_held k l (h ∷ hs) same are = (
+  queue_stays k l h.origin h.queue.items
+      (ap (λ (ls : List (Option Ledger)). held ls h.origin) same) are.0,
+  are.1,
+  all_held k l hs same are.2,
+)
 
 -- ---- a whole worker
 
 -- nothing in its hands has changed, and nothing was won
-pub stays : {f : Fit} (w : WorkerView) (home : ℕ) (q : PassView) (n : Option Unfinished) (e : Option ℕ) → IsWorker w home → IsSamePass w.pass q → Quiet w.pass.view.log q.view.log
-    → (knowledge q.view).drafts ≡ (knowledge w.pass.view).drafts → (knowledge q.view).ledgers ≡ (knowledge w.pass.view).ledgers → IsAs q n e
+pub stays : {f : Fit} (w : WorkerView) (home : ℕ) (q : PassView) (n : Option Unfinished) (e : Option ℕ)
+    → IsWorker w home → IsSamePass w.pass q → Quiet w.pass.view.log q.view.log
+    → (knowledge q.view).drafts ≡ (knowledge w.pass.view).drafts
+    → (knowledge q.view).ledgers ≡ (knowledge w.pass.view).ledgers → IsAs q n e
     → IsWorker (record { pass = q; queues = w.queues; pending = n; held = e; fit = f }) home
 stays w home q n e is same none' drafts ledgers stands =
     let P : ℕ → Type 0 = λ number. QueueStandsAt home number w.queues in
     record {
       between = record {
         queues = all_held (knowledge w.pass.view) (knowledge q.view) w.queues ledgers is.between.queues;
-        all = λ o some'. let Q : List (Option Ledger) → Type 0 = λ ls. IsSome (held ls o) in is.between.all o (subst Q ledgers some');
+        all = λ o some'. let Q : List (Option Ledger) → Type 0 = λ ls. IsSome (held ls o) in
+            is.between.all o (subst Q ledgers some');
         ascend = is.between.ascend;
         blocks = is.between.blocks;
         private = λ slot. ap (λ ds. get ds slot) drafts ∙ is.between.private slot;
         stands = stands;
       };
-      counted = all_counted_still w.pass.view q.view w.queues (λ o has. record { log = quiet_of w.pass q same none' o; ledger = ap (λ (ls : List (Option Ledger)). unwrap_or (held ls o) fresh_ledger) ledgers }) is.counted;
+      counted = all_counted_still w.pass.view q.view w.queues
+          (λ o has. record {
+            log = quiet_of w.pass q same none' o;
+            ledger = ap
+                (λ (ls : List (Option Ledger)). unwrap_or (held ls o) fresh_ledger) ledgers;
+          }) is.counted;
       own = subst P (sym (ap (λ (x : PassView). x.view.number) same)) is.own;
       few = is.few;
       numbers = numbers_stay w.pass q w.queues same is.numbers;
@@ -76,7 +109,13 @@ labelled p (Some n) None is = is.labelled
 labelled p (Some n) (Some e) is = absurd is
 
 pub held_at : (p : PassView) (e : ℕ) → IsPinnedAt e None p → IsHolding p e
-held_at p e is = record { announcement = is.announcement; pin = is.pin; labelled = is.labelled; search = is.begun; known = ap (λ (m : List (ℕ × Seen)). has m 2) is.known }
+held_at p e is = record {
+  announcement = is.announcement;
+  pin = is.pin;
+  labelled = is.labelled;
+  search = is.begun;
+  known = ap (λ (m : List (ℕ × Seen)). has m 2) is.known;
+}
 
 is_some_of : (o : Option ℕ) (e : ℕ) → o ≡ Some e → IsSome o
 is_some_of o e is = ap (λ (x : Option ℕ). is_some x) is
@@ -89,13 +128,28 @@ settled p (Some n) None is = inl (is_some_of (epochs p).pin is.pinned.0 is.pinne
 settled p (Some n) (Some e) is = absurd is
 
 -- so it stands as it stood where its pin and its call stay
-pub stands_still : (p q : PassView) (n : Option Unfinished) (e : Option ℕ) → IsAs p n e → Settles p q → IsInRun q → IsAs q n e
+pub stands_still : (p q : PassView) (n : Option Unfinished) (e : Option ℕ) → IsAs p n e → Settles p q → IsInRun q
+    → IsAs q n e
 stands_still p q None None is s run =
     let t = s.stays (settled p None None is) in
-    record { unpinned = t.pin ∙ is.unpinned; silent = t.announcement ∙ is.silent; labelled = s.labelled; idle = t.search ∙ is.idle }
+    record {
+      unpinned = t.pin ∙ is.unpinned;
+      silent = t.announcement
+          ∙ is.silent;
+      labelled = s.labelled;
+      idle = t.search ∙ is.idle;
+    }
 stands_still p q None (Some e) is s run =
     let t = s.stays (settled p None (Some e) is) in
-    record { announcement = t.announcement ∙ is.announcement; pin = t.pin ∙ is.pin; labelled = s.labelled; search = t.search ∙ is.search; known = ap (λ (m : List (ℕ × Seen)). has m 2) t.known ∙ is.known }
+    record {
+      announcement = t.announcement ∙ is.announcement;
+      pin = t.pin
+          ∙ is.pin;
+      labelled = s.labelled;
+      search = t.search
+          ∙ is.search;
+      known = ap (λ (m : List (ℕ × Seen)). has m 2) t.known ∙ is.known;
+    }
 stands_still p q (Some n) None is s run =
     let t = s.stays (settled p (Some n) None is) in
     record {
@@ -118,16 +172,20 @@ unfolding searched
 looks_keep s [] none' all = refl
 looks_keep s ((event, r) ∷ es) none' all = by (looks_keep s es none') event all
   where
-    by : (list_all is_look es ≡ true → search_after s es ≡ s) → (e : Event) → (is_look (e, r) && list_all is_look es) ≡ true → search_after (searched s e r) es ≡ s
-    by rest (Look slot field) all' = ap (λ (t : Search). search_after t es) (ap (λ (c : Option Call). look_for s c slot field r) none') ∙ rest all'
+    by : (list_all is_look es ≡ true → search_after s es ≡ s) → (e : Event)
+        → (is_look (e, r) && list_all is_look es) ≡ true → search_after (searched s e r) es ≡ s
+    by rest (Look slot field) all' = ap (λ (t : Search). search_after t es)
+        (ap (λ (c : Option Call). look_for s c slot field r) none') ∙ rest all'
     by rest e all' = absurd (true≢false (sym all'))
 
-pub holds_on : {n : ℕ} (p q : PassView) (e : ℕ) → IsHolding p e → GoesOn p q → OnlyLooks p q → AddsLooks n p.view.log q.view.log → IsHolding q e
+pub holds_on : {n : ℕ} (p q : PassView) (e : ℕ) → IsHolding p e → GoesOn p q → OnlyLooks p q
+    → AddsLooks n p.view.log q.view.log → IsHolding q e
 holds_on p q e is on only looks = record {
   announcement = ap (λ (b : Brief). b.announcement) only.epochs ∙ is.announcement;
   pin = ap (λ (b : Brief). b.pin) only.epochs ∙ is.pin;
   labelled = ap (λ (b : Brief). b.unlabelled) only.epochs ∙ is.labelled;
-  search = ap (search_after idle) looks.grown ∙ (search-append idle p.view.log looks.looks ∙ (looks_keep (search p) looks.looks (ap (λ (s : Search). s.call) is.search) looks.only ∙ is.search));
+  search = ap (search_after idle) looks.grown ∙ (search-append idle p.view.log looks.looks
+      ∙ (looks_keep (search p) looks.looks (ap (λ (s : Search). s.call) is.search) looks.only ∙ is.search));
   known = on.keeps (KnowsSlot 2) is.known;
 }
 
@@ -137,16 +195,19 @@ held_as standing.Resting some' = absurd (true≢false (sym some'))
 held_as (standing.Held e) some' = (e, refl)
 held_as (standing.Pending n) some' = absurd (true≢false (sym some'))
 
-pub holding_in : (p : PassView) (s : Standing) (e : ℕ) → s ≡ standing.Held e → IsAs p (pending_in s) (held_in s) → IsHolding p e
+pub holding_in : (p : PassView) (s : Standing) (e : ℕ) → s ≡ standing.Held e → IsAs p (pending_in s) (held_in s)
+    → IsHolding p e
 holding_in p s e is as' = let P : Standing → Type 0 = λ x. IsAs p (pending_in x) (held_in x) in subst P is as'
 
-pub holding_as : (p : PassView) (s : Standing) (e : ℕ) → s ≡ standing.Held e → IsHolding p e → IsAs p (pending_in s) (held_in s)
+pub holding_as : (p : PassView) (s : Standing) (e : ℕ) → s ≡ standing.Held e → IsHolding p e
+    → IsAs p (pending_in s) (held_in s)
 holding_as p s e is holds = let P : Standing → Type 0 = λ x. IsAs p (pending_in x) (held_in x) in subst P (sym is) holds
 
 -- ---- what a worker is in the midst of
 
 -- it rests where it is not held and no delete is pending
-pub resting_in : (s : Standing) → held_in s ≡ None → ((n : Unfinished) → s ≡ standing.Pending n → ⊥) → s ≡ standing.Resting
+pub resting_in : (s : Standing) → held_in s ≡ None → ((n : Unfinished) → s ≡ standing.Pending n → ⊥)
+    → s ≡ standing.Resting
 resting_in standing.Resting free none' = refl
 resting_in (standing.Held e) free none' = absurd (cc)
 resting_in (standing.Pending n) free none' = absurd (none' n refl)
@@ -159,18 +220,23 @@ rests_as p s is rests = let P : Standing → Type 0 = λ x. IsAs p (pending_in x
 
 -- nor does it have or win anything behind a call with which it rests again
 pub stays_resting : {f g : Fit} (p q : PassView) (hs : List HeldQueue) (s : Standing) (home : ℕ) → s ≡ standing.Resting
-    → IsWorker (record { pass = p; queues = hs; pending = pending_in s; held = held_in s; fit = f }) home → IsSamePass p q → Quiet p.view.log q.view.log → KeepsHands p q → IsResting q
+    → IsWorker (record { pass = p; queues = hs; pending = pending_in s; held = held_in s; fit = f }) home
+    → IsSamePass p q → Quiet p.view.log q.view.log → KeepsHands p q → IsResting q
     → IsWorker (record { pass = q; queues = hs; pending = pending_in s; held = held_in s; fit = g }) home
 stays_resting {f} {g} p q hs s home at is same quiet hands rests =
-    stays (record { pass = p; queues = hs; pending = pending_in s; held = held_in s; fit = f }) home q (pending_in s) (held_in s) is same quiet hands.private (hands.ledgers (rests_in p s at is.between.stands).labelled) (rests_as q s at rests)
+    stays (record { pass = p; queues = hs; pending = pending_in s; held = held_in s; fit = f }) home q (pending_in s)
+    (held_in s) is same quiet hands.private (hands.ledgers (rests_in p s at is.between.stands).labelled)
+    (rests_as q s at rests)
 
 -- and then no delete was pending, and none is
 pub free_in : (s : Standing) → s ≡ standing.Resting → (pending_in s ≡ None) × (pending_in s ≡ None)
 free_in s is = (ap pending_in is, ap pending_in is)
 
 -- a delete is pending, and its leaf is being removed
-pub removing_in : (p : PassView) (s : Standing) (n : Unfinished) → s ≡ standing.Pending n → IsRemoving p n.key n.leaf → IsAs p (pending_in s) (held_in s)
-removing_in p s n is removing = let P : Standing → Type 0 = λ x. IsAs p (pending_in x) (held_in x) in subst P (sym is) removing
+pub removing_in : (p : PassView) (s : Standing) (n : Unfinished) → s ≡ standing.Pending n → IsRemoving p n.key n.leaf
+    → IsAs p (pending_in s) (held_in s)
+removing_in p s n is removing = let P : Standing → Type 0 = λ x. IsAs p (pending_in x) (held_in x) in
+    subst P (sym is) removing
 
 -- ---- a worker that has seen more
 
@@ -180,7 +246,14 @@ seeing q p = record p { view = record p.view { past = q.view.past; stores = q.vi
 
 as_was : (q p : PassView) (n : Option Unfinished) (e : Option ℕ) → IsAs p n e → IsAs (seeing q p) n e
 as_was q p None None is = record { unpinned = is.unpinned; silent = is.silent; labelled = is.labelled; idle = is.idle }
-as_was q p None (Some e) is = record { announcement = is.announcement; pin = is.pin; labelled = is.labelled; search = is.search; known = is.known }
+as_was q p None (Some e) is = record {
+  announcement = is.announcement;
+  pin = is.pin;
+  labelled = is.labelled;
+  search =
+      is.search;
+  known = is.known;
+}
 as_was q p (Some n) None is = record {
   run = record { fits = is.run.fits; run = is.run.run };
   pinned = is.pinned;
@@ -194,12 +267,15 @@ as_was q p (Some n) None is = record {
 as_was q p (Some n) (Some e) is = absurd is
 
 -- it has done nothing, and is a worker as it was
-pub sees_more : (q : PassView) (w : WorkerView) (home : ℕ) → IsWorker w home → IsWorker (record w { pass = seeing q w.pass }) home
+pub sees_more : (q : PassView) (w : WorkerView) (home : ℕ) → IsWorker w home
+    → IsWorker (record w { pass = seeing q w.pass }) home
 sees_more q w home is =
-    stays w home (seeing q w.pass) w.pending w.held is refl (record { links = refl; flags = refl; splices = refl }) refl refl (as_was q w.pass w.pending w.held is.between.stands)
+    stays w home (seeing q w.pass) w.pending w.held is refl (record { links = refl; flags = refl; splices = refl })
+    refl refl (as_was q w.pass w.pending w.held is.between.stands)
 
 -- a worker with no delete pending has no call
-pub no_call_open : (p : PassView) (u : Option Unfinished) (e : Option ℕ) → IsAs p u e → u ≡ None → (search p).call ≡ None
+pub no_call_open : (p : PassView) (u : Option Unfinished) (e : Option ℕ) → IsAs p u e → u ≡ None
+    → (search p).call ≡ None
 no_call_open p None None is none' = ap (λ (s : Search). s.call) is.idle
 no_call_open p None (Some e) is none' = ap (λ (s : Search). s.call) is.search
 no_call_open p (Some n) e is none' = absurd (none-some n (sym none'))

@@ -1,5 +1,23 @@
 -- Links and flags, counted on turns, are those of the run.
-use Rattle.std.proofs.Common.{◌≡◌, ℕ, ◌+◌, Bool, false, ◌&&◌, List, [], ◌∷◌, ◌++◌, append_assoc, refl, sym, ap, subst, ◌∙◌, arith}
+use Rattle.std.proofs.Common.{
+  ◌≡◌,
+  ℕ,
+  ◌+◌,
+  Bool,
+  false,
+  ◌&&◌,
+  List,
+  [],
+  ◌∷◌,
+  ◌++◌,
+  append_assoc,
+  refl,
+  sym,
+  ap,
+  subst,
+  ◌∙◌,
+  arith,
+}
 use Rattle.std.specs.Prelude.{Option, Some, None, Result, Ok, Err, All, if◌then◌else◌}
 use Rattle.nm_edge.specs.Layouts.{Layout, IsLayout}
 use Rattle.nm_model.specs.declared.arrivals.Call.{Call}
@@ -48,8 +66,11 @@ for_key : (k l : ℕ) (c : Option Call) → for_call k (with_pin l c) ≡ is_for
 for_key k l None = refl
 for_key k l (Some c) = refl
 
-module _ (L : Layout) (fits : IsLayout L) (op : Op) (is_such : Entry → Bool) (table : (e : Event) (o : Result Reply Refused) → wins op e o ≡ is_so is_such e o) (k : ℕ) where
-  as_often : (early late : List (ℕ × Event)) → All (λ t. HasKey t.1) (early ++ late) → how_often op k (trace_in (ordered L) early) (trace_in (after_in (ordered L) early) late) ≡ law_often is_such k (after_in (ordered L) early) late
+module _ (L : Layout) (fits : IsLayout L) (op : Op) (is_such : Entry → Bool)
+    (table : (e : Event) (o : Result Reply Refused) → wins op e o ≡ is_so is_such e o) (k : ℕ) where
+  as_often : (early late : List (ℕ × Event)) → All (λ t. HasKey t.1) (early ++ late)
+      → how_often op k (trace_in (ordered L) early) (trace_in (after_in (ordered L) early) late)
+      ≡ law_often is_such k (after_in (ordered L) early) late
   unfolding trace_in law_often after_in
   as_often early [] keys = refl
   as_often early (t ∷ late) keys = with_more (more (as_often (early ++ t ∷ []) late))
@@ -70,17 +91,25 @@ module _ (L : Layout) (fits : IsLayout L) (op : Op) (is_such : Entry → Bool) (
       trace : trace_in (ordered L) (early ++ t ∷ []) ≡ trace_in (ordered L) early ++ turn ∷ []
       trace = trace_in-append (ordered L) early (t ∷ [])
 
-      with_more : how_often op k (trace_in (ordered L) early ++ turn ∷ []) (trace_in (next_in c t) late) ≡ law_often is_such k (next_in c t) late
-          → how_often op k (trace_in (ordered L) early) (turn ∷ trace_in (next_in c t) late) ≡ law_often is_such k c (t ∷ late)
+      with_more : how_often op k (trace_in (ordered L) early ++ turn ∷ []) (trace_in (next_in c t) late)
+          ≡ law_often is_such k (next_in c t) late
+          → how_often op k (trace_in (ordered L) early) (turn ∷ trace_in (next_in c t) late)
+          ≡ law_often is_such k c (t ∷ late)
       with_more rest = (λ i. rest i + (if table t.1 (outcome_in c t) i && told i then 1 else 0)) ∙ omega arith
 
-      more : (All (λ u. HasKey u.1) ((early ++ t ∷ []) ++ late) → how_often op k (trace_in (ordered L) (early ++ t ∷ [])) (trace_in (after_in (ordered L) (early ++ t ∷ [])) late) ≡ law_often is_such k (after_in (ordered L) (early ++ t ∷ [])) late)
-          → how_often op k (trace_in (ordered L) early ++ turn ∷ []) (trace_in (next_in c t) late) ≡ law_often is_such k (next_in c t) late
+      more : (All (λ u. HasKey u.1) ((early ++ t ∷ []) ++ late)
+          → how_often op k (trace_in (ordered L) (early ++ t ∷ []))
+          (trace_in (after_in (ordered L) (early ++ t ∷ [])) late)
+          ≡ law_often is_such k (after_in (ordered L) (early ++ t ∷ [])) late)
+          → how_often op k (trace_in (ordered L) early ++ turn ∷ []) (trace_in (next_in c t) late)
+          ≡ law_often is_such k (next_in c t) late
       more rest = (λ i. how_often op k (sym trace i) (trace_in (sym after i) late))
-          ∙ (rest (subst (λ (us : List (ℕ × Event)). All (λ u. HasKey u.1) us) (sym (append_assoc early (t ∷ []) late)) keys)
+          ∙ (rest (subst (λ (us : List (ℕ × Event)). All (λ u. HasKey u.1) us)
+          (sym (append_assoc early (t ∷ []) late)) keys)
           ∙ ap (λ (d : Configuration). law_often is_such k d late) after)
 
-module _ (L : Layout) (fits : IsLayout L) (events : List (ℕ × Event)) (keys : All (λ t. HasKey t.1) events) (k : ℕ) where
+module _ (L : Layout) (fits : IsLayout L) (events : List (ℕ × Event)) (keys : All (λ t. HasKey t.1) events)
+    (k : ℕ) where
   pub links_are : how_often Insert k [] (trace_in (ordered L) events) ≡ links_of k L events
   unfolding trace_in after_in
   links_are = as_often L fits Insert is_won_link wins_links k [] events keys

@@ -13,10 +13,25 @@ none_pends (suc zero) less = refl
 none_pends (suc (suc w)) less = absurd (omega (arith, less))
 
 pub pends_on_worked_turns : PendsOnWorkedTurns
-pends_on_worked_turns = record { pending = record { pin = 22; call = refl; flagged = refl }; none = none_pends; links = refl; flags = refl }
+pends_on_worked_turns = record {
+  pending = record { pin = 22; call = refl; flagged = refl };
+  none = none_pends;
+  links = refl;
+  flags = refl;
+}
 
 there : InSet (words_after layout before) 10
-there = record { slot = 7; reached = record { path = Left ∷ Left ∷ Left ∷ []; ends = refl; is_slot = λ e. absurd (omega (arith, e)) }; leaf = refl; has_key = refl }
+there = record {
+  slot = 7;
+  reached = record {
+    path = Left ∷ Left ∷ Left
+        ∷ [];
+    ends = refl;
+    is_slot = λ e. absurd (omega (arith, e));
+  };
+  leaf = refl;
+  has_key = refl;
+}
 
 pub totals_want_that_none_pends : TotalsWantThatNonePends
 totals_want_that_none_pends (inl more) = let e : 1 ≡ 1 + 1 = more.0 in omega (arith, e)

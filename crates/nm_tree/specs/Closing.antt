@@ -1,5 +1,40 @@
 -- The close of a tree: what the report says, and what follows from it.
-use Rattle.std.specs.Prelude.{◌≡◌, ◌<◌, ◌≤◌, ◌↔◌, ◌+◌, ◌-◌, ◌==◌, ◌&&◌, ℕ, suc, true, false, length, filter, sum_by, List, [], ◌∷◌, ◌++◌, map, Bool, Option, None, Some, option_map, unwrap_or, Ok, All, AllPairs, Contains, slice_get, flat_map, IsPermutation, if◌then◌else◌}
+use Rattle.std.specs.Prelude.{
+  ◌≡◌,
+  ◌<◌,
+  ◌≤◌,
+  ◌↔◌,
+  ◌+◌,
+  ◌-◌,
+  ◌==◌,
+  ◌&&◌,
+  ℕ,
+  suc,
+  true,
+  false,
+  length,
+  filter,
+  sum_by,
+  List,
+  [],
+  ◌∷◌,
+  ◌++◌,
+  map,
+  Bool,
+  Option,
+  None,
+  Some,
+  option_map,
+  unwrap_or,
+  Ok,
+  All,
+  AllPairs,
+  Contains,
+  slice_get,
+  flat_map,
+  IsPermutation,
+  if◌then◌else◌,
+}
 use Rattle.std.specs.List.{range_with_len}
 use Rattle.nm_edge.specs.Keys.{IsKey}
 use Rattle.nm_edge.specs.Layouts.{Layout}
@@ -70,7 +105,8 @@ pub record IsOfTurns (L : Layout) (turns : List Turn) (queues : List HeldQueue) 
   pub workers : AreOfWorkers L turns
   pub headline : Headline L turns
   pub plain_set : HasHistory L turns
-  pub waiting : (w : ℕ) (h : HeldQueue) → slice_get queues w ≡ Some h → map (λ (e : Entry). e.node) h.queue.items ≡ waits_of w turns
+  pub waiting : (w : ℕ) (h : HeldQueue) → slice_get queues w ≡ Some h
+      → map (λ (e : Entry). e.node) h.queue.items ≡ waits_of w turns
   pub set : (k : ℕ) → Contains kept k ↔ InSet (words_after L turns) k × (k < infinity_0)
   pub no_hands : (w x : ℕ) → has_after (opening L) w x false turns ≡ false
 

@@ -45,7 +45,8 @@ GiveBack epoch v _ _ freed values = ⊥
 -- are those of the queues, queue by queue (`handed`). Each value is the one that its leaf had right
 -- before the leaf was cut off. Each worker that was pinned at the cut of a freed node has unpinned
 -- since (`grace`). If there was room for one more value, no ripe node is left at a front (`all`)
-pub record LeavesCollectValues (nodes : ℕ) (room : Bool) (w z : WorkerView) (values : List ℕ) (c : HandedOut) : Type 0 where
+pub record LeavesCollectValues (nodes : ℕ) (room : Bool) (w z : WorkerView) (values : List ℕ) (c : HandedOut) : Type
+    0 where
   pub same : IsSamePass w.pass z.pass
   pub past : HasSeenAllOf z.pass w.pass
   pub freed : List Entry

@@ -8,4 +8,5 @@ returns-clause-answered c =
     let h = c.args.options.now in
     let w = c.args.member.now.worker in
     let z = c.contains.new.self.worker in
-    managed_answered b h c.args.key w z c.requires.some Has c.contains.result (was_managed Has b h c.args.key w z c.contains.result c.requires.free c.contains.ensures.says)
+    managed_answered b h c.args.key w z c.requires.some Has c.contains.result
+    (was_managed Has b h c.args.key w z c.contains.result c.requires.free c.contains.ensures.says)

@@ -6,6 +6,7 @@ use Rattle.nm_callers.proofs.alone.insert_alone.Goals as goal
 
 pub returns : goal.returns
 returns c runs busy =
-    let less = subst (λ (r : Result Bool CallFault). IfErr r (FailsAlone 1 1 c.args.tries c.insert.new.worker)) busy (c.insert.ensures.leaves.alone runs) in
+    let less = subst (λ (r : Result Bool CallFault). IfErr r (FailsAlone 1 1 c.args.tries c.insert.new.worker)) busy
+    (c.insert.ensures.leaves.alone runs) in
     let some = c.requires.some in
     omega (arith, less, some)

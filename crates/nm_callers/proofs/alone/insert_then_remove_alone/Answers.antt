@@ -12,5 +12,7 @@ returns-clause-answered c =
     let x = c.insert-inserted.new.self.worker in
     let z = c.remove-removed.new.self.worker in
     let r = c.remove-removed.result in
-    both_managed b h c.args.key c.args.member.now.worker x z (of_insert c.insert-inserted.result) r c.requires.some c.requires.free c.requires.none c.insert-inserted.ensures.says
-    (subst (λ (d : TreeView). SaysManaged Delete d h c.args.key x z r) c.insert-inserted.ensures.tree c.remove-removed.ensures.says)
+    both_managed b h c.args.key c.args.member.now.worker x z (of_insert c.insert-inserted.result) r c.requires.some
+    c.requires.free c.requires.none c.insert-inserted.ensures.says
+    (subst (λ (d : TreeView). SaysManaged Delete d h c.args.key x z r) c.insert-inserted.ensures.tree
+    c.remove-removed.ensures.says)

@@ -6,6 +6,7 @@ use Rattle.nm_callers.proofs.alone.look_alone.Goals as goal
 
 pub returns : goal.returns
 returns c alone busy =
-    let less = subst (λ (r : Result Bool CallFault). IfErr r (FailsAlone 1 1 c.args.tries c.has.new.worker)) busy (c.has.ensures.leaves.alone alone) in
+    let less = subst (λ (r : Result Bool CallFault). IfErr r (FailsAlone 1 1 c.args.tries c.has.new.worker)) busy
+    (c.has.ensures.leaves.alone alone) in
     let some = c.requires.some in
     omega (arith, less, some)

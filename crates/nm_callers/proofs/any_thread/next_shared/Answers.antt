@@ -10,5 +10,6 @@ returns-clause-found c =
     let h = c.args.options.now in
     let z = c.look_on_shared-caller.result.0 in
     found_next b h c.args.caller z c.args.least c.in-Some.found
-    (subst (λ (o : Option (Option ℕ)). IfSome o (λ (x : Option ℕ). SaysSharedNext b h c.args.least c.args.caller z (Ok x)))
+    (subst (λ (o : Option (Option ℕ)). IfSome o (λ (x : Option ℕ). SaysSharedNext b h c.args.least c.args.caller z
+    (Ok x)))
     c.in-Some.is c.look_on_shared-caller.ensures.says)

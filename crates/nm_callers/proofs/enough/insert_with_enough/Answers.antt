@@ -8,4 +8,6 @@ pub returns-clause-answered : goal.returns-clause-answered
 returns-clause-answered c = λ runs free room.
     let w = c.args.member.now.worker in
     let z = c.insert-inserted.new.self.worker in
-    answers_with_enough false c.args.member.now.tree c.args.options.now Insert c.args.key w z c.requires.some runs (found_one w.pass z.pass c.know_run.ensures.seen c.know_run.ensures.fits free) room (of_insert c.insert-inserted.result) c.requires.free c.insert-inserted.ensures.says
+    answers_with_enough false c.args.member.now.tree c.args.options.now Insert c.args.key w z c.requires.some runs
+    (found_one w.pass z.pass c.know_run.ensures.seen c.know_run.ensures.fits free) room
+    (of_insert c.insert-inserted.result) c.requires.free c.insert-inserted.ensures.says

@@ -11,7 +11,9 @@ returns-in-Ok-close c =
     let worker : WorkerView = c.args.filler.worker in
     let is = c.in-Ok.ensures.kept in
     let tree : s.tree ≡ c.args.set.tree = ap (λ (x : SetView). x.tree) is in
-    let kept : s.kept ≡ worker ∷ [] = ap (λ (x : SetView). x.kept) is ∙ ap (λ (ws : List WorkerView). ws ++ worker ∷ []) c.requires.new in
+    let kept : s.kept ≡ worker ∷ [] = ap (λ (x : SetView). x.kept) is
+    ∙ ap (λ (ws : List WorkerView). ws ++ worker ∷ []) c.requires.new in
     let one = subst (λ (b : TreeView). b.layout.workers ≡ 1) (sym tree) c.requires.one in
     let own = subst (λ (b : TreeView). IsOwn b worker) (c.requires.own ∙ sym tree) c.know_run.ensures.own in
-    filled_report s worker c.args.keys.now c.in-Ok-close.report kept one own c.know_run.ensures.seen.worker c.requires.holds c.in-Ok-close.ensures.says
+    filled_report s worker c.args.keys.now c.in-Ok-close.report kept one own c.know_run.ensures.seen.worker
+    c.requires.holds c.in-Ok-close.ensures.says

@@ -12,4 +12,5 @@ returns-clause-missed c none =
     let z = c.contains.new.self.worker in
     let nothing = ap (λ (v : View). v.past) c.requires.new.1.new.1 in
     if_answered c.contains.result c.ok.result (λ answer. answer ≡ false) c.ok.ensures.value
-    (looks_first m.tree c.args.options.now c.args.key m.worker z c.contains.result c.contains.ensures.says (subst (λ (ts : List Turn). NoneInserted z.pass.view.layout ts z.pass.view.past c.args.key) nothing none))
+    (looks_first m.tree c.args.options.now c.args.key m.worker z c.contains.result c.contains.ensures.says
+    (subst (λ (ts : List Turn). NoneInserted z.pass.view.layout ts z.pass.view.past c.args.key) nothing none))

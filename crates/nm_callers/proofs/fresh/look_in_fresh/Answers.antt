@@ -12,5 +12,6 @@ look_only-requires c =
     let first = c.in-Ok-member.ensures.first (search rules) in
     record {
       new = new_itself b f m (0, first);
-      one = ap (λ (d : TreeView). d.layout.workers) first.tree ∙ ap (λ (l : Layout). l.workers) c.in-Ok.ensures.open.layout;
+      one = ap (λ (d : TreeView). d.layout.workers) first.tree
+          ∙ ap (λ (l : Layout). l.workers) c.in-Ok.ensures.open.layout;
     }

@@ -12,4 +12,5 @@ pub returns-in-Err-Full-clause-blamed : goal.returns-in-Err-Full-clause-blamed
 returns-in-Err-Full-clause-blamed c =
     let f = c.in-Err-Full.full in
     let is : c.in-Err-Full.field-0 ≡ inserting.Full f = search rules in
-    blames c.args.member.now.worker c.insert.new.self.worker f (c.in-Err-Full.ensures.full f (told_so c.in-Err-Full.field-0 (inserting.Full f) is))
+    blames c.args.member.now.worker c.insert.new.self.worker f
+    (c.in-Err-Full.ensures.full f (told_so c.in-Err-Full.field-0 (inserting.Full f) is))

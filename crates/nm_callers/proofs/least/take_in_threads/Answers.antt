@@ -24,9 +24,13 @@ returns-clause-apart g c start early soon none =
     let number = ap (λ (p : PassView). p.view.number) did.one in
     let number' = ap (λ (p : PassView). p.view.number) did.two in
     let other : x.view.number ≢ z.view.number = λ same. c.requires.others (sym number ∙ (same ∙ number')) in
-    taken_apart c.args.tree.now.layout start w x y z last.view.past c.in_ok-first.field-0 c.in_ok-second.field-0 other (ap (λ (p : PassView). p.view.layout) did.one ∙ c.requires.one.own.layout) (ap (λ (p : PassView). p.view.layout) did.two ∙ c.requires.two.own.layout)
-    took takes early soon (goes_on_through last.view.past mid.view.past x.view.past c.tell_worker-2.ensures.past.goes_on c.tell_worker.ensures.heard.goes_on) c.tell_worker-2.ensures.heard.goes_on
-    (subst (λ (l : Layout). HasHistory l last.view.past) c.tell_worker-2.ensures.own.layout c.know_run.ensures.turns.plain_set) none
+    taken_apart c.args.tree.now.layout start w x y z last.view.past c.in_ok-first.field-0 c.in_ok-second.field-0
+    other (ap (λ (p : PassView). p.view.layout) did.one ∙ c.requires.one.own.layout)
+    (ap (λ (p : PassView). p.view.layout) did.two ∙ c.requires.two.own.layout)
+    took takes early soon (goes_on_through last.view.past mid.view.past x.view.past
+    c.tell_worker-2.ensures.past.goes_on c.tell_worker.ensures.heard.goes_on) c.tell_worker-2.ensures.heard.goes_on
+    (subst (λ (l : Layout). HasHistory l last.view.past) c.tell_worker-2.ensures.own.layout
+    c.know_run.ensures.turns.plain_set) none
 
 pub returns-clause-passed : goal.returns-clause-passed
 returns-clause-passed g c start early soon k is stands =
@@ -42,7 +46,12 @@ returns-clause-passed g c start early soon k is stands =
     let L = c.args.tree.now.layout in
     let layout : x.view.layout ≡ L = ap (λ (p : PassView). p.view.layout) did.one ∙ c.requires.one.own.layout in
     let layout' : z.view.layout ≡ L = ap (λ (p : PassView). p.view.layout) did.two ∙ c.requires.two.own.layout in (
-      passes_none start w x last.view.past c.in_ok-first.field-0 k (no_shorter w.view.past start.view.past early.goes_on) (goes_on_through last.view.past mid.view.past x.view.past c.tell_worker-2.ensures.past.goes_on c.tell_worker.ensures.heard.goes_on) took is
+      passes_none start w x last.view.past c.in_ok-first.field-0 k
+          (no_shorter w.view.past start.view.past early.goes_on)
+          (goes_on_through last.view.past mid.view.past x.view.past c.tell_worker-2.ensures.past.goes_on
+          c.tell_worker.ensures.heard.goes_on) took is
           (subst (λ (l : Layout). StandsThroughout l start.view.past last.view.past k) (sym layout) stands),
-      passes_none start y z last.view.past c.in_ok-second.field-0 k (no_shorter y.view.past start.view.past soon.goes_on) c.tell_worker-2.ensures.heard.goes_on takes is (subst (λ (l : Layout). StandsThroughout l start.view.past last.view.past k) (sym layout') stands),
+      passes_none start y z last.view.past c.in_ok-second.field-0 k
+          (no_shorter y.view.past start.view.past soon.goes_on) c.tell_worker-2.ensures.heard.goes_on takes is
+          (subst (λ (l : Layout). StandsThroughout l start.view.past last.view.past k) (sym layout') stands),
     )

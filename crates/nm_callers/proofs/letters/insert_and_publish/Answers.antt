@@ -14,6 +14,9 @@ returns-in-Ok-true-clause-written c =
     let k = c.args.key in
     let w = c.args.member.worker in
     let z = c.insert-told.new.self.worker in
-    let did = subst (λ (answer : Bool). SaysManaged Insert b h k w z (Ok answer)) c.in-Ok-true.field-0-test c.in-Ok-true.ensures.says in
-    subst (λ (m : MemberView). IfSome c.publish-stamp.result (HasWritten k w m.worker)) (sym c.publish-stamp.ensures.same)
-    (has_written b h k w z c.publish-stamp.result did c.know_run.ensures.seen c.know_run.ensures.between c.publish-stamp.ensures.tally)
+    let did = subst (λ (answer : Bool). SaysManaged Insert b h k w z (Ok answer)) c.in-Ok-true.field-0-test
+    c.in-Ok-true.ensures.says in
+    subst (λ (m : MemberView). IfSome c.publish-stamp.result (HasWritten k w m.worker))
+    (sym c.publish-stamp.ensures.same)
+    (has_written b h k w z c.publish-stamp.result did c.know_run.ensures.seen c.know_run.ensures.between
+    c.publish-stamp.ensures.tally)

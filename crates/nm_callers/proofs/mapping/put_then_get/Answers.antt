@@ -11,7 +11,8 @@ returns-clause-answers c =
     let w = c.args.member.now.worker in
     let x = c.insert.new.self.worker in
     let z = c.get-found.new.self.worker in
-    puts_then_gets c.args.member.now.tree c.insert.new.self.tree c.args.options.now c.args.key c.args.value w x z c.get-found.result c.ok.result c.ok.ensures.value
+    puts_then_gets c.args.member.now.tree c.insert.new.self.tree c.args.options.now c.args.key c.args.value w x z
+    c.get-found.result c.ok.result c.ok.ensures.value
     (c.in-Ok-true.ensures.puts (ap Ok c.in-Ok-true.field-0-test)) c.get-found.ensures.says
 
 pub returns-clause-found : goal.returns-clause-found
@@ -20,6 +21,10 @@ returns-clause-found c none unreplaced =
     let w = c.args.member.now.worker in
     let x = c.insert.new.self.worker in
     let z = c.get-found.new.self.worker in
-    let says = subst (λ (a : Bool). SaysChange Insert b c.args.options.now c.args.key w x (Ok a)) c.in-Ok-true.field-0-test c.in-Ok-true.ensures.says in
-    finds b c.insert.new.self.tree c.args.options.now c.args.key c.args.value w x z c.get-found.result c.ok.result c.ok.ensures.value
-    (subst IsKey c.get-number.ensures.number c.get-number.ensures.fits) c.know_run.ensures.seen c.know_run.ensures.fits c.know_run.ensures.turns.plain_set says (c.in-Ok-true.ensures.puts (ap Ok c.in-Ok-true.field-0-test)) none unreplaced c.get-found.ensures.says
+    let says = subst (λ (a : Bool). SaysChange Insert b c.args.options.now c.args.key w x (Ok a))
+    c.in-Ok-true.field-0-test c.in-Ok-true.ensures.says in
+    finds b c.insert.new.self.tree c.args.options.now c.args.key c.args.value w x z c.get-found.result c.ok.result
+    c.ok.ensures.value
+    (subst IsKey c.get-number.ensures.number c.get-number.ensures.fits) c.know_run.ensures.seen
+    c.know_run.ensures.fits c.know_run.ensures.turns.plain_set says
+    (c.in-Ok-true.ensures.puts (ap Ok c.in-Ok-true.field-0-test)) none unreplaced c.get-found.ensures.says

@@ -24,10 +24,15 @@ returns-clause-found c none unreplaced =
     let layout : p.view.layout ≡ q.view.layout = search rules in
     let on = seen_through p m q c.tell_worker.ensures.heard e.past in
     let put = c.in-Ok-true.ensures.puts c.requires.values (ap Ok c.in-Ok-true.field-0-test) in
-    let moment = subst (λ b. AnswerHasMoment o p Insert c.args.key b) c.in-Ok-true.field-0-test c.in-Ok-true.ensures.says.moment in
-    of_found c.get-found.result c.ok.result (MapGave m q c.args.key) (λ found. found ≡ Some c.args.value) c.ok.ensures.value
+    let moment = subst (λ b. AnswerHasMoment o p Insert c.args.key b) c.in-Ok-true.field-0-test
+    c.in-Ok-true.ensures.says.moment in
+    of_found c.get-found.result c.ok.result (MapGave m q c.args.key) (λ found. found ≡ Some c.args.value)
+    c.ok.ensures.value
     (λ found later. let gave = gave_earlier p m q c.tell_worker.ensures.heard c.args.key found later in
-    is_kept_told o p q c.args.key c.args.value c.know_run.ensures.seen c.know_run-2.ensures.seen c.know_run-2.ensures.fits history layout on (stores_through p.view.stores m.view.stores q.view.stores c.tell_worker.ensures.heard_stores e.stores) put none unreplaced found (is_found o p q c.args.key is_key history layout on moment none found gave) gave)
+    is_kept_told o p q c.args.key c.args.value c.know_run.ensures.seen c.know_run-2.ensures.seen
+    c.know_run-2.ensures.fits history layout on (stores_through p.view.stores m.view.stores q.view.stores
+    c.tell_worker.ensures.heard_stores e.stores) put none unreplaced found
+    (is_found o p q c.args.key is_key history layout on moment none found gave) gave)
     e.moment
 
 pub returns-clause-one_map : goal.returns-clause-one_map
@@ -38,8 +43,16 @@ returns-clause-one_map c =
     let q = c.get-found.new.worker.pass in
     let e = c.get-found.ensures in
     let layout : p.view.layout ≡ q.view.layout = search rules in
-    subst (λ (w : WorkerView). IfSome c.ok.result (λ found. IfSome found (AreOfOneMap q.view.layout o.view.past q.view.past w.pass.view.number c.args.key c.args.value))) (sym c.tell_worker.ensures.from)
-    (of_found c.get-found.result c.ok.result (MapGave m q c.args.key) (λ found. IfSome found (AreOfOneMap q.view.layout o.view.past q.view.past p.view.number c.args.key c.args.value)) c.ok.ensures.value
-    (λ found later. told_of_one_map o p q c.args.key c.args.value (subst IsKey c.get-number.ensures.number c.get-number.ensures.fits) c.know_run.ensures.seen c.know_run-2.ensures.seen c.know_run-2.ensures.fits layout (seen_through p m q c.tell_worker.ensures.heard e.past)
-    (stores_through p.view.stores m.view.stores q.view.stores c.tell_worker.ensures.heard_stores e.stores) (c.in-Ok-true.ensures.puts c.requires.values (ap Ok c.in-Ok-true.field-0-test)) found (gave_earlier p m q c.tell_worker.ensures.heard c.args.key found later))
+    subst (λ (w : WorkerView). IfSome c.ok.result (λ found. IfSome found
+    (AreOfOneMap q.view.layout o.view.past q.view.past w.pass.view.number c.args.key c.args.value)))
+    (sym c.tell_worker.ensures.from)
+    (of_found c.get-found.result c.ok.result (MapGave m q c.args.key)
+    (λ found. IfSome found (AreOfOneMap q.view.layout o.view.past q.view.past p.view.number c.args.key
+    c.args.value)) c.ok.ensures.value
+    (λ found later. told_of_one_map o p q c.args.key c.args.value
+    (subst IsKey c.get-number.ensures.number c.get-number.ensures.fits) c.know_run.ensures.seen
+    c.know_run-2.ensures.seen c.know_run-2.ensures.fits layout (seen_through p m q c.tell_worker.ensures.heard e.past)
+    (stores_through p.view.stores m.view.stores q.view.stores c.tell_worker.ensures.heard_stores e.stores)
+    (c.in-Ok-true.ensures.puts c.requires.values (ap Ok c.in-Ok-true.field-0-test)) found
+    (gave_earlier p m q c.tell_worker.ensures.heard c.args.key found later))
     e.moment)

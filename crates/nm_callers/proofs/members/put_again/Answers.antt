@@ -12,5 +12,7 @@ returns-in-Ok-true-clause-again c =
     let k = c.args.key in
     let w = c.args.member.now.worker in
     let y = c.insert.new.self.worker in
-    let added = subst (λ (answer : Bool). SaysManaged Insert b h k w y (Ok answer)) c.in-Ok-true.field-0-test c.in-Ok-true.ensures.says in
-    puts_again k w y c.put_back.new.member.worker c.put_back.result (moment_of Insert b h k w y (Ok true) added) c.put_back.ensures.back
+    let added = subst (λ (answer : Bool). SaysManaged Insert b h k w y (Ok answer)) c.in-Ok-true.field-0-test
+    c.in-Ok-true.ensures.says in
+    puts_again k w y c.put_back.new.member.worker c.put_back.result (moment_of Insert b h k w y (Ok true) added)
+    c.put_back.ensures.back

@@ -12,5 +12,7 @@ returns-in-Ok-true-clause-back c =
     let k = c.args.key in
     let w = c.args.member.now.worker in
     let x = c.remove.new.self.worker in
-    let removed = subst (λ (answer : Bool). SaysManaged Delete b h k w x (Ok answer)) c.in-Ok-true.field-0-test c.in-Ok-true.ensures.says in
-    puts_back k w x c.add_then_find.new.member.worker c.add_then_find.result (moment_of Delete b h k w x (Ok true) removed) c.add_then_find.ensures.found
+    let removed = subst (λ (answer : Bool). SaysManaged Delete b h k w x (Ok answer)) c.in-Ok-true.field-0-test
+    c.in-Ok-true.ensures.says in
+    puts_back k w x c.add_then_find.new.member.worker c.add_then_find.result
+    (moment_of Delete b h k w x (Ok true) removed) c.add_then_find.ensures.found

@@ -20,10 +20,16 @@ returns c =
     let x = first.worker in
     let y = c.hear.new.self.worker in
     let z = c.remove-taken.new.self.worker in
-    let took = subst (λ (answer : Bool). SaysManaged Delete b h k w x (Ok answer)) c.in-Ok-true.field-0-test c.in-Ok-true.ensures.says in
-    let told : HasSeenAllOf y.pass x.pass = record { goes_on = subst (Extends y.pass.view.past) (ap (λ n. n.past) c.note-note.ensures.note) c.hear.ensures.heard } in
-    let own : IsOwn first.tree x = subst (λ (m : MemberView). IsOwn m.tree m.worker) c.note-note.ensures.same c.know_run.ensures.own in
-    let tree = c.remove.ensures.tree ∙ (c.requires.same ∙ (sym c.hear.ensures.tree ∙ sym c.remove-taken.ensures.tree)) in
+    let took = subst (λ (answer : Bool). SaysManaged Delete b h k w x (Ok answer)) c.in-Ok-true.field-0-test
+    c.in-Ok-true.ensures.says in
+    let told : HasSeenAllOf y.pass x.pass = record {
+      goes_on = subst (Extends y.pass.view.past)
+          (ap (λ n. n.past) c.note-note.ensures.note) c.hear.ensures.heard;
+    } in
+    let own : IsOwn first.tree x = subst (λ (m : MemberView). IsOwn m.tree m.worker) c.note-note.ensures.same
+    c.know_run.ensures.own in
+    let tree = c.remove.ensures.tree ∙ (c.requires.same
+    ∙ (sym c.hear.ensures.tree ∙ sym c.remove-taken.ensures.tree)) in
     let layout = own.own.layout ∙ (ap (λ (e : TreeView). e.layout) tree ∙ sym c.know_run-2.ensures.own.own.layout) in
     record {
       once = λ none. if_answered c.remove-taken.result c.ok.result (λ answer. answer ≡ false) c.ok.ensures.value

@@ -36,10 +36,13 @@ returns-clause-told c =
     let s4 = c.in-Ok-contains-2.ensures.says in
     let links : won_links y0.pass.view.log ≡ 0 = ap (λ (v : View). won_links v.log) c.requires.new.new.1 in
     let flags : won_flags y0.pass.view.log ≡ 0 = ap (λ (v : View). won_flags v.log) c.requires.new.new.1 in
-    let number : y4.pass.view.number ≡ n = same_number Has b4 h k y3 y4 a4 s4 ∙ (same_number Delete b3 h k y2 y3 a3 s3 ∙ (same_number Has b2 h k y1 y2 a2 s2
+    let number : y4.pass.view.number ≡ n = same_number Has b4 h k y3 y4 a4 s4
+    ∙ (same_number Delete b3 h k y2 y3 a3 s3 ∙ (same_number Has b2 h k y1 y2 a2 s2
     ∙ (same_number Insert b1 h k y0 y1 a1 s1 ∙ ap (λ (v : View). v.number) c.requires.new.new.1))) in
-    let tree = c.contains-2.ensures.tree ∙ (c.remove.ensures.tree ∙ (c.contains.ensures.tree ∙ c.insert.ensures.tree)) in
-    let workers : y4.pass.view.layout.workers ≡ n + 1 = ap (λ (l : Layout). l.workers) c.know_run-4.ensures.own.own.layout ∙ (ap (λ (d : TreeView). d.layout.workers) tree ∙ c.requires.all) in
+    let tree = c.contains-2.ensures.tree ∙ (c.remove.ensures.tree
+    ∙ (c.contains.ensures.tree ∙ c.insert.ensures.tree)) in
+    let workers : y4.pass.view.layout.workers ≡ n + 1 = ap (λ (l : Layout). l.workers)
+    c.know_run-4.ensures.own.own.layout ∙ (ap (λ (d : TreeView). d.layout.workers) tree ∙ c.requires.all) in
     let rest : OthersRest y4.pass = rests_below y4.pass n number workers c.send_home.ensures.rested in
     let seen1 = c.know_run.ensures.seen in
     let seen2 = c.know_run-2.ensures.seen in
@@ -48,6 +51,7 @@ returns-clause-told c =
     let fits = c.know_run-4.ensures.fits in (
       is_added h k key b1 b2 b3 b4 y0 y1 y2 y3 y4 a1 a2 a3 a4 s1 s2 s3 s4 links flags seen1 seen2 seen3 seen4 fits rest,
       is_there h k key b1 b2 b3 b4 y0 y1 y2 y3 y4 a1 a2 a3 a4 s1 s2 s3 s4 links flags seen1 seen2 seen3 seen4 fits rest,
-      is_removed h k key b1 b2 b3 b4 y0 y1 y2 y3 y4 a1 a2 a3 a4 s1 s2 s3 s4 links flags seen1 seen2 seen3 seen4 fits rest,
+      is_removed h k key b1 b2 b3 b4 y0 y1 y2 y3 y4 a1 a2 a3 a4 s1 s2 s3 s4 links flags seen1 seen2 seen3 seen4 fits
+          rest,
       is_gone h k key b1 b2 b3 b4 y0 y1 y2 y3 y4 a1 a2 a3 a4 s1 s2 s3 s4 links flags seen1 seen2 seen3 seen4 fits rest,
     )

@@ -17,7 +17,8 @@ put_and_take_alone-requires c =
     let few = (taken_off b f all rest m is c.in-Ok.ensures.new).0 in
     let size = ap (λ (ms : List MemberView). length ms) is ∙ length-append rest (m ∷ []) in
     let count = c.in-Ok.ensures.count in
-    let workers : m.tree.layout.workers ≡ c.args.workers = ap (λ (d : TreeView). d.layout.workers) last.tree ∙ ap (λ (l : Layout). l.workers) c.in-Ok.ensures.open.layout in
+    let workers : m.tree.layout.workers ≡ c.args.workers = ap (λ (d : TreeView). d.layout.workers) last.tree
+    ∙ ap (λ (l : Layout). l.workers) c.in-Ok.ensures.open.layout in
     record {
       new = of_tree b f (length rest) m last;
       rest = (f, others_of b f 0 rest m last.tree few);

@@ -13,11 +13,15 @@ returns-in-Ok-clause-found c k key stands within =
     let w = c.args.worker.now.pass in
     let z = c.scan.new.worker.pass in
     let s = c.in-Ok.scanned in
-    told_in Right (WasSo w z) (bound Right c.args.from) (end_of Right c.args.below s.next) (take s.count c.scan.new.out) c.in-Ok.ensures.moment k key within (stands_so w w z z.view.past (omega arith) (goes_on_itself z.view.past) k stands)
+    told_in Right (WasSo w z) (bound Right c.args.from) (end_of Right c.args.below s.next)
+    (take s.count c.scan.new.out) c.in-Ok.ensures.moment k key within
+    (stands_so w w z z.view.past (omega arith) (goes_on_itself z.view.past) k stands)
 
 pub returns-in-Ok-clause-missed : goal.returns-in-Ok-clause-missed
 returns-in-Ok-clause-missed c k absent has =
     let w = c.args.worker.now.pass in
     let z = c.scan.new.worker.pass in
     let s = c.in-Ok.scanned in
-    absent_so w w z z.view.past (omega arith) (goes_on_itself z.view.past) k absent (told_was Right (WasSo w z) (bound Right c.args.from) (end_of Right c.args.below s.next) (take s.count c.scan.new.out) c.in-Ok.ensures.moment k has)
+    absent_so w w z z.view.past (omega arith) (goes_on_itself z.view.past) k absent
+    (told_was Right (WasSo w z) (bound Right c.args.from) (end_of Right c.args.below s.next)
+    (take s.count c.scan.new.out) c.in-Ok.ensures.moment k has)

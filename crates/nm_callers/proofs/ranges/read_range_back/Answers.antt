@@ -13,11 +13,15 @@ returns-in-Ok-clause-found c k key stands within =
     let w = c.args.worker.now.pass in
     let z = c.scan_back.new.worker.pass in
     let s = c.in-Ok.scanned in
-    told_in Left (WasSo w z) (bound Left c.args.from) (end_of Left c.args.least s.next) (take s.count c.scan_back.new.out) c.in-Ok.ensures.moment k key within (stands_so w w z z.view.past (omega arith) (goes_on_itself z.view.past) k stands)
+    told_in Left (WasSo w z) (bound Left c.args.from) (end_of Left c.args.least s.next)
+    (take s.count c.scan_back.new.out) c.in-Ok.ensures.moment k key within
+    (stands_so w w z z.view.past (omega arith) (goes_on_itself z.view.past) k stands)
 
 pub returns-in-Ok-clause-missed : goal.returns-in-Ok-clause-missed
 returns-in-Ok-clause-missed c k absent has =
     let w = c.args.worker.now.pass in
     let z = c.scan_back.new.worker.pass in
     let s = c.in-Ok.scanned in
-    absent_so w w z z.view.past (omega arith) (goes_on_itself z.view.past) k absent (told_was Left (WasSo w z) (bound Left c.args.from) (end_of Left c.args.least s.next) (take s.count c.scan_back.new.out) c.in-Ok.ensures.moment k has)
+    absent_so w w z z.view.past (omega arith) (goes_on_itself z.view.past) k absent
+    (told_was Left (WasSo w z) (bound Left c.args.from) (end_of Left c.args.least s.next)
+    (take s.count c.scan_back.new.out) c.in-Ok.ensures.moment k has)

@@ -28,16 +28,24 @@ returns c =
     let first = c.in-Ok.ensures in
     let second = c.in-Ok-scan.ensures in
     let layout = sym (ap (λ (p : PassView). p.view.layout) then.same) in
-    let links : won_links z.view.log ≡ won_links w.view.log = (let a = did.won.links in let b = then.won.links in omega (arith, a, b)) in
+    let links : won_links z.view.log ≡ won_links w.view.log =
+    (let a = did.won.links in let b = then.won.links in omega (arith, a, b)) in
     let splices : won_splices z.view.log ≡ won_splices w.view.log = (
     let a = cuts_none _ _ (call_adds _ _ w.view.log x.view.log first.did.1) in
     let b = cuts_none _ _ (call_adds _ _ x.view.log z.view.log second.did.1) in
     omega (arith, a, b)
     ) in
-    let stays : IsAlone w z → (k : ℕ) → StaysThroughout z.view.layout w.view.past z.view.past k = stays_alone w z c.know_run.ensures.seen c.know_run-2.ensures.seen c.know_run-2.ensures.fits (same_then w x z did.same then.same) links splices in
+    let stays : IsAlone w z → (k : ℕ) → StaysThroughout z.view.layout w.view.past z.view.past k = stays_alone w z
+    c.know_run.ensures.seen c.know_run-2.ensures.seen c.know_run-2.ensures.fits
+    (same_then w x z did.same then.same) links splices in
     record {
       agree = agree w x z from below s.next t.next one two layout did.past then.past first.moment second.moment;
       unchanged = stays;
-      same = λ alone. equal w x z from below s.next t.next one two layout did.past then.past first.moment second.moment (stays alone);
-      whole = λ alone two. (first.whole (alone_before w x z did.same did.past then.past alone) two, second.whole (alone_later w x z did.same did.past then.past alone) two);
+      same = λ alone. equal w x z from below s.next t.next one two layout did.past then.past first.moment
+          second.moment (stays alone);
+      whole = λ alone two. (
+        first.whole (alone_before w x z did.same did.past then.past alone) two,
+        second.whole
+            (alone_later w x z did.same did.past then.past alone) two,
+      );
     }

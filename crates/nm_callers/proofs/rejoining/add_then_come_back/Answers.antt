@@ -23,10 +23,15 @@ returns-clause-found c none =
     let y = c.in-Ok.back.worker in
     let z = c.contains.new.self.worker in
     let there = c.in-Ok-contains.there in
-    let added = subst (λ (answer : Bool). SaysManaged Insert b h k w x (Ok answer)) c.in-Ok-true.field-0-test c.in-Ok-true.ensures.says in
+    let added = subst (λ (answer : Bool). SaysManaged Insert b h k w x (Ok answer)) c.in-Ok-true.field-0-test
+    c.in-Ok-true.ensures.says in
     let looked : SaysManaged Has d h k y z (Ok there) = c.in-Ok-contains.ensures.says in
     let told : HasSeenAllOf y.pass x.pass = came_back x y c.close.result c.close.ensures.did c.in-Ok.ensures.same in
     let seen = seen_through x.pass y.pass z.pass told (seen_behind Has d h k y z (Ok there) looked) in
-    let trees : c.contains.new.self.tree ≡ c.insert.new.self.tree = c.contains.ensures.tree ∙ (c.in-Ok.ensures.tree ∙ c.close.ensures.tree) in
-    let layout = c.know_run.ensures.own.own.layout ∙ (ap (λ (e : TreeView). e.layout) (sym trees) ∙ sym c.know_run-2.ensures.own.own.layout) in
-    told_so NoneDeleted Insert true inserted_then_found k w.pass x.pass z.pass layout seen there (moment_since x.pass y.pass z.pass Has k there told (moment_of Has d h k y z (Ok there) looked)) (moment_of Insert b h k w x (Ok true) added) none
+    let trees : c.contains.new.self.tree ≡ c.insert.new.self.tree = c.contains.ensures.tree
+    ∙ (c.in-Ok.ensures.tree ∙ c.close.ensures.tree) in
+    let layout = c.know_run.ensures.own.own.layout ∙ (ap (λ (e : TreeView). e.layout) (sym trees)
+    ∙ sym c.know_run-2.ensures.own.own.layout) in
+    told_so NoneDeleted Insert true inserted_then_found k w.pass x.pass z.pass layout seen there
+    (moment_since x.pass y.pass z.pass Has k there told (moment_of Has d h k y z (Ok there) looked))
+    (moment_of Insert b h k w x (Ok true) added) none

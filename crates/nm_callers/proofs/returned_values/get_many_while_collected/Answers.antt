@@ -12,7 +12,8 @@ returns-clause-kept c =
     let o = c.take_back-back.new.worker.pass.view in
     let xs = c.get_many_pinned.new.queries in
     let back = take c.take_back-back.result c.take_back-back.new.out in
-    subst (λ (x : WorkerView). All (λ y. y.found ≡ true → HasNotComeBack q.view y.key y.value x.pass.view back) xs) (sym c.tell_worker.ensures.from)
+    subst (λ (x : WorkerView). All (λ y. y.found ≡ true → HasNotComeBack q.view y.key y.value x.pass.view back) xs)
+    (sym c.tell_worker.ensures.from)
     (each_found c.args.reader.now.pass p q o back c.know_run.ensures.turns c.know_run-2.ensures.turns
     c.tell_worker.ensures.to c.tell_worker.ensures.past c.tell_worker.ensures.heard.goes_on
     c.take_back-back.ensures.back xs c.in-Ok.ensures.moment)

@@ -13,11 +13,14 @@ returns-in-Ok-true-clause-added c told =
     let w = c.args.member.now.worker in
     let z = c.try_insert.new.self.worker in
     let did = was_made w z c.in-Ok-true.field-0 c.in-Ok-true.ensures.says.says in
-    let none = capped_none (won_flags w.pass.view.log) (ap (λ (l : List Entry). capped (won_flags l)) (sym (own_log w.pass.view)) ∙ (sym c.stats.ensures.flags ∙ c.if-stats-ne0.false)) in
+    let none = capped_none (won_flags w.pass.view.log)
+    (ap (λ (l : List Entry). capped (won_flags l)) (sym (own_log w.pass.view))
+    ∙ (sym c.stats.ensures.flags ∙ c.if-stats-ne0.false)) in
     let won = did.won.flags in
     record {
       key = search rules;
       start = w.pass;
-      moment = subst (λ (b : Bool). AnswerHasMoment w.pass z.pass Insert c.args.key b) c.in-Ok-true.field-0-test did.moment;
+      moment = subst (λ (b : Bool). AnswerHasMoment w.pass z.pass Insert c.args.key b) c.in-Ok-true.field-0-test
+          did.moment;
       unflagged = omega (arith, none, won);
     }

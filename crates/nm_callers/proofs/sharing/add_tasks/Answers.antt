@@ -24,14 +24,18 @@ loop-task-preserved c =
           let more : c.if-new.added ≡ n + 1 = search (rules, t.added-is) in
           record {
             tree = tree;
-            did = subst (λ (m : ℕ). HasWorked w z m 0) (sym more) (adds_one b h k w x z n c.loop-task.invariant.did (subst (λ (a : Bool). SaysManaged Insert b h k x z (Ok a)) yes c.in-Ok.ensures.says));
+            did = subst (λ (m : ℕ). HasWorked w z m 0) (sym more)
+                (adds_one b h k w x z n c.loop-task.invariant.did
+                (subst (λ (a : Bool). SaysManaged Insert b h k x z (Ok a)) yes c.in-Ok.ensures.says));
             few = omega (arith, few, more);
           }
       | else-new t ↦ let no' : c.in-Ok.new ≡ false = search (rules, t.if-new) in
           let same : c.if-new.added ≡ n = search (rules, t.added-is) in
           record {
             tree = tree;
-            did = subst (λ (m : ℕ). HasWorked w z m 0) (sym same) (adds_none b h k w x z n c.loop-task.invariant.did (subst (λ (a : Bool). SaysManaged Insert b h k x z (Ok a)) no' c.in-Ok.ensures.says));
+            did = subst (λ (m : ℕ). HasWorked w z m 0) (sym same)
+                (adds_none b h k w x z n c.loop-task.invariant.did
+                (subst (λ (a : Bool). SaysManaged Insert b h k x z (Ok a)) no' c.in-Ok.ensures.says));
             few = omega (arith, few, same);
           }
     ]

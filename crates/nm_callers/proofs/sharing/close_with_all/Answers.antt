@@ -16,7 +16,10 @@ returns-in-Ok-close c =
     let two = c.in-Ok-keep.ensures.kept in
     let three = c.in-Ok-keep-2.ensures.kept in
     let of_kept : SetView → List WorkerView = λ t. t.kept in
-    let kept : s.kept ≡ x ∷ y ∷ z ∷ [] = ap of_kept three ∙ ap (λ (ws : List WorkerView). ws ++ z ∷ []) (ap of_kept two ∙ ap (λ (ws : List WorkerView). ws ++ y ∷ []) (ap of_kept one ∙ ap (λ (ws : List WorkerView). ws ++ x ∷ []) c.requires.new)) in
+    let kept : s.kept ≡ x ∷ y ∷ z ∷ [] = ap of_kept three
+    ∙ ap (λ (ws : List WorkerView). ws ++ z ∷ [])
+    (ap of_kept two ∙ ap (λ (ws : List WorkerView). ws ++ y ∷ [])
+    (ap of_kept one ∙ ap (λ (ws : List WorkerView). ws ++ x ∷ []) c.requires.new)) in
     let of_tree : SetView → TreeView = λ t. t.tree in
     let tree : s.tree ≡ c.args.set.tree = ap of_tree three ∙ (ap of_tree two ∙ ap of_tree one) in
     let workers : 3 ≡ s.tree.layout.workers = sym (ap (λ (b : TreeView). b.layout.workers) tree ∙ c.requires.three) in

@@ -15,7 +15,10 @@ returns c =
     let left : List ℕ = c.in_ok-report.report.keys.items in
     let one = new_won b f 0 c.in_ok-one.one x c.in_ok-first.first 0 new.0 c.in_ok-first.ensures.did in
     let two = new_won b f 1 c.in_ok-one.two y c.in_ok-second.second 0 new.1 c.in_ok-second.ensures.did in
-    let three = new_won b f 2 c.in_ok-one.three z 0 (length c.in_ok-taken.taken.items) new.2 c.in_ok-taken.ensures.did in
-    let sum : 0 + won_links x.pass.view.log + won_links y.pass.view.log + won_links z.pass.view.log ≡ 0 + won_flags x.pass.view.log + won_flags y.pass.view.log + won_flags z.pass.view.log + length left = c.in_ok-report.ensures in
+    let three = new_won b f 2 c.in_ok-one.three z 0 (length c.in_ok-taken.taken.items) new.2
+    c.in_ok-taken.ensures.did in
+    let sum : 0 + won_links x.pass.view.log + won_links y.pass.view.log + won_links z.pass.view.log
+    ≡ 0 + won_flags x.pass.view.log + won_flags y.pass.view.log + won_flags z.pass.view.log
+    + length left = c.in_ok-report.ensures in
     let a = one.0 in let a' = one.1 in let d = two.0 in let d' = two.1 in let e = three.0 in let e' = three.1 in
     omega (arith, sum, a, a', d, d', e, e')

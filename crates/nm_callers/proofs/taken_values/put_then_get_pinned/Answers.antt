@@ -15,8 +15,10 @@ returns-clause-got c =
     let reader = c.get_pinned.new.worker.pass in
     let put = c.in-Ok-true.ensures.puts c.requires.values (ap Ok c.in-Ok-true.field-0-test) in
     let Got = GotAfterPut before writer reader c.args.key c.args.value in
-    subst (λ (w : WorkerView). IfSome c.ok.result (GotAfterPut before w.pass reader c.args.key c.args.value)) (sym c.tell_worker.ensures.from)
+    subst (λ (w : WorkerView). IfSome c.ok.result (GotAfterPut before w.pass reader c.args.key c.args.value))
+    (sym c.tell_worker.ensures.from)
     (if_answered c.get_pinned.result c.ok.result Got c.ok.ensures.value
     (each_ok c.get_pinned.result (MapGaveUnderPin asked reader c.args.key) Got
-    (λ found gave. got_after_put before writer asked reader c.args.key c.args.value found put c.tell_worker.ensures.heard c.get_pinned.ensures.past gave)
+    (λ found gave. got_after_put before writer asked reader c.args.key c.args.value found put
+    c.tell_worker.ensures.heard c.get_pinned.ensures.past gave)
     c.get_pinned.ensures.moment))

@@ -5,4 +5,5 @@ use Rattle.nm_serial.specs.AnswerLines.{lines}
 use Rattle.nm_serial.proofs.answer_lines.put_lines.Given as goal
 
 abbrev pub invariant-loop-answer : goal.invariant-loop-answer
-invariant-loop-answer l = l.out.items ++ lines (further 10 (option_copied l.rest)) (drop l.answer-index l.answers) ≡ l.fn.out.items ++ lines (parts l.body) l.answers
+invariant-loop-answer l = l.out.items ++ lines (further 10 (option_copied l.rest)) (drop l.answer-index l.answers)
+    ≡ l.fn.out.items ++ lines (parts l.body) l.answers

@@ -10,10 +10,12 @@ returns-in_err-script-clause-ends c =
     rw (p.1, p.2) (ends_by_fault Serial c.args.bytes.now c.in_err-script.field-0.0 c.in_err-script.ensures.says)
 
 pub returns-clause-ends : goal.returns-clause-ends
-returns-clause-ends c = ends_played Serial c.args.bytes.now _ c.text_of.result c.in_ok-script.ensures.says c.text_of.ensures.err
+returns-clause-ends c = ends_played Serial c.args.bytes.now _ c.text_of.result c.in_ok-script.ensures.says
+    c.text_of.ensures.err
 
 pub returns-clause-text : goal.returns-clause-text
-returns-clause-text c = text_of_script IsSerialText Serial c.args.bytes.now _ _ c.text_of.result c.in_ok-script.ensures.says c.in_ok-script.ensures.body c.text_of.ensures.text
+returns-clause-text c = text_of_script IsSerialText Serial c.args.bytes.now _ _ c.text_of.result
+    c.in_ok-script.ensures.says c.in_ok-script.ensures.body c.text_of.ensures.text
 
 pub returns-in_err-script-clause-alone : goal.returns-in_err-script-clause-alone
 returns-in_err-script-clause-alone c =

@@ -13,7 +13,9 @@ loop-key-preserved c =
     let i = c.loop-key.invariant in
     let k : ℕ = c.key-item.result in
     let rest : List ℕ = drop (c.loop-key.key-index + 1) c.args.keys.now in
-    let cut : drop c.loop-key.key-index c.args.keys.now ≡ k ∷ rest = drop_more c.args.keys.now c.loop-key.key-index k c.loop-key-test.true ∙ ap (λ (e : ℕ). e ∷ rest) (sym c.key-item.is) in
+    let cut : drop c.loop-key.key-index c.args.keys.now
+    ≡ k ∷ rest = drop_more c.args.keys.now c.loop-key.key-index k c.loop-key-test.true
+    ∙ ap (λ (e : ℕ). e ∷ rest) (sym c.key-item.is) in
     let b = c.loop-key.member.tree in
     let h = c.args.options.now in
     let x : WorkerView = c.loop-key.member.worker in
@@ -24,11 +26,13 @@ loop-key-preserved c =
       tree = c.add.ensures.tree ∙ i.tree;
       free = at.0;
       settled = at.1;
-      did = λ z done. i.did z (subst (λ (ks : List ℕ). HasInserted ks x z) (sym cut) (inserts_one b h k x y z rest said done));
+      did = λ z done. i.did z (subst (λ (ks : List ℕ). HasInserted ks x z) (sym cut)
+          (inserts_one b h k x y z rest said done));
     }
 
 pub returns-clause-did : goal.returns-clause-did
 returns-clause-did c =
     let w : WorkerView = c.loop-key.member.worker in
-    let last : HasInserted (drop c.loop-key.key-index c.args.keys.now) w w = rw (drop_all c.loop-key.key-index c.args.keys.now c.loop-key-test.false) (inserts_none w) in
+    let last : HasInserted (drop c.loop-key.key-index c.args.keys.now) w w = rw
+    (drop_all c.loop-key.key-index c.args.keys.now c.loop-key-test.false) (inserts_none w) in
     c.loop-key.invariant.did w last

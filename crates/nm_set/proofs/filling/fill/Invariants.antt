@@ -9,5 +9,6 @@ invariant-loop-key l = record {
   tree : l.member.tree ≡ l.fn.member.tree;
   free : l.member.worker.held ≡ None;
   settled : l.member.worker.pending ≡ None;
-  did : (z : WorkerView) → HasInserted (drop l.key-index l.keys) l.member.worker z → HasInserted l.keys l.fn.member.worker z;
+  did : (z : WorkerView) → HasInserted (drop l.key-index l.keys) l.member.worker z
+      → HasInserted l.keys l.fn.member.worker z;
 }

@@ -10,10 +10,18 @@ loop-number-preserved c =
     let before = c.loop-number.mailboxes.items in
     let more = c.in_ok-push.ensures.items in
     let P : Site × ℕ → Type 0 = λ s. ArePlaces site 0 (before ++ s ∷ []) in
-    let places = subst P (sym c.empty_mailbox.ensures) (one_seat site 0 before c.loop-number.number (omega (arith, c.loop-number.invariant.count)) c.loop-number.invariant.places) in
+    let places = subst P (sym c.empty_mailbox.ensures)
+    (one_seat site 0 before c.loop-number.number (omega (arith, c.loop-number.invariant.count))
+    c.loop-number.invariant.places) in
     record {
       places = subst (ArePlaces site 0) (sym more) places;
-      count = omega (arith, ap (λ (ss : List (Site × ℕ)). length ss) more, length-append before (c.empty_mailbox.result ∷ []), c.loop-number.invariant.count);
+      count = omega (
+        arith,
+        ap (λ (ss : List (Site × ℕ)). length ss) more,
+        length-append before
+            (c.empty_mailbox.result ∷ []),
+        c.loop-number.invariant.count,
+      );
       site = c.loop-number.invariant.site;
       within = omega (arith, c.loop-number.invariant.within);
     }

@@ -16,9 +16,16 @@ loop-worker-preserved c =
     let new = subst (AreNew site.tree (length before)) first c.loop-worker.invariant.left in
     let fits = subst (HaveFit site.fit) first c.loop-worker.invariant.fit in
     let resident = new_resident site.tree site.fit (length before) w c.next.new.self.rest.items new fits.0 in
-    let longer : length c.push_reserved.new.self.items ≡ suc (length before) = omega (arith, ap (λ (ms : List (Option WorkerView)). length ms) more, length-append before (Some w ∷ [])) in
+    let longer : length c.push_reserved.new.self.items
+    ≡ suc (length before) = omega (
+      arith,
+      ap (λ (ms : List (Option WorkerView)). length ms) more,
+      length-append
+          before (Some w ∷ []),
+    ) in
     record {
-      made = subst (AreOnSeats site 0) (sym more) (seated_and site 0 before (length before) w (omega arith) c.loop-worker.invariant.made
+      made = subst (AreOnSeats site 0) (sym more) (seated_and site 0 before (length before) w (omega arith)
+          c.loop-worker.invariant.made
           (record { resident = resident; first = λ _. (new.0, new.1, new.2, new.3, new.4, tt) }));
       left = subst (λ (n : ℕ). AreNew site.tree n c.next.new.self.rest.items) (sym longer) new.5;
       fit = fits.1;

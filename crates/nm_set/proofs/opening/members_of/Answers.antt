@@ -24,7 +24,9 @@ loop-number-preserved g c =
     let longer = ap (λ (ms : List MemberView). length ms) more in
     let test = c.loop-number-test.true in
     record {
-      made = subst (AreNewMembers h.tree h.fit 0) (sym more) (one_member h.tree h.fit 0 before n member (omega (arith, c.loop-number.invariant.count)) c.loop-number.invariant.made one);
+      made = subst (AreNewMembers h.tree h.fit 0) (sym more)
+          (one_member h.tree h.fit 0 before n member (omega (arith, c.loop-number.invariant.count))
+          c.loop-number.invariant.made one);
       count = omega (arith, longer, length-append before (member ∷ []), c.loop-number.invariant.count);
       within = omega (arith, test, c.loop-number.auto.number-end);
       room = omega (arith, c.loop-number.invariant.room, c.push_reserved.ensures.capacity);

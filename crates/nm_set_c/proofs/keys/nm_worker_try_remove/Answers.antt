@@ -10,4 +10,12 @@ pub returns-in_default-new : goal.returns-in_default-new
 returns-in_default-new c = search (rules, told_worker)
 
 pub returns : goal.returns
-returns c = record { tells = (c.of_answer-outcome.result, search rules, told Worker (TellsTryRemove c.args.tries c.args.key) ⊤ (held_by c.args.worker.now) (held_by c.put-2.new.self) c.in-Worker.member c.try_remove.new.self c.of_answer-outcome.result (search rules) (search rules) (search rules)) }
+returns c = record {
+  tells = (
+    c.of_answer-outcome.result,
+    search rules,
+    told Worker
+        (TellsTryRemove c.args.tries c.args.key) ⊤ (held_by c.args.worker.now) (held_by c.put-2.new.self)
+        c.in-Worker.member c.try_remove.new.self c.of_answer-outcome.result (search rules) (search rules) (search rules),
+  );
+}

@@ -14,6 +14,7 @@ loop-index-preserved g c =
     record {
       written = take_more_set c.loop-index.lookups i x (search rules)
           ∙ (ap (λ (ls : List g.row.A.Denot). ls ++ x ∷ []) c.loop-index.invariant.written
-          ∙ (ap (λ (y : g.row.A.Denot). map written (take i qs) ++ y ∷ []) (c.answered.ensures ∙ ap written at) ∙ sym (map_more written qs i q (search rules))));
+          ∙ (ap (λ (y : g.row.A.Denot). map written (take i qs) ++ y ∷ []) (c.answered.ensures ∙ ap written at)
+          ∙ sym (map_more written qs i q (search rules))));
       count = search rules;
     }

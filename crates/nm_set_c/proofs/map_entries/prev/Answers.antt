@@ -9,15 +9,17 @@ unfolding HasDone
 returns c = record {
   tells = inl (
     c.in-Some.ensures.0,
-    subst (λ (k : ℕ). FindsEntry (λ b. AskedPrev b.layout c.args.tries k) c.args.found.now c.tell_found.new.found c.args.value.now c.write_value.new.value c.args.member.now c.prev_with_value-answer.new.self c.tell_found.result) c.in-Some.ensures.1 (record {
-      answer = c.prev_with_value-answer.result;
-      told = c.tell_found.ensures.told;
-      written = c.tell_found.ensures.written;
-      tree = c.prev_with_value-answer.ensures.tree;
-      says = c.prev_with_value-answer.ensures.says;
-      there = c.prev_with_value-answer.new.value;
-      finds = c.prev_with_value-answer.ensures.finds;
-      valued = c.write_value.ensures;
-    }),
+    subst (λ (k : ℕ). FindsEntry (λ b. AskedPrev b.layout c.args.tries k) c.args.found.now c.tell_found.new.found
+        c.args.value.now c.write_value.new.value c.args.member.now c.prev_with_value-answer.new.self
+        c.tell_found.result) c.in-Some.ensures.1 (record {
+          answer = c.prev_with_value-answer.result;
+          told = c.tell_found.ensures.told;
+          written = c.tell_found.ensures.written;
+          tree = c.prev_with_value-answer.ensures.tree;
+          says = c.prev_with_value-answer.ensures.says;
+          there = c.prev_with_value-answer.new.value;
+          finds = c.prev_with_value-answer.ensures.finds;
+          valued = c.write_value.ensures;
+        }),
   );
 }

@@ -30,7 +30,9 @@ returns c = inr (record {
   answer = Err getting.Busy;
   told = refl;
   tree = c.ask.ensures.tree;
-  says = subst (λ (f : PinnedGetFault). SaysPinnedGetMany c.args.member.now.tree.layout c.in-Ok.queries.items c.ask.new.queries.items c.args.member.now.worker c.ask.new.member.worker (Err f)) c.in-Err-Busy.field-0-is c.in-Err-Busy.ensures.says;
+  says = subst (λ (f : PinnedGetFault). SaysPinnedGetMany c.args.member.now.tree.layout c.in-Ok.queries.items
+      c.ask.new.queries.items c.args.member.now.worker c.ask.new.member.worker (Err f)) c.in-Err-Busy.field-0-is
+      c.in-Err-Busy.ensures.says;
   written = tt;
   kept = refl;
 })

@@ -8,9 +8,11 @@ use Rattle.nm_set_c.proofs.workers.resign.Goals as goal
 
 pub returns-in-Ok : goal.returns-in-Ok
 returns-in-Ok c = let d = (c.in-Ok.ensures).done in
-    does_owned Worker (TellsResign c.args.leaver) ⊤ c.args.heir c.in-Worker.member c.in-Ok.heir Done c.in-Worker.is (inl (refl, d.0, d.1, d.2, d.3))
+    does_owned Worker (TellsResign c.args.leaver) ⊤ c.args.heir c.in-Worker.member c.in-Ok.heir Done c.in-Worker.is
+    (inl (refl, d.0, d.1, d.2, d.3))
 
 pub returns-in-Err : goal.returns-in-Err
 returns-in-Err c =
-    does_owned Worker (TellsResign c.args.leaver) ⊤ c.args.heir c.in-Worker.member c.in-Err.error.member c.of_staying.result c.in-Worker.is
+    does_owned Worker (TellsResign c.args.leaver) ⊤ c.args.heir c.in-Worker.member c.in-Err.error.member
+    c.of_staying.result c.in-Worker.is
     (inr (c.in-Err.error.reason, c.of_staying.ensures, (c.in-Err.ensures).reason, (c.in-Err.ensures).refused))

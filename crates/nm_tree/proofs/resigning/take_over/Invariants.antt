@@ -6,7 +6,8 @@ use Rattle.nm_tree.proofs.resigning.take_over.Given as goal
 
 abbrev pub invariant-loop-queue : goal.invariant-loop-queue
 invariant-loop-queue l = record {
-  taken : (gs : List HeldQueue) × (l.initial.more.items ≡ l.more.items ++ gs) × (l.queues.items ≡ merged l.initial.queues.items gs);
+  taken : (gs : List HeldQueue) × (l.initial.more.items ≡ l.more.items ++ gs)
+      × (l.queues.items ≡ merged l.initial.queues.items gs);
   capacity : vec_capacity l.queues ≡ vec_capacity l.initial.queues;
 }
 

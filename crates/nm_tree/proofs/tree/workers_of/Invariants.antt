@@ -7,7 +7,8 @@ use Rattle.nm_tree.proofs.tree.workers_of.Given as goal
 abbrev pub invariant-loop-pass : goal.invariant-loop-pass
 invariant-loop-pass l = record {
   fresh : AreAllFresh l.passes.items;
-  made : (rest : List PassView) × (l.initial.passes.items ≡ l.passes.items ++ rest) × AreMade l.fit rest (reverse l.workers.items);
+  made : (rest : List PassView) × (l.initial.passes.items ≡ l.passes.items ++ rest)
+      × AreMade l.fit rest (reverse l.workers.items);
 }
 
 abbrev pub decreases-loop-pass : goal.decreases-loop-pass

@@ -16,6 +16,8 @@ returns-clause-own c =
       | else-is_empty w ↦ subst (AreOwn b) (sym (ap (λ v. v.items) w.workers-is)) c.requires.own
     ] in
     let rest : List WorkerView = c.gather.ensures.0 in
-    let same : c.self.inside.seats.site.tree ≡ b = ap (λ (s : Site). s.tree) c.self.invariant.0 ∙ ap (λ (h : HomeView). h.tree) c.self.view_is in
-    let others = subst (λ (d : TreeView). AreOwn d rest) same (own_residents c.self.inside.seats.site rest c.gather.ensures.2) in
+    let same : c.self.inside.seats.site.tree ≡ b = ap (λ (s : Site). s.tree) c.self.invariant.0
+    ∙ ap (λ (h : HomeView). h.tree) c.self.view_is in
+    let others = subst (λ (d : TreeView). AreOwn d rest) same
+    (own_residents c.self.inside.seats.site rest c.gather.ensures.2) in
     subst (AreOwn b) (sym c.gather.ensures.1) (own_both b before rest own others)

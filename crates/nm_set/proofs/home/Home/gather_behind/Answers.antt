@@ -11,7 +11,10 @@ returns-clause-own c =
     let b : TreeView = c.args.self.tree in
     let worker : WorkerView = c.args.sealed.worker in
     let rest : List WorkerView = c.gather.ensures.0 in
-    let same : c.self.inside.seats.site.tree ≡ b = ap (λ (s : Site). s.tree) c.self.invariant.0 ∙ ap (λ (h : HomeView). h.tree) c.self.view_is in
-    let others = subst (λ (d : TreeView). AreOwn d rest) same (own_residents c.self.inside.seats.site rest c.gather.ensures.2) in
+    let same : c.self.inside.seats.site.tree ≡ b = ap (λ (s : Site). s.tree) c.self.invariant.0
+    ∙ ap (λ (h : HomeView). h.tree) c.self.view_is in
+    let others = subst (λ (d : TreeView). AreOwn d rest) same
+    (own_residents c.self.inside.seats.site rest c.gather.ensures.2) in
     let before = c.stay_with.ensures.items ∙ ap (λ (ws : List WorkerView). ws ++ worker ∷ []) c.self.invariant.4 in
-    subst (AreOwn b) (sym (c.gather.ensures.1 ∙ ap (λ (ws : List WorkerView). ws ++ rest) before)) (own_both b (worker ∷ []) rest (c.requires.own, tt) others)
+    subst (AreOwn b) (sym (c.gather.ensures.1 ∙ ap (λ (ws : List WorkerView). ws ++ rest) before))
+    (own_both b (worker ∷ []) rest (c.requires.own, tt) others)

@@ -15,7 +15,8 @@ returns-in_default-clause-says c =
     let w = c.args.self.now.worker in
     let z = c.finish_with_retries.new.self.worker in
     let f = c.in_default.ensures.says in
-    pending_get b h c.args.key w z (subst (λ (g : CallFault). FinishesIn b h (h.rounds + 1) w z (Err g)) (finish_err b h (h.rounds + 1) w z c.in_default.field-0 f) f)
+    pending_get b h c.args.key w z (subst (λ (g : CallFault). FinishesIn b h (h.rounds + 1) w z (Err g))
+    (finish_err b h (h.rounds + 1) w z c.in_default.field-0 f) f)
 
 pub returns-clause-says : goal.returns-clause-says
 returns-clause-says c =
@@ -25,4 +26,6 @@ returns-clause-says c =
     let y = c.finish_with_retries.new.self.worker in
     let z = c.get_again.new.self.worker in
     let r = c.get_again.result in
-    gets_then b h c.args.key w y c.in-Ok._done c.in-Ok.ensures.says z r (subst (λ (d : TreeView). GetsIn d h c.args.key (h.rounds + 1) y z r) c.finish_with_retries.ensures.tree c.get_again.ensures.says)
+    gets_then b h c.args.key w y c.in-Ok._done c.in-Ok.ensures.says z r
+    (subst (λ (d : TreeView). GetsIn d h c.args.key (h.rounds + 1) y z r) c.finish_with_retries.ensures.tree
+    c.get_again.ensures.says)

@@ -39,6 +39,8 @@ returns-in-Err-clause-says c =
     let m = c.get.new.worker in
     let z = c.get_after.new.self.worker in
     let free : w.held ≡ None = search rules in
-    let l = of_member (λ d v. LeavesGet d.layout h.tries k v m (Err c.in-Err.fault)) _ _ _ c.self.view_is c.tree.ensures c.in-Err.ensures in
-    let P : MemberView → Type 0 = λ s. (v : WorkerView) → v.held ≡ None → LeavesGet s.tree.layout h.tries k v m (Err c.in-Err.fault) → ManagesGet s.tree h k v z c.get_after.result in
+    let l = of_member (λ d v. LeavesGet d.layout h.tries k v m (Err c.in-Err.fault)) _ _ _ c.self.view_is
+    c.tree.ensures c.in-Err.ensures in
+    let P : MemberView → Type 0 = λ s. (v : WorkerView) → v.held ≡ None
+    → LeavesGet s.tree.layout h.tries k v m (Err c.in-Err.fault) → ManagesGet s.tree h k v z c.get_after.result in
     inr (free, subst P c.self.view_is c.get_after.ensures.says w free l)

@@ -18,23 +18,32 @@ returns-clause-says c =
     let z = c.ask_value_with_retries.new.self.worker in
     let r = c.ask_value_with_retries.result in
     let free : w.held ≡ None = search rules in
-    inr (free, inserts_then b h c.args.key w y c.in-Ok._done c.in-Ok.ensures.says z r c.ask_value_with_retries.ensures.frees (subst (λ (d : TreeView). AnswersIn d h Insert c.args.key (h.rounds + 1) y z r) c.finish_with_retries.ensures.tree c.ask_value_with_retries.ensures.says))
+    inr (
+      free,
+      inserts_then b h c.args.key w y c.in-Ok._done c.in-Ok.ensures.says z r
+          c.ask_value_with_retries.ensures.frees (subst (λ (d : TreeView). AnswersIn d h Insert c.args.key (h.rounds + 1)
+          y z r) c.finish_with_retries.ensures.tree c.ask_value_with_retries.ensures.says),
+    )
 
 pub returns-clause-puts : goal.returns-clause-puts
 returns-clause-puts c =
     let w = c.args.self.now.worker in
     let y = c.finish_with_retries.new.self.worker in
     let z = c.ask_value_with_retries.new.self.worker in
-    let has : HasValues c.finish_with_retries.new.self.tree = subst HasValues (sym c.finish_with_retries.ensures.tree) c.know_run.ensures.values in
-    (moves_earlier Insert c.args.key c.args.value c.ask_value_with_retries.new.found w.pass y.pass z.pass c.ask_value_with_retries.result c.in-Ok.ensures.says.on.past (c.ask_value_with_retries.ensures.moves has)).0
+    let has : HasValues c.finish_with_retries.new.self.tree = subst HasValues
+    (sym c.finish_with_retries.ensures.tree) c.know_run.ensures.values in
+    (moves_earlier Insert c.args.key c.args.value c.ask_value_with_retries.new.found w.pass y.pass z.pass
+    c.ask_value_with_retries.result c.in-Ok.ensures.says.on.past (c.ask_value_with_retries.ensures.moves has)).0
 
 pub returns-clause-finds : goal.returns-clause-finds
 returns-clause-finds c =
     let w = c.args.self.now.worker in
     let y = c.finish_with_retries.new.self.worker in
     let z = c.ask_value_with_retries.new.self.worker in
-    let has : HasValues c.finish_with_retries.new.self.tree = subst HasValues (sym c.finish_with_retries.ensures.tree) c.know_run.ensures.values in
-    (moves_earlier Insert c.args.key c.args.value c.ask_value_with_retries.new.found w.pass y.pass z.pass c.ask_value_with_retries.result c.in-Ok.ensures.says.on.past (c.ask_value_with_retries.ensures.moves has)).1
+    let has : HasValues c.finish_with_retries.new.self.tree = subst HasValues
+    (sym c.finish_with_retries.ensures.tree) c.know_run.ensures.values in
+    (moves_earlier Insert c.args.key c.args.value c.ask_value_with_retries.new.found w.pass y.pass z.pass
+    c.ask_value_with_retries.result c.in-Ok.ensures.says.on.past (c.ask_value_with_retries.ensures.moves has)).1
 
 pub returns-in_default-clause-says : goal.returns-in_default-clause-says
 returns-in_default-clause-says c =
@@ -44,4 +53,9 @@ returns-in_default-clause-says c =
     let z = c.finish_with_retries.new.self.worker in
     let free : w.held ≡ None = search rules in
     let f = c.in_default.ensures.says in
-    inr (free, pending_manages b h Insert c.args.key w z (subst (λ (g : CallFault). FinishesIn b h (h.rounds + 1) w z (Err g)) (finish_err b h (h.rounds + 1) w z c.in_default.field-0 f) f))
+    inr (
+      free,
+      pending_manages b h Insert c.args.key w z
+          (subst (λ (g : CallFault). FinishesIn b h (h.rounds + 1) w z (Err g))
+          (finish_err b h (h.rounds + 1) w z c.in_default.field-0 f) f),
+    )

@@ -3,4 +3,5 @@ use Rattle.nm_set.proofs.Inside.{of_member}
 use Rattle.nm_set.proofs.member.Member.advance.Goals as goal
 
 pub returns-clause-says : goal.returns-clause-says
-returns-clause-says g c = of_member (λ b v. LeavesAdvance b.layout.workers v c.advance.new.worker c.advance.result) _ _ _ c.self.view_is c.tree.ensures c.advance.ensures
+returns-clause-says g c = of_member (λ b v. LeavesAdvance b.layout.workers v c.advance.new.worker c.advance.result) _
+    _ _ c.self.view_is c.tree.ensures c.advance.ensures

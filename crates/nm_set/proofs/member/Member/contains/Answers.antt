@@ -13,7 +13,12 @@ use Rattle.nm_set.proofs.member.Member.contains.Goals as goal
 
 pub contains_after-requires : goal.contains_after-requires
 contains_after-requires g c = record {
-  begun = (c.self.inside.sealed.worker, subst (λ (b : TreeView). LeavesHas b.layout c.args.options.now.tries c.args.key c.self.inside.sealed.worker c.has.new.worker (Err c.in-Err.fault)) c.tree.ensures c.in-Err.ensures.leaves);
+  begun = (
+    c.self.inside.sealed.worker,
+    subst (λ (b : TreeView). LeavesHas b.layout c.args.options.now.tries
+        c.args.key c.self.inside.sealed.worker c.has.new.worker (Err c.in-Err.fault)) c.tree.ensures
+        c.in-Err.ensures.leaves,
+  );
 }
 
 -- the first look-up freed no node
@@ -23,7 +28,8 @@ returns-in-Ok-clause-frees g c =
     let h = c.args.options.now in
     let z = c.has.new.worker in
     let r : Result Bool _ = Ok c.in-Ok.answer in
-    let l = of_member (λ d v. LeavesHas d.layout h.tries c.args.key v z r) _ _ _ c.self.view_is c.tree.ensures c.in-Ok.ensures.leaves in
+    let l = of_member (λ d v. LeavesHas d.layout h.tries c.args.key v z r) _ _ _ c.self.view_is c.tree.ensures
+    c.in-Ok.ensures.leaves in
     has_frees_none b.layout h.tries c.args.key c.args.self.now.worker z r l.did
 
 pub returns-in-Err-clause-frees : goal.returns-in-Err-clause-frees
@@ -32,7 +38,8 @@ returns-in-Err-clause-frees g c =
     let h = c.args.options.now in
     let m = c.has.new.worker in
     let r : Result Bool _ = Err c.in-Err.fault in
-    let l = of_member (λ d v. LeavesHas d.layout h.tries c.args.key v m r) _ _ _ c.self.view_is c.tree.ensures c.in-Err.ensures.leaves in
+    let l = of_member (λ d v. LeavesHas d.layout h.tries c.args.key v m r) _ _ _ c.self.view_is c.tree.ensures
+    c.in-Err.ensures.leaves in
     c.contains_after.ensures.frees ∙ has_frees_none b.layout h.tries c.args.key c.args.self.now.worker m r l.did
 
 pub returns-in-Ok-clause-says : goal.returns-in-Ok-clause-says
@@ -44,9 +51,14 @@ returns-in-Ok-clause-says g c =
     let z = c.has.new.worker in
     let r : Result Bool _ = Ok c.in-Ok.answer in
     let free : w.held ≡ None = search rules in
-    let l = of_member (λ d v. LeavesHas d.layout h.tries k v z r) _ _ _ c.self.view_is c.tree.ensures c.in-Ok.ensures.leaves in
+    let l = of_member (λ d v. LeavesHas d.layout h.tries k v z r) _ _ _ c.self.view_is c.tree.ensures
+    c.in-Ok.ensures.leaves in
     let none = had_none_has b.layout h.tries k w z r (λ is. let no = is in cc) l in
-    inr (free, looks_at_once b h k w z r free none (answered b h Has k w z c.in-Ok.answer (has_answers b.layout h.tries k w z r none l)))
+    inr (
+      free,
+      looks_at_once b h k w z r free none (answered b h Has k w z c.in-Ok.answer
+          (has_answers b.layout h.tries k w z r none l)),
+    )
 
 pub returns-in-Err-clause-says : goal.returns-in-Err-clause-says
 returns-in-Err-clause-says g c =
@@ -57,6 +69,9 @@ returns-in-Err-clause-says g c =
     let m = c.has.new.worker in
     let z = c.contains_after.new.self.worker in
     let free : w.held ≡ None = search rules in
-    let l = of_member (λ d v. LeavesHas d.layout h.tries k v m (Err c.in-Err.fault)) _ _ _ c.self.view_is c.tree.ensures c.in-Err.ensures.leaves in
-    let P : MemberView → Type 0 = λ s. (v : WorkerView) → v.held ≡ None → LeavesHas s.tree.layout h.tries k v m (Err c.in-Err.fault) → Manages s.tree h Has k v z c.contains_after.result in
+    let l = of_member (λ d v. LeavesHas d.layout h.tries k v m (Err c.in-Err.fault)) _ _ _ c.self.view_is
+    c.tree.ensures c.in-Err.ensures.leaves in
+    let P : MemberView → Type 0 = λ s. (v : WorkerView) → v.held ≡ None
+    → LeavesHas s.tree.layout h.tries k v m (Err c.in-Err.fault)
+    → Manages s.tree h Has k v z c.contains_after.result in
     inr (free, subst P c.self.view_is c.contains_after.ensures.says w free l)

@@ -12,7 +12,8 @@ returns-clause-says g c =
     let w = c.args.self.now.worker in
     let z = c.finish.new.worker in
     let r = c.finish.result in
-    let l = of_member (λ b v. LeavesFinish b.layout c.args.tries v z r) _ _ _ c.self.view_is c.tree.ensures c.finish.ensures.leaves in
+    let l = of_member (λ b v. LeavesFinish b.layout c.args.tries v z r) _ _ _ c.self.view_is c.tree.ensures
+    c.finish.ensures.leaves in
     record {
       says = l.says;
       unfinished = λ is. l.lost (subst (λ (q : Result Bool CallFault). IsErrOf q fault.Unfinished) (sym is) refl);

@@ -9,7 +9,11 @@ returns-then-has_many_waiting-clause-ready g c =
     let b = c.args.self.now.tree in
     let x = c.finish_with_retries.new.self.worker in
     let z = c.relieve.new.self.worker in
-    ready_relieved b c.args.options.now c.args.self.now.worker x c.in-Ok._done c.in-Ok.ensures.says z c.relieve.result (subst (λ (d : TreeView). IsRelieved d.layout x z c.relieve.result) c.finish_with_retries.ensures.tree c.relieve.ensures.did)
+    ready_relieved b c.args.options.now c.args.self.now.worker x c.in-Ok._done c.in-Ok.ensures.says z
+    c.relieve.result (subst (λ (d : TreeView). IsRelieved d.layout x z c.relieve.result)
+    c.finish_with_retries.ensures.tree c.relieve.ensures.did)
 
 pub returns-else-has_many_waiting-clause-ready : goal.returns-else-has_many_waiting-clause-ready
-returns-else-has_many_waiting-clause-ready g c = ready_as_is c.args.self.now.tree c.args.options.now c.args.self.now.worker c.finish_with_retries.new.self.worker c.in-Ok._done c.in-Ok.ensures.says (c.if-has_many_waiting.ensures.no refl)
+returns-else-has_many_waiting-clause-ready g c = ready_as_is c.args.self.now.tree c.args.options.now
+    c.args.self.now.worker c.finish_with_retries.new.self.worker c.in-Ok._done c.in-Ok.ensures.says
+    (c.if-has_many_waiting.ensures.no refl)

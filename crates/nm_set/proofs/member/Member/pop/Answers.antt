@@ -15,8 +15,13 @@ returns-clause-says g c =
     let z = c.pop_with_retries.new.self.worker in
     let r = c.pop_with_retries.result in
     let free : w.held ≡ None = search rules in
-    let P : TreeView → Type 0 = λ b. Pops (among c.args.end) (comes_before c.args.end) ((h.rounds + 1) * pop_round_bound h b.layout) h.tries (h.rounds + 1) x z r in
-    inr (free, pops_after (among c.args.end) (comes_before c.args.end) c.args.self.now.tree h w x z c.in-Ok._done r c.in-Ok.ensures.says (subst P c.finish_with_retries.ensures.tree c.pop_with_retries.ensures.says))
+    let P : TreeView → Type 0 = λ b. Pops (among c.args.end) (comes_before c.args.end)
+    ((h.rounds + 1) * pop_round_bound h b.layout) h.tries (h.rounds + 1) x z r in
+    inr (
+      free,
+      pops_after (among c.args.end) (comes_before c.args.end) c.args.self.now.tree h w x z c.in-Ok._done r
+          c.in-Ok.ensures.says (subst P c.finish_with_retries.ensures.tree c.pop_with_retries.ensures.says),
+    )
 
 pub returns-in_default-clause-frees : goal.returns-in_default-clause-frees
 returns-in_default-clause-frees g c = λ map. c.in_default.ensures.says.frees
@@ -25,4 +30,6 @@ pub returns-clause-frees : goal.returns-clause-frees
 returns-clause-frees g c = λ map. c.pop_with_retries.ensures.frees map ∙ c.in-Ok.ensures.says.frees
 
 pub returns-clause-takes : goal.returns-clause-takes
-returns-clause-takes g c = λ map. pops_earlier c.args.self.now.worker.pass c.finish_with_retries.new.self.worker.pass c.pop_with_retries.new.self.worker.pass c.pop_with_retries.new.taken c.pop_with_retries.result c.in-Ok.ensures.says.on.past (c.pop_with_retries.ensures.takes map)
+returns-clause-takes g c = λ map. pops_earlier c.args.self.now.worker.pass c.finish_with_retries.new.self.worker.pass
+    c.pop_with_retries.new.self.worker.pass c.pop_with_retries.new.taken c.pop_with_retries.result
+    c.in-Ok.ensures.says.on.past (c.pop_with_retries.ensures.takes map)

@@ -14,13 +14,15 @@ use Rattle.nm_set.proofs.member.Member.pop_once.Goals as goal
 pub returns-in_err-key-clause-says : goal.returns-in_err-key-clause-says
 returns-in_err-key-clause-says g c =
     let p = err_from_is_err_and c.from_residual.result c.from_residual.ensures.1 in
-    rw (p.1, p.2) (pops_not_found c.args.end c.args.self.now.tree c.args.options.now c.args.self.now.worker c.requires.none c.key_at.new.self.worker c.in_err-key.field-0.0 c.in_err-key.ensures.says)
+    rw (p.1, p.2) (pops_not_found c.args.end c.args.self.now.tree c.args.options.now c.args.self.now.worker
+    c.requires.none c.key_at.new.self.worker c.in_err-key.field-0.0 c.in_err-key.ensures.says)
 
 pub returns-in_default-clause-says : goal.returns-in_default-clause-says
 returns-in_default-clause-says g c =
     let w = c.args.self.now.worker in
     let x = c.key_at.new.self.worker in
-    let found = subst (λ (f : Option ℕ). Finds c.args.end c.args.self.now.tree.layout c.args.options.now.tries w x (Ok f)) c.in_default.is c.in_ok-key.ensures.says in
+    let found = subst (λ (f : Option ℕ). Finds c.args.end c.args.self.now.tree.layout c.args.options.now.tries w x
+    (Ok f)) c.in_default.is c.in_ok-key.ensures.says in
     pops_none c.args.end c.args.self.now.tree c.args.options.now w c.requires.none x found
 
 pub returns-in_err-remove_popped-clause-says : goal.returns-in_err-remove_popped-clause-says
@@ -29,10 +31,14 @@ returns-in_err-remove_popped-clause-says g c =
     let x = c.key_at.new.self.worker in
     let z = c.remove_popped.new.self.worker in
     let h = c.args.options.now in
-    let found = subst (λ (f : Option ℕ). Finds c.args.end c.args.self.now.tree.layout h.tries w x (Ok f)) c.in-Some.is c.in_ok-key.ensures.says in
-    let did = subst (λ (b : TreeView). SaysRemoved b h c.in-Some.key x z (Err c.in_err-remove_popped.field-0.0)) c.key_at.ensures.tree c.in_err-remove_popped.ensures.says in
-    let p = err_from_is_err_and c.from_residual-in_err-remove_popped.result c.from_residual-in_err-remove_popped.ensures.1 in
-    rw (p.1, p.2) (pops_not_removed c.args.end c.args.self.now.tree h w c.requires.none x z c.in-Some.key found (c.has.ensures.yes c.if-not-has.false) c.in_err-remove_popped.field-0.0 did)
+    let found = subst (λ (f : Option ℕ). Finds c.args.end c.args.self.now.tree.layout h.tries w x (Ok f))
+    c.in-Some.is c.in_ok-key.ensures.says in
+    let did = subst (λ (b : TreeView). SaysRemoved b h c.in-Some.key x z (Err c.in_err-remove_popped.field-0.0))
+    c.key_at.ensures.tree c.in_err-remove_popped.ensures.says in
+    let p = err_from_is_err_and c.from_residual-in_err-remove_popped.result
+    c.from_residual-in_err-remove_popped.ensures.1 in
+    rw (p.1, p.2) (pops_not_removed c.args.end c.args.self.now.tree h w c.requires.none x z c.in-Some.key found
+    (c.has.ensures.yes c.if-not-has.false) c.in_err-remove_popped.field-0.0 did)
 
 pub returns-then-branch-clause-says : goal.returns-then-branch-clause-says
 returns-then-branch-clause-says g c =
@@ -40,9 +46,13 @@ returns-then-branch-clause-says g c =
     let x = c.key_at.new.self.worker in
     let z = c.remove_popped.new.self.worker in
     let h = c.args.options.now in
-    let found = subst (λ (f : Option ℕ). Finds c.args.end c.args.self.now.tree.layout h.tries w x (Ok f)) c.in-Some.is c.in_ok-key.ensures.says in
-    let told = subst (λ (answer : Bool). SaysRemoved c.key_at.new.self.tree h c.in-Some.key x z (Ok answer)) c.if-branch.true c.in_ok-remove_popped.ensures.says in
-    pops_key c.args.end c.args.self.now.tree h w c.requires.none x z c.in-Some.key found (c.has.ensures.yes c.if-not-has.false) (subst (λ (b : TreeView). SaysRemoved b h c.in-Some.key x z _) c.key_at.ensures.tree told)
+    let found = subst (λ (f : Option ℕ). Finds c.args.end c.args.self.now.tree.layout h.tries w x (Ok f))
+    c.in-Some.is c.in_ok-key.ensures.says in
+    let told = subst (λ (answer : Bool). SaysRemoved c.key_at.new.self.tree h c.in-Some.key x z (Ok answer))
+    c.if-branch.true c.in_ok-remove_popped.ensures.says in
+    pops_key c.args.end c.args.self.now.tree h w c.requires.none x z c.in-Some.key found
+    (c.has.ensures.yes c.if-not-has.false) (subst (λ (b : TreeView). SaysRemoved b h c.in-Some.key x z _)
+    c.key_at.ensures.tree told)
 
 pub returns-else-branch-clause-says : goal.returns-else-branch-clause-says
 returns-else-branch-clause-says g c =
@@ -50,16 +60,23 @@ returns-else-branch-clause-says g c =
     let x = c.key_at.new.self.worker in
     let z = c.remove_popped.new.self.worker in
     let h = c.args.options.now in
-    let found = subst (λ (f : Option ℕ). Finds c.args.end c.args.self.now.tree.layout h.tries w x (Ok f)) c.in-Some.is c.in_ok-key.ensures.says in
-    let told = subst (λ (answer : Bool). SaysRemoved c.key_at.new.self.tree h c.in-Some.key x z (Ok answer)) c.if-branch.false c.in_ok-remove_popped.ensures.says in
-    pops_late c.args.end c.args.self.now.tree h w c.requires.none x z c.in-Some.key found (c.has.ensures.yes c.if-not-has.false) c.know_run.ensures.seen c.know_run.ensures.between c.know_run-else-branch.ensures.seen c.know_run-else-branch.ensures.fits (subst (λ (b : TreeView). SaysRemoved b h c.in-Some.key x z _) c.key_at.ensures.tree told)
+    let found = subst (λ (f : Option ℕ). Finds c.args.end c.args.self.now.tree.layout h.tries w x (Ok f))
+    c.in-Some.is c.in_ok-key.ensures.says in
+    let told = subst (λ (answer : Bool). SaysRemoved c.key_at.new.self.tree h c.in-Some.key x z (Ok answer))
+    c.if-branch.false c.in_ok-remove_popped.ensures.says in
+    pops_late c.args.end c.args.self.now.tree h w c.requires.none x z c.in-Some.key found
+    (c.has.ensures.yes c.if-not-has.false) c.know_run.ensures.seen c.know_run.ensures.between
+    c.know_run-else-branch.ensures.seen c.know_run-else-branch.ensures.fits
+    (subst (λ (b : TreeView). SaysRemoved b h c.in-Some.key x z _) c.key_at.ensures.tree told)
 
 pub returns-then-not-has-clause-says : goal.returns-then-not-has-clause-says
 returns-then-not-has-clause-says g c =
     let w = c.args.self.now.worker in
     let x = c.key_at.new.self.worker in
-    let found = subst (λ (f : Option ℕ). Finds c.args.end c.args.self.now.tree.layout c.args.options.now.tries w x (Ok f)) c.in-Some.is c.in_ok-key.ensures.says in
-    pops_outside c.args.end c.args.self.now.tree c.args.options.now w c.requires.none x c.in-Some.key found (c.has.ensures.no c.if-not-has.true)
+    let found = subst (λ (f : Option ℕ). Finds c.args.end c.args.self.now.tree.layout c.args.options.now.tries w x
+    (Ok f)) c.in-Some.is c.in_ok-key.ensures.says in
+    pops_outside c.args.end c.args.self.now.tree c.args.options.now w c.requires.none x c.in-Some.key found
+    (c.has.ensures.no c.if-not-has.true)
 
 pub returns-in_err-key-clause-frees : goal.returns-in_err-key-clause-frees
 returns-in_err-key-clause-frees g c = λ map. c.key_at.ensures.frees
@@ -86,6 +103,9 @@ returns-then-branch-clause-takes g c = λ map.
     let z = c.remove_popped.new.self.worker in
     let t = c.remove_popped.new.taken in
     let h = c.args.options.now in
-    let found = subst (λ (f : Option ℕ). Finds c.args.end c.args.self.now.tree.layout h.tries w x (Ok f)) c.in-Some.is c.in_ok-key.ensures.says in
-    let took = subst (λ (answer : Bool). IfTaken (Ok answer) (TookMeanwhile x.pass z.pass c.in-Some.key t)) c.if-branch.true (c.in_ok-remove_popped.ensures.takes map) in
-    pops_earlier w.pass x.pass z.pass t (Ok (Some c.in-Some.key)) (found_by c.args.end c.args.self.now.tree.layout h.tries w x (Ok (Some c.in-Some.key)) found).past took
+    let found = subst (λ (f : Option ℕ). Finds c.args.end c.args.self.now.tree.layout h.tries w x (Ok f))
+    c.in-Some.is c.in_ok-key.ensures.says in
+    let took = subst (λ (answer : Bool). IfTaken (Ok answer) (TookMeanwhile x.pass z.pass c.in-Some.key t))
+    c.if-branch.true (c.in_ok-remove_popped.ensures.takes map) in
+    pops_earlier w.pass x.pass z.pass t (Ok (Some c.in-Some.key))
+    (found_by c.args.end c.args.self.now.tree.layout h.tries w x (Ok (Some c.in-Some.key)) found).past took

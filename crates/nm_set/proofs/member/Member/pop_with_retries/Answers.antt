@@ -21,7 +21,13 @@ pub pop_once-requires-clause-none : goal.pop_once-requires-clause-none
 pop_once-requires-clause-none g c = c.loop-round.invariant.lost.onward.none
 
 pub loop-round-init : goal.loop-round-init
-loop-round-init g c = record { tree = refl; lost = no_round_yet (among c.args.end) (comes_before c.args.end) c.args.options.now.tries (pop_round_bound c.args.options.now c.args.self.now.tree.layout) c.args.self.now.worker c.requires.none c.requires.free; frees = λ map. refl }
+loop-round-init g c = record {
+  tree = refl;
+  lost = no_round_yet (among c.args.end) (comes_before c.args.end)
+      c.args.options.now.tries (pop_round_bound c.args.options.now c.args.self.now.tree.layout) c.args.self.now.worker
+      c.requires.none c.requires.free;
+  frees = λ map. refl;
+}
 
 pub loop-round-preserved : goal.loop-round-preserved
 loop-round-preserved g c =
@@ -30,12 +36,15 @@ loop-round-preserved g c =
     let Among = among c.args.end in
     let Before = comes_before c.args.end in
     let most = pop_round_bound h c.args.self.now.tree.layout in
-    let P : TreeView → Type 0 = λ b. Pops Among Before (pop_round_bound h b.layout) h.tries 1 at.self.worker c.pop_once-told.new.self.worker c.pop_once-told.result in
-    let R : Result (Option ℕ) CallFault → Type 0 = λ r. Pops Among Before most h.tries 1 at.self.worker c.pop_once-told.new.self.worker r in
+    let P : TreeView → Type 0 = λ b. Pops Among Before (pop_round_bound h b.layout) h.tries 1 at.self.worker
+    c.pop_once-told.new.self.worker c.pop_once-told.result in
+    let R : Result (Option ℕ) CallFault → Type 0 = λ r. Pops Among Before most h.tries 1 at.self.worker
+    c.pop_once-told.new.self.worker r in
     let last = subst R (c.if-not-is_busy.ensures.yes refl) (subst P at.invariant.tree c.pop_once-told.ensures.says) in
     record {
       tree = c.pop_once-told.ensures.tree ∙ at.invariant.tree;
-      lost = one_round_more Among Before h.tries most at._round c.args.self.now.worker at.self.worker c.pop_once-told.new.self.worker at.invariant.lost last;
+      lost = one_round_more Among Before h.tries most at._round c.args.self.now.worker at.self.worker
+          c.pop_once-told.new.self.worker at.invariant.lost last;
       frees = λ map. c.pop_once-told.ensures.frees map ∙ at.invariant.frees map;
     }
 
@@ -48,7 +57,10 @@ returns-then-not-is_busy-clause-says g c =
     let z = c.pop_once-told.new.self.worker in
     let r = c.pop_once-told.result in
     let P : TreeView → Type 0 = λ b. Pops Among Before (pop_round_bound h b.layout) h.tries 1 at.self.worker z r in
-    last_round Among Before h.tries (pop_round_bound h c.args.self.now.tree.layout) at._round (h.rounds + 1) c.args.self.now.worker at.self.worker z r (omega (arith, c.loop-round-test.true)) (λ is. absurd (c.if-not-is_busy.ensures.no refl is)) at.invariant.lost (subst P at.invariant.tree c.pop_once-told.ensures.says)
+    last_round Among Before h.tries (pop_round_bound h c.args.self.now.tree.layout) at._round (h.rounds + 1)
+    c.args.self.now.worker at.self.worker z r (omega (arith, c.loop-round-test.true))
+    (λ is. absurd (c.if-not-is_busy.ensures.no refl is)) at.invariant.lost
+    (subst P at.invariant.tree c.pop_once-told.ensures.says)
 
 pub returns-clause-says : goal.returns-clause-says
 returns-clause-says g c =
@@ -61,7 +73,9 @@ returns-clause-says g c =
     let z = c.pop_once.new.self.worker in
     let r = c.pop_once.result in
     let P : TreeView → Type 0 = λ b. Pops Among Before (pop_round_bound h b.layout) h.tries 1 at.self.worker z r in
-    last_round Among Before h.tries (pop_round_bound h c.args.self.now.tree.layout) at._round (h.rounds + 1) c.args.self.now.worker at.self.worker z r (omega (arith, within)) (λ is. omega (arith, past, within)) at.invariant.lost (subst P at.invariant.tree c.pop_once.ensures.says)
+    last_round Among Before h.tries (pop_round_bound h c.args.self.now.tree.layout) at._round (h.rounds + 1)
+    c.args.self.now.worker at.self.worker z r (omega (arith, within)) (λ is. omega (arith, past, within))
+    at.invariant.lost (subst P at.invariant.tree c.pop_once.ensures.says)
 
 pub returns-then-not-is_busy-clause-frees : goal.returns-then-not-is_busy-clause-frees
 returns-then-not-is_busy-clause-frees g c = λ map. c.pop_once-told.ensures.frees map ∙ c.loop-round.invariant.frees map
@@ -72,9 +86,12 @@ returns-clause-frees g c = λ map. c.pop_once.ensures.frees map ∙ c.loop-round
 pub returns-then-not-is_busy-clause-takes : goal.returns-then-not-is_busy-clause-takes
 returns-then-not-is_busy-clause-takes g c = λ map.
     let at = c.loop-round in
-    pops_earlier c.args.self.now.worker.pass at.self.worker.pass c.pop_once-told.new.self.worker.pass c.pop_once-told.new.taken c.pop_once-told.result at.invariant.lost.onward.on.past (c.pop_once-told.ensures.takes map)
+    pops_earlier c.args.self.now.worker.pass at.self.worker.pass c.pop_once-told.new.self.worker.pass
+    c.pop_once-told.new.taken c.pop_once-told.result at.invariant.lost.onward.on.past
+    (c.pop_once-told.ensures.takes map)
 
 pub returns-clause-takes : goal.returns-clause-takes
 returns-clause-takes g c = λ map.
     let at = c.loop-round in
-    pops_earlier c.args.self.now.worker.pass at.self.worker.pass c.pop_once.new.self.worker.pass c.pop_once.new.taken c.pop_once.result at.invariant.lost.onward.on.past (c.pop_once.ensures.takes map)
+    pops_earlier c.args.self.now.worker.pass at.self.worker.pass c.pop_once.new.self.worker.pass c.pop_once.new.taken
+    c.pop_once.result at.invariant.lost.onward.on.past (c.pop_once.ensures.takes map)

@@ -13,8 +13,10 @@ returns-clause-did g c =
     let once = c.advance-first.new.self.worker in
     let twice = c.advance-second.new.self.worker in
     let z = c.free.new.self.worker in
-    let again = subst (λ (d : TreeView). LeavesAdvance d.layout.workers once twice c.advance-second.result) c.advance-first.ensures.tree c.advance-second.ensures.says in
-    let collects = subst (λ (d : TreeView). LeavesCollect d.layout.nodes twice z c.free.result) (c.advance-second.ensures.tree ∙ c.advance-first.ensures.tree) c.free.ensures.says in
+    let again = subst (λ (d : TreeView). LeavesAdvance d.layout.workers once twice c.advance-second.result)
+    c.advance-first.ensures.tree c.advance-second.ensures.says in
+    let collects = subst (λ (d : TreeView). LeavesCollect d.layout.nodes twice z c.free.result)
+    (c.advance-second.ensures.tree ∙ c.advance-first.ensures.tree) c.free.ensures.says in
     let r : Relieves b w z = record {
       moved = c.advance-first.result;
       once = once;
@@ -34,4 +36,5 @@ returns-clause-did g c =
       between = c.know_run.ensures.between;
       between_again = c.know_run-2.ensures.between;
     } in
-    subst (λ (behind : Option ℕ). IsRelieved b.layout w z behind) (sym c.behind_of.ensures) (is_relieved b w z r seen c.requires.none c.requires.free)
+    subst (λ (behind : Option ℕ). IsRelieved b.layout w z behind) (sym c.behind_of.ensures)
+    (is_relieved b w z r seen c.requires.none c.requires.free)

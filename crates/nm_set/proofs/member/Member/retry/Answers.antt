@@ -15,7 +15,12 @@ returns-clause-says g c =
     let z = c.ask_with_retries.new.self.worker in
     let r = c.ask_with_retries.result in
     let some = c.if-options-eq0.false in
-    let rest : AnswersIn b h c.args.op c.args.key ((h.rounds - 1) + 1) m z r = subst (λ (g : Options). AnswersIn b g c.args.op c.args.key (g.rounds + 1) m z r) c.without_one.ensures c.ask_with_retries.ensures.says in
+    let rest : AnswersIn b h c.args.op c.args.key ((h.rounds - 1) + 1) m z r = subst
+    (λ (g : Options). AnswersIn b g c.args.op c.args.key (g.rounds + 1) m z r) c.without_one.ensures
+    c.ask_with_retries.ensures.says in
     λ w first.
-    let busy = subst (λ (q : Result Bool CallFault). Answers c.args.op c.args.key (round_bound h.tries b.layout) h.tries w m q) (c.if-not-is_busy.ensures.yes refl) first in
-    subst (λ (n : ℕ). AnswersIn b h c.args.op c.args.key n w z r) (omega (arith, some)) (answers_at_last b h c.args.op c.args.key 1 ((h.rounds - 1) + 1) w m z r (omega arith) (was_busy b h c.args.op c.args.key w m busy) rest)
+    let busy = subst (λ (q : Result Bool CallFault). Answers c.args.op c.args.key (round_bound h.tries b.layout)
+    h.tries w m q) (c.if-not-is_busy.ensures.yes refl) first in
+    subst (λ (n : ℕ). AnswersIn b h c.args.op c.args.key n w z r) (omega (arith, some))
+    (answers_at_last b h c.args.op c.args.key 1 ((h.rounds - 1) + 1) w m z r (omega arith)
+    (was_busy b h c.args.op c.args.key w m busy) rest)

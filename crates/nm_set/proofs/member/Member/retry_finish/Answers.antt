@@ -12,11 +12,16 @@ loop-round-preserved g c =
     let at = c.loop-round in
     let b = c.args.self.now.tree in
     let h = c.args.options.now in
-    let P : TreeView → Type 0 = λ d. SaysFinish d.layout h.tries at.self.worker c.finish.new.self.worker (Err c.in_default.field-0) in
-    let once = finishes_once b h at.self.worker c.finish.new.self.worker (Err c.in_default.field-0) at.invariant.yet.0 c.in_default.ensures.says.alone c.in_default.ensures.says.frees (subst P at.invariant.tree c.in_default.ensures.says.says) in
+    let P : TreeView → Type 0 = λ d. SaysFinish d.layout h.tries at.self.worker c.finish.new.self.worker
+    (Err c.in_default.field-0) in
+    let once = finishes_once b h at.self.worker c.finish.new.self.worker (Err c.in_default.field-0)
+    at.invariant.yet.0 c.in_default.ensures.says.alone c.in_default.ensures.says.frees
+    (subst P at.invariant.tree c.in_default.ensures.says.says) in
     record {
       tree = c.finish.ensures.tree ∙ at.invariant.tree;
-      yet = called_again b h at._round c.args.self.now.worker at.self.worker c.finish.new.self.worker at.invariant.yet (subst (λ (f : CallFault). FinishesIn b h 1 at.self.worker c.finish.new.self.worker (Err f)) (finish_err b h 1 at.self.worker c.finish.new.self.worker c.in_default.field-0 once) once);
+      yet = called_again b h at._round c.args.self.now.worker at.self.worker c.finish.new.self.worker
+          at.invariant.yet (subst (λ (f : CallFault). FinishesIn b h 1 at.self.worker c.finish.new.self.worker (Err f))
+          (finish_err b h 1 at.self.worker c.finish.new.self.worker c.in_default.field-0 once) once);
     }
 
 pub returns-in-Ok-clause-tree : goal.returns-in-Ok-clause-tree
@@ -30,8 +35,10 @@ returns-in-Ok-clause-says g c =
     let z = c.finish.new.self.worker in
     let r : Result Bool CallFault = Ok c.in-Ok.answer in
     let P : TreeView → Type 0 = λ d. SaysFinish d.layout h.tries at.self.worker z r in
-    let once = finishes_once b h at.self.worker z r at.invariant.yet.0 c.in-Ok.ensures.says.alone c.in-Ok.ensures.says.frees (subst P at.invariant.tree c.in-Ok.ensures.says.says) in
-    finishes_more b h (at._round + 1) (h.rounds + 1) c.args.self.now.worker z r (omega (arith, c.loop-round-test.true)) (at.invariant.yet.1 1 z r once)
+    let once = finishes_once b h at.self.worker z r at.invariant.yet.0 c.in-Ok.ensures.says.alone
+    c.in-Ok.ensures.says.frees (subst P at.invariant.tree c.in-Ok.ensures.says.says) in
+    finishes_more b h (at._round + 1) (h.rounds + 1) c.args.self.now.worker z r
+    (omega (arith, c.loop-round-test.true)) (at.invariant.yet.1 1 z r once)
 
 pub returns-clause-says : goal.returns-clause-says
 returns-clause-says g c =
@@ -42,5 +49,7 @@ returns-clause-says g c =
     let r = c.finish-2.result in
     let within = at.auto._round-end in
     let P : TreeView → Type 0 = λ d. SaysFinish d.layout h.tries at.self.worker z r in
-    let once = finishes_once b h at.self.worker z r at.invariant.yet.0 c.finish-2.ensures.says.alone c.finish-2.ensures.says.frees (subst P at.invariant.tree c.finish-2.ensures.says.says) in
-    finishes_more b h (at._round + 1) (h.rounds + 1) c.args.self.now.worker z r (omega (arith, within)) (at.invariant.yet.1 1 z r once)
+    let once = finishes_once b h at.self.worker z r at.invariant.yet.0 c.finish-2.ensures.says.alone
+    c.finish-2.ensures.says.frees (subst P at.invariant.tree c.finish-2.ensures.says.says) in
+    finishes_more b h (at._round + 1) (h.rounds + 1) c.args.self.now.worker z r (omega (arith, within))
+    (at.invariant.yet.1 1 z r once)

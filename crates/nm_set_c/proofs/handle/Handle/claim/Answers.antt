@@ -6,7 +6,8 @@ use Rattle.nm_set_c.proofs.handle.Handle.claim.Goals as goal
 
 pub returns-in_default-clause-refused : goal.returns-in_default-clause-refused
 returns-in_default-clause-refused c =
-    refused_used c.args.self.now c.enter.new.self c.in_default.ensures.refused c.enter.ensures.place c.enter.ensures.used
+    refused_used c.args.self.now c.enter.new.self c.in_default.ensures.refused c.enter.ensures.place
+    c.enter.ensures.used
 
 pub returns-in-Some-take-clause-claimed : goal.returns-in-Some-take-clause-claimed
 returns-in-Some-take-clause-claimed c = is_open c.args.self.now c.in-Some-take.owner.value

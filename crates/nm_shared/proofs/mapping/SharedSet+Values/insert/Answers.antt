@@ -17,5 +17,10 @@ returns-in-Ok-clause-says c = said_by c.args.self.now c.args.caller _ _ _ c.in-O
     (change_keeps Insert c.deref_mut.result.now.tree c.args.options.now c.args.key _ _ _ c.insert-told.ensures.says)
     (λ b w z. PutsValue b c.args.options.now c.args.key c.args.value c.insert-told.new.found w z c.insert-told.result)
     c.give_back.result
-    (record { says = c.insert-told.ensures.says; puts = c.insert-told.ensures.puts; finds = c.insert-told.ensures.finds })
+    (record {
+      says = c.insert-told.ensures.says;
+      puts = c.insert-told.ensures.puts;
+      finds =
+          c.insert-told.ensures.finds;
+    })
     c.give_back.ensures.visits c.give_back.ensures.note

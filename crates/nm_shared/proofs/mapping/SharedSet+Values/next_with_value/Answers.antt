@@ -7,14 +7,17 @@ pub give_back-requires : goal.give_back-requires
 give_back-requires c = record {
   back = back_after c.args.self.now c.args.caller _ _ _ c.in-Ok.loan
       (c.deref_mut.ensures.value ∙ c.worker.view_is) c.in-Ok.ensures.lent c.next_with_value-told.ensures.tree
-      (next_keeps c.deref_mut.result.now.tree.layout c.args.options.now.tries c.args.key _ _ _ c.next_with_value-told.ensures.says);
+      (next_keeps c.deref_mut.result.now.tree.layout c.args.options.now.tries c.args.key _ _ _
+      c.next_with_value-told.ensures.says);
 }
 
 pub returns-in-Ok-clause-says : goal.returns-in-Ok-clause-says
 returns-in-Ok-clause-says c = said_by c.args.self.now c.args.caller _ _ _ c.in-Ok.loan
     (c.deref_mut.ensures.value ∙ c.worker.view_is) c.in-Ok.ensures.lent c.next_with_value-told.ensures.tree
-    (next_keeps c.deref_mut.result.now.tree.layout c.args.options.now.tries c.args.key _ _ _ c.next_with_value-told.ensures.says)
-    (λ b w z. NextEntry b.layout c.args.options.now.tries c.args.key c.next_with_value-told.new.value w z c.next_with_value-told.result)
+    (next_keeps c.deref_mut.result.now.tree.layout c.args.options.now.tries c.args.key _ _ _
+    c.next_with_value-told.ensures.says)
+    (λ b w z. NextEntry b.layout c.args.options.now.tries c.args.key c.next_with_value-told.new.value w z
+    c.next_with_value-told.result)
     c.give_back.result
     (record { says = c.next_with_value-told.ensures.says; finds = c.next_with_value-told.ensures.finds })
     c.give_back.ensures.visits c.give_back.ensures.note

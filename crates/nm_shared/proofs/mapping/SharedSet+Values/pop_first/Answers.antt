@@ -17,5 +17,10 @@ returns-in-Ok-clause-says c = said_by c.args.self.now c.args.caller _ _ _ c.in-O
     (pop_keeps IsKey ◌<◌ c.deref_mut.result.now.tree c.args.options.now _ _ _ c.pop_first-told.ensures.says)
     (λ b w z. PopsEntry IsKey ◌<◌ b c.args.options.now c.pop_first-told.new.taken w z c.pop_first-told.result)
     c.give_back.result
-    (record { says = c.pop_first-told.ensures.says; takes = c.pop_first-told.ensures.takes; frees = c.pop_first-told.ensures.frees })
+    (record {
+      says = c.pop_first-told.ensures.says;
+      takes = c.pop_first-told.ensures.takes;
+      frees =
+          c.pop_first-told.ensures.frees;
+    })
     c.give_back.ensures.visits c.give_back.ensures.note

@@ -8,14 +8,22 @@ pub give_back-requires : goal.give_back-requires
 give_back-requires c = record {
   back = back_after c.args.self.now c.args.caller _ _ _ c.in-Ok.loan
       (c.deref_mut.ensures.value ∙ c.worker.view_is) c.in-Ok.ensures.lent c.pop_first_below-told.ensures.tree
-      (pop_keeps (λ j. IsKey j × (j < c.args.below)) ◌<◌ c.deref_mut.result.now.tree c.args.options.now _ _ _ c.pop_first_below-told.ensures.says);
+      (pop_keeps (λ j. IsKey j × (j < c.args.below)) ◌<◌ c.deref_mut.result.now.tree c.args.options.now _ _ _
+      c.pop_first_below-told.ensures.says);
 }
 
 pub returns-in-Ok-clause-says : goal.returns-in-Ok-clause-says
 returns-in-Ok-clause-says c = said_by c.args.self.now c.args.caller _ _ _ c.in-Ok.loan
     (c.deref_mut.ensures.value ∙ c.worker.view_is) c.in-Ok.ensures.lent c.pop_first_below-told.ensures.tree
-    (pop_keeps (λ j. IsKey j × (j < c.args.below)) ◌<◌ c.deref_mut.result.now.tree c.args.options.now _ _ _ c.pop_first_below-told.ensures.says)
-    (λ b w z. PopsEntry (λ j. IsKey j × (j < c.args.below)) ◌<◌ b c.args.options.now c.pop_first_below-told.new.taken w z c.pop_first_below-told.result)
+    (pop_keeps (λ j. IsKey j × (j < c.args.below)) ◌<◌ c.deref_mut.result.now.tree c.args.options.now _ _ _
+    c.pop_first_below-told.ensures.says)
+    (λ b w z. PopsEntry (λ j. IsKey j × (j < c.args.below)) ◌<◌ b c.args.options.now c.pop_first_below-told.new.taken
+    w z c.pop_first_below-told.result)
     c.give_back.result
-    (record { says = c.pop_first_below-told.ensures.says; takes = c.pop_first_below-told.ensures.takes; frees = c.pop_first_below-told.ensures.frees })
+    (record {
+      says = c.pop_first_below-told.ensures.says;
+      takes = c.pop_first_below-told.ensures.takes;
+      frees =
+          c.pop_first_below-told.ensures.frees;
+    })
     c.give_back.ensures.visits c.give_back.ensures.note

@@ -9,14 +9,23 @@ pub give_back-requires : goal.give_back-requires
 give_back-requires c = record {
   back = back_after c.args.self.now c.args.caller _ _ _ c.in-Ok.loan
       (c.deref_mut.ensures.value ∙ c.worker.view_is) c.in-Ok.ensures.lent c.scan_back_with_values-told.ensures.tree
-      (scan_keeps Left c.deref_mut.result.now.tree.layout c.args.options.now.tries c.args.from c.args.least (keys_of c.args.out.now) (keys_of c.scan_back_with_values-told.new.out) _ _ _ c.scan_back_with_values-told.ensures.says);
+      (scan_keeps Left c.deref_mut.result.now.tree.layout c.args.options.now.tries c.args.from c.args.least
+      (keys_of c.args.out.now) (keys_of c.scan_back_with_values-told.new.out) _ _ _
+      c.scan_back_with_values-told.ensures.says);
 }
 
 pub returns-in-Ok-clause-says : goal.returns-in-Ok-clause-says
 returns-in-Ok-clause-says c = said_by c.args.self.now c.args.caller _ _ _ c.in-Ok.loan
     (c.deref_mut.ensures.value ∙ c.worker.view_is) c.in-Ok.ensures.lent c.scan_back_with_values-told.ensures.tree
-    (scan_keeps Left c.deref_mut.result.now.tree.layout c.args.options.now.tries c.args.from c.args.least (keys_of c.args.out.now) (keys_of c.scan_back_with_values-told.new.out) _ _ _ c.scan_back_with_values-told.ensures.says)
-    (λ b w z. ScansEntries Left b.layout c.args.options.now.tries c.args.from c.args.least c.args.out.now c.scan_back_with_values-told.new.out w z c.scan_back_with_values-told.result)
+    (scan_keeps Left c.deref_mut.result.now.tree.layout c.args.options.now.tries c.args.from c.args.least
+    (keys_of c.args.out.now) (keys_of c.scan_back_with_values-told.new.out) _ _ _
+    c.scan_back_with_values-told.ensures.says)
+    (λ b w z. ScansEntries Left b.layout c.args.options.now.tries c.args.from c.args.least c.args.out.now
+    c.scan_back_with_values-told.new.out w z c.scan_back_with_values-told.result)
     c.give_back.result
-    (record { says = c.scan_back_with_values-told.ensures.says; finds = c.scan_back_with_values-told.ensures.finds; kept = c.scan_back_with_values-told.ensures.kept })
+    (record {
+      says = c.scan_back_with_values-told.ensures.says;
+      finds = c.scan_back_with_values-told.ensures.finds;
+      kept = c.scan_back_with_values-told.ensures.kept;
+    })
     c.give_back.ensures.visits c.give_back.ensures.note

@@ -11,10 +11,13 @@ give_back-requires c =
     let m : MemberView = c.deref_mut.result.now in
     let same : m ≡ c.in-Ok.worker = c.deref_mut.ensures.value ∙ c.worker.view_is in
     let lent : IsBorrowed c.args.self.now c.args.caller m c.in-Ok.loan =
-    subst (λ (n : MemberView). IsBorrowed c.args.self.now c.args.caller n c.in-Ok.loan) (sym same) c.in-Ok.ensures.lent in
+    subst (λ (n : MemberView). IsBorrowed c.args.self.now c.args.caller n c.in-Ok.loan) (sym same)
+    c.in-Ok.ensures.lent in
     record {
-      back = may_come_back c.args.self.now c.args.caller m c.pop_last_from-told.new.self c.in-Ok.loan lent c.pop_last_from-told.ensures.tree
-          (pop_keeps (λ j. IsKey j × (c.args.from ≤ j)) (λ j key. key < j) m.tree c.args.options.now m.worker c.pop_last_from-told.new.self.worker c.pop_last_from-told.result c.pop_last_from-told.ensures.says);
+      back = may_come_back c.args.self.now c.args.caller m c.pop_last_from-told.new.self c.in-Ok.loan lent
+          c.pop_last_from-told.ensures.tree
+          (pop_keeps (λ j. IsKey j × (c.args.from ≤ j)) (λ j key. key < j) m.tree c.args.options.now m.worker
+          c.pop_last_from-told.new.self.worker c.pop_last_from-told.result c.pop_last_from-told.ensures.says);
     }
 
 pub returns-in-Ok-clause-says : goal.returns-in-Ok-clause-says
@@ -22,8 +25,12 @@ returns-in-Ok-clause-says c =
     let m : MemberView = c.deref_mut.result.now in
     let same : m ≡ c.in-Ok.worker = c.deref_mut.ensures.value ∙ c.worker.view_is in
     let lent : IsBorrowed c.args.self.now c.args.caller m c.in-Ok.loan =
-    subst (λ (n : MemberView). IsBorrowed c.args.self.now c.args.caller n c.in-Ok.loan) (sym same) c.in-Ok.ensures.lent in
-    says_visited (λ b w z. SaysManagedPopOf (λ j. IsKey j × (c.args.from ≤ j)) (λ j key. key < j) b c.args.options.now w z c.pop_last_from-told.result) c.args.self.now c.args.caller c.give_back.result
+    subst (λ (n : MemberView). IsBorrowed c.args.self.now c.args.caller n c.in-Ok.loan) (sym same)
+    c.in-Ok.ensures.lent in
+    says_visited (λ b w z. SaysManagedPopOf (λ j. IsKey j × (c.args.from ≤ j)) (λ j key. key < j) b
+    c.args.options.now w z c.pop_last_from-told.result) c.args.self.now c.args.caller c.give_back.result
     m c.pop_last_from-told.new.self c.in-Ok.loan lent c.pop_last_from-told.ensures.tree
-    (pop_keeps (λ j. IsKey j × (c.args.from ≤ j)) (λ j key. key < j) m.tree c.args.options.now m.worker c.pop_last_from-told.new.self.worker c.pop_last_from-told.result c.pop_last_from-told.ensures.says) c.pop_last_from-told.ensures.says
+    (pop_keeps (λ j. IsKey j × (c.args.from ≤ j)) (λ j key. key < j) m.tree c.args.options.now m.worker
+    c.pop_last_from-told.new.self.worker c.pop_last_from-told.result c.pop_last_from-told.ensures.says)
+    c.pop_last_from-told.ensures.says
     c.give_back.ensures.visits c.give_back.ensures.note

@@ -10,10 +10,13 @@ give_back-requires g c =
     let m : MemberView = c.deref_mut.result.now in
     let same : m ≡ c.in-Ok.worker = c.deref_mut.ensures.value ∙ c.worker.view_is in
     let lent : IsBorrowed c.args.self.now c.args.caller m c.in-Ok.loan =
-    subst (λ (n : MemberView). IsBorrowed c.args.self.now c.args.caller n c.in-Ok.loan) (sym same) c.in-Ok.ensures.lent in
+    subst (λ (n : MemberView). IsBorrowed c.args.self.now c.args.caller n c.in-Ok.loan) (sym same)
+    c.in-Ok.ensures.lent in
     record {
-      back = may_come_back c.args.self.now c.args.caller m c.next-told.new.self c.in-Ok.loan lent c.next-told.ensures.tree
-          (next_keeps m.tree.layout c.args.options.now.tries c.args.key m.worker c.next-told.new.self.worker c.next-told.result c.next-told.ensures.says);
+      back = may_come_back c.args.self.now c.args.caller m c.next-told.new.self c.in-Ok.loan lent
+          c.next-told.ensures.tree
+          (next_keeps m.tree.layout c.args.options.now.tries c.args.key m.worker c.next-told.new.self.worker
+          c.next-told.result c.next-told.ensures.says);
     }
 
 pub returns-in-Ok-clause-says : goal.returns-in-Ok-clause-says
@@ -21,8 +24,11 @@ returns-in-Ok-clause-says g c =
     let m : MemberView = c.deref_mut.result.now in
     let same : m ≡ c.in-Ok.worker = c.deref_mut.ensures.value ∙ c.worker.view_is in
     let lent : IsBorrowed c.args.self.now c.args.caller m c.in-Ok.loan =
-    subst (λ (n : MemberView). IsBorrowed c.args.self.now c.args.caller n c.in-Ok.loan) (sym same) c.in-Ok.ensures.lent in
-    says_visited (λ b w z. AskedNext b.layout c.args.options.now.tries c.args.key w z c.next-told.result) c.args.self.now c.args.caller c.give_back.result
+    subst (λ (n : MemberView). IsBorrowed c.args.self.now c.args.caller n c.in-Ok.loan) (sym same)
+    c.in-Ok.ensures.lent in
+    says_visited (λ b w z. AskedNext b.layout c.args.options.now.tries c.args.key w z c.next-told.result)
+    c.args.self.now c.args.caller c.give_back.result
     m c.next-told.new.self c.in-Ok.loan lent c.next-told.ensures.tree
-    (next_keeps m.tree.layout c.args.options.now.tries c.args.key m.worker c.next-told.new.self.worker c.next-told.result c.next-told.ensures.says) c.next-told.ensures.says
+    (next_keeps m.tree.layout c.args.options.now.tries c.args.key m.worker c.next-told.new.self.worker
+    c.next-told.result c.next-told.ensures.says) c.next-told.ensures.says
     c.give_back.ensures.visits c.give_back.ensures.note

@@ -11,10 +11,14 @@ give_back-requires g c =
     let m : MemberView = c.deref_mut.result.now in
     let same : m ≡ c.in-Ok.worker = c.deref_mut.ensures.value ∙ c.worker.view_is in
     let lent : IsBorrowed c.args.self.now c.args.caller m c.in-Ok.loan =
-    subst (λ (n : MemberView). IsBorrowed c.args.self.now c.args.caller n c.in-Ok.loan) (sym same) c.in-Ok.ensures.lent in
+    subst (λ (n : MemberView). IsBorrowed c.args.self.now c.args.caller n c.in-Ok.loan) (sym same)
+    c.in-Ok.ensures.lent in
     record {
-      back = may_come_back c.args.self.now c.args.caller m c.scan_back-told.new.self c.in-Ok.loan lent c.scan_back-told.ensures.tree
-          (scan_keeps Left m.tree.layout c.args.options.now.tries c.args.from c.args.least c.args.out.now c.scan_back-told.new.out m.worker c.scan_back-told.new.self.worker c.scan_back-told.result c.scan_back-told.ensures.says);
+      back = may_come_back c.args.self.now c.args.caller m c.scan_back-told.new.self c.in-Ok.loan lent
+          c.scan_back-told.ensures.tree
+          (scan_keeps Left m.tree.layout c.args.options.now.tries c.args.from c.args.least c.args.out.now
+          c.scan_back-told.new.out m.worker c.scan_back-told.new.self.worker c.scan_back-told.result
+          c.scan_back-told.ensures.says);
     }
 
 pub returns-in-Ok-clause-says : goal.returns-in-Ok-clause-says
@@ -22,8 +26,12 @@ returns-in-Ok-clause-says g c =
     let m : MemberView = c.deref_mut.result.now in
     let same : m ≡ c.in-Ok.worker = c.deref_mut.ensures.value ∙ c.worker.view_is in
     let lent : IsBorrowed c.args.self.now c.args.caller m c.in-Ok.loan =
-    subst (λ (n : MemberView). IsBorrowed c.args.self.now c.args.caller n c.in-Ok.loan) (sym same) c.in-Ok.ensures.lent in
-    says_visited (λ b w z. AskedScan Left b.layout c.args.options.now.tries c.args.from c.args.least c.args.out.now c.scan_back-told.new.out w z c.scan_back-told.result) c.args.self.now c.args.caller c.give_back.result
+    subst (λ (n : MemberView). IsBorrowed c.args.self.now c.args.caller n c.in-Ok.loan) (sym same)
+    c.in-Ok.ensures.lent in
+    says_visited (λ b w z. AskedScan Left b.layout c.args.options.now.tries c.args.from c.args.least c.args.out.now
+    c.scan_back-told.new.out w z c.scan_back-told.result) c.args.self.now c.args.caller c.give_back.result
     m c.scan_back-told.new.self c.in-Ok.loan lent c.scan_back-told.ensures.tree
-    (scan_keeps Left m.tree.layout c.args.options.now.tries c.args.from c.args.least c.args.out.now c.scan_back-told.new.out m.worker c.scan_back-told.new.self.worker c.scan_back-told.result c.scan_back-told.ensures.says) c.scan_back-told.ensures.says
+    (scan_keeps Left m.tree.layout c.args.options.now.tries c.args.from c.args.least c.args.out.now
+    c.scan_back-told.new.out m.worker c.scan_back-told.new.self.worker c.scan_back-told.result
+    c.scan_back-told.ensures.says) c.scan_back-told.ensures.says
     c.give_back.ensures.visits c.give_back.ensures.note

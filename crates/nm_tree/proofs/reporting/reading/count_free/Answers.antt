@@ -10,7 +10,8 @@ loop-slot-init c = record {
   least = omega arith;
   few = omega arith;
   counted = λ e. let size = (fits c.args.layout c.args.words.now.core e).pool in let least = e.fits.least in
-      sym (none_below (end_of c.args.layout c.args.words.now.core e).memory.pool 6 (omega arith) (omega (arith, size, least)) (pooled_above c.args.layout c.args.words.now.core e));
+      sym (none_below (end_of c.args.layout c.args.words.now.core e).memory.pool 6 (omega arith)
+      (omega (arith, size, least)) (pooled_above c.args.layout c.args.words.now.core e));
 }
 
 pub loop-slot-preserved : goal.loop-slot-preserved
@@ -23,13 +24,19 @@ loop-slot-preserved c = record {
   counted = λ e. let size = (fits c.args.layout c.args.words.now.core e).pool in
       let test = c.loop-slot-test.true in
       let nodes = c.nodes-nodes.ensures.nodes in
-      let below : c.loop-slot.slot < length (end_of c.args.layout c.args.words.now.core e).memory.pool = omega (arith, size, test, nodes) in
+      let below : c.loop-slot.slot < length (end_of c.args.layout c.args.words.now.core e).memory.pool = omega
+      (arith, size, test, nodes) in
       elim c.if-is_free.branch [
-        | then-is_free w ↦ counted_yes (end_of c.args.layout c.args.words.now.core e).memory.pool c.loop-slot.slot c.loop-slot.free c.if-is_free.free c.is_free.result below (c.is_free.ensures e) w.if-is_free.true w.free-is (c.loop-slot.invariant.counted e)
-        | else-is_free w ↦ counted_no (end_of c.args.layout c.args.words.now.core e).memory.pool c.loop-slot.slot c.loop-slot.free c.if-is_free.free c.is_free.result below (c.is_free.ensures e) w.if-is_free.false w.free-is (c.loop-slot.invariant.counted e)
+        | then-is_free w ↦ counted_yes (end_of c.args.layout c.args.words.now.core e).memory.pool c.loop-slot.slot
+            c.loop-slot.free c.if-is_free.free c.is_free.result below (c.is_free.ensures e) w.if-is_free.true w.free-is
+            (c.loop-slot.invariant.counted e)
+        | else-is_free w ↦ counted_no (end_of c.args.layout c.args.words.now.core e).memory.pool c.loop-slot.slot
+            c.loop-slot.free c.if-is_free.free c.is_free.result below (c.is_free.ensures e) w.if-is_free.false
+            w.free-is (c.loop-slot.invariant.counted e)
       ];
 }
 
 pub returns : goal.returns
 returns c = λ e. let size = (fits c.args.layout c.args.words.now.core e).pool in
-    all_counted (end_of c.args.layout c.args.words.now.core e).memory.pool c.loop-slot.slot c.loop-slot.free (omega (arith, size, c.loop-slot-test.false, c.nodes-nodes.ensures.nodes)) (c.loop-slot.invariant.counted e)
+    all_counted (end_of c.args.layout c.args.words.now.core e).memory.pool c.loop-slot.slot c.loop-slot.free
+    (omega (arith, size, c.loop-slot-test.false, c.nodes-nodes.ensures.nodes)) (c.loop-slot.invariant.counted e)

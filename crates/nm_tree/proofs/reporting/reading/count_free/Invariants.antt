@@ -8,5 +8,6 @@ abbrev pub invariant-loop-slot : goal.invariant-loop-slot
 invariant-loop-slot l = record {
   least : 6 ≤ l.slot;
   few : l.free ≤ l.slot;
-  counted : (e : IsEndOf l.layout l.words.core) → l.free ≡ count_by (λ free. free) (take l.slot (end_of l.layout l.words.core e).memory.pool);
+  counted : (e : IsEndOf l.layout l.words.core) → l.free
+      ≡ count_by (λ free. free) (take l.slot (end_of l.layout l.words.core e).memory.pool);
 }

@@ -10,8 +10,10 @@ use Rattle.nm_tree.proofs.reporting.walk.walk.Given as goal
 -- were visited, and one; and there is room for all keys, leaves and parts
 abbrev pub invariant-loop-part : goal.invariant-loop-part
 invariant-loop-part l = record {
-  walk : (e : IsEndOf l.layout l.words.core) → IsWalk l.layout.nodes (end_of l.layout l.words.core e).memory l.visited l.found.items l.waiting.items;
-  leaves : (e : IsEndOf l.layout l.words.core) → AreLeavesOf l.layout (end_of l.layout l.words.core e).memory l.found.items l.leaves.items;
+  walk : (e : IsEndOf l.layout l.words.core) → IsWalk l.layout.nodes (end_of l.layout l.words.core e).memory
+      l.visited l.found.items l.waiting.items;
+  leaves : (e : IsEndOf l.layout l.words.core) → AreLeavesOf l.layout (end_of l.layout l.words.core e).memory
+      l.found.items l.leaves.items;
   parts : (e : IsEndOf l.layout l.words.core) → AreReached (end_of l.layout l.words.core e).memory l.waiting.items;
   stack : length l.waiting.items ≤ l.visited + 1;
   key_room : l.layout.nodes ≤ vec_capacity l.found;

@@ -26,13 +26,29 @@ as_they_were c =
 pub invariant_of-result : goal.invariant_of-result
 invariant_of-result c =
     let w = c.worker.inside in
-    let P : List HeldQueue → Type 0 = λ l. IsWorker (record { pass = w.pass; queues = l; pending = pending_in w.standing; held = held_in w.standing; fit = w.workspace.value.placement }) w.home in (
+    let P : List HeldQueue → Type 0 = λ l. IsWorker
+    (record {
+      pass = w.pass;
+      queues = l;
+      pending = pending_in w.standing;
+      held = held_in w.standing;
+      fit =
+          w.workspace.value.placement;
+    }) w.home in (
       subst P (sym (as_they_were c)) c.worker.invariant,
-      (let same = ap (λ (w : WorkerView). w.pass.view.layout.workers) c.worker.view_is in omega (arith, same, c.requires.room, c.take_over.ensures.capacity)),
+      (let same = ap (λ (w : WorkerView). w.pass.view.layout.workers) c.worker.view_is in
+          omega (arith, same, c.requires.room, c.take_over.ensures.capacity)),
     )
 
 pub returns : goal.returns
 returns c =
     let w = c.worker.inside in
-    ap (λ (l : List HeldQueue). record { pass = w.pass; queues = l; pending = pending_in w.standing; held = held_in w.standing; fit = w.workspace.value.placement }) (as_they_were c)
+    ap (λ (l : List HeldQueue). record {
+      pass = w.pass;
+      queues = l;
+      pending = pending_in w.standing;
+      held = held_in
+          w.standing;
+      fit = w.workspace.value.placement;
+    }) (as_they_were c)
     ∙ c.worker.view_is

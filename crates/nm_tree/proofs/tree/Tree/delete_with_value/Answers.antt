@@ -16,36 +16,52 @@ use Rattle.nm_tree.proofs.Untouched.{delete_pending}
 use Rattle.nm_tree.proofs.tree.Tree.delete_with_value.Goals as goal
 
 pub returns-in-Pending-clause-leaves : goal.returns-in-Pending-clause-leaves
-returns-in-Pending-clause-leaves c = delete_pending c.args.self.now.layout c.args.tries c.args.key c.args.worker.now (search rules) c.requires.free
+returns-in-Pending-clause-leaves c = delete_pending c.args.self.now.layout c.args.tries c.args.key c.args.worker.now
+    (search rules) c.requires.free
 
 pub returns-in-Pending-clause-says : goal.returns-in-Pending-clause-says
 returns-in-Pending-clause-says c = (returns-in-Pending-clause-leaves c).says
 
 pub index_mut-own-requires : goal.index_mut-own-requires
-index_mut-own-requires c = omega (arith, stands_within c.worker.inside.home _ c.worker.inside.queues.items c.worker.invariant.own, c.worker.inside.queues.ok.0)
+index_mut-own-requires c = omega (
+  arith,
+  stands_within c.worker.inside.home _ c.worker.inside.queues.items
+      c.worker.invariant.own,
+  c.worker.inside.queues.ok.0,
+)
 
 pub delete-requires-clause-rests : goal.delete-requires-clause-rests
-delete-requires-clause-rests c = rests_in c.worker.inside.pass c.worker.inside.standing (resting_in c.worker.inside.standing (ap (λ (w : WorkerView). w.held) c.worker.view_is ∙ c.requires.free) c.in_default.not-Pending) c.worker.invariant.between.stands
+delete-requires-clause-rests c = rests_in c.worker.inside.pass c.worker.inside.standing
+    (resting_in c.worker.inside.standing (ap (λ (w : WorkerView). w.held) c.worker.view_is ∙ c.requires.free)
+    c.in_default.not-Pending) c.worker.invariant.between.stands
 
 pub delete-requires-clause-kept : goal.delete-requires-clause-kept
 delete-requires-clause-kept c = kept_there _ c.worker.inside.home _ c.worker.invariant c.index_mut-own.ensures.value
 
 pub invariant_of-worker : goal.invariant_of-worker
 invariant_of-worker c =
-    changed _ c.worker.inside.home c.delete.new.pass _ _ c.delete.new.held c.worker.invariant c.delete.ensures.after.same c.delete.ensures.kept
-    c.delete.ensures.after.ledgers.others (λ slot. ap (λ ds. get ds slot) c.delete.ensures.after.private) (rests_as c.delete.new.pass c.worker.inside.standing (resting_in c.worker.inside.standing (ap (λ (w : WorkerView). w.held) c.worker.view_is ∙ c.requires.free) c.in_default.not-Pending) (rw c.in-Ok-Done.field-0-is at c.in-Ok-Done.ensures.after.stands))
+    changed _ c.worker.inside.home c.delete.new.pass _ _ c.delete.new.held c.worker.invariant
+    c.delete.ensures.after.same c.delete.ensures.kept
+    c.delete.ensures.after.ledgers.others (λ slot. ap (λ ds. get ds slot) c.delete.ensures.after.private)
+    (rests_as c.delete.new.pass c.worker.inside.standing
+    (resting_in c.worker.inside.standing (ap (λ (w : WorkerView). w.held) c.worker.view_is ∙ c.requires.free)
+    c.in_default.not-Pending) (rw c.in-Ok-Done.field-0-is at c.in-Ok-Done.ensures.after.stands))
     (_, c.index_mut-own.ensures.value, c.delete.ensures.blocks)
 
 pub returns-in-Ok-Done-clause-says : goal.returns-in-Ok-Done-clause-says
 returns-in-Ok-Done-clause-says c = record {
   same = search rules;
   past = search (rules, seen_all);
-  told = rw (← c.worker.view_is) (free_in c.worker.inside.standing (resting_in c.worker.inside.standing (ap (λ (w : WorkerView). w.held) c.worker.view_is ∙ c.requires.free) c.in_default.not-Pending));
+  told = rw (← c.worker.view_is) (free_in c.worker.inside.standing
+      (resting_in c.worker.inside.standing (ap (λ (w : WorkerView). w.held) c.worker.view_is ∙ c.requires.free)
+      c.in_default.not-Pending));
   moment = search rules;
   won = search rules;
   steps = search rules;
-  queues = others_kept _ _ c.worker.inside.home c.delete.new.pass c.delete.new.held c.worker.view_is c.worker.invariant.own c.delete.ensures.kept.own c.delete.ensures.after.same;
-  blocks = rw (← c.worker.view_is) (room_after c.worker.inside.home _ c.worker.inside.queues.items _ c.delete.new.held c.worker.invariant.own c.index_mut-own.ensures.value c.delete.ensures.blocks);
+  queues = others_kept _ _ c.worker.inside.home c.delete.new.pass c.delete.new.held c.worker.view_is
+      c.worker.invariant.own c.delete.ensures.kept.own c.delete.ensures.after.same;
+  blocks = rw (← c.worker.view_is) (room_after c.worker.inside.home _ c.worker.inside.queues.items _
+      c.delete.new.held c.worker.invariant.own c.index_mut-own.ensures.value c.delete.ensures.blocks);
   held = search rules;
   fit = search rules;
 }
@@ -54,8 +70,21 @@ pub returns-in-Ok-Done-clause-leaves : goal.returns-in-Ok-Done-clause-leaves
 returns-in-Ok-Done-clause-leaves c = record {
   says = returns-in-Ok-Done-clause-says c;
   did = (
-      deleted_so _ _ c.args.tries c.args.key _ _ (record { pass = c.delete.new.pass; queues = slice_set c.worker.inside.queues.items c.worker.inside.home c.delete.new.held; pending = pending_in c.worker.inside.standing; held = held_in c.worker.inside.standing; fit = c.delete.new.workspace.placement })
-      (Ok c.in-Ok-Done.answer) c.self.view_is c.worker.view_is (free_in c.worker.inside.standing (resting_in c.worker.inside.standing (ap (λ (w : WorkerView). w.held) c.worker.view_is ∙ c.requires.free) c.in_default.not-Pending), (let P : Deletion → Type 0 = λ m. DeleteDid c.self.inside.shared.layout c.args.tries c.args.key c.worker.inside.pass.view.log c.delete.new.pass.view.log (Ok m) in subst P c.in-Ok-Done.field-0-is c.in-Ok-Done.ensures.after.did))
+      deleted_so _ _ c.args.tries c.args.key _ _ (record {
+        pass = c.delete.new.pass;
+        queues = slice_set c.worker.inside.queues.items c.worker.inside.home
+            c.delete.new.held;
+        pending = pending_in c.worker.inside.standing;
+        held = held_in c.worker.inside.standing;
+        fit = c.delete.new.workspace.placement;
+      })
+      (Ok c.in-Ok-Done.answer) c.self.view_is c.worker.view_is (
+        free_in c.worker.inside.standing (resting_in c.worker.inside.standing
+            (ap (λ (w : WorkerView). w.held) c.worker.view_is ∙ c.requires.free) c.in_default.not-Pending),
+        (let P : Deletion → Type 0 = λ m. DeleteDid c.self.inside.shared.layout c.args.tries c.args.key
+            c.worker.inside.pass.view.log c.delete.new.pass.view.log (Ok m) in
+            subst P c.in-Ok-Done.field-0-is c.in-Ok-Done.ensures.after.did),
+      )
       );
   lacks = search rules;
   interfered = λ is. absurd (let no = is in cc);
@@ -65,22 +94,31 @@ returns-in-Ok-Done-clause-leaves c = record {
 
 pub invariant_of-worker-in-Err : goal.invariant_of-worker-in-Err
 invariant_of-worker-in-Err c =
-    changed _ c.worker.inside.home c.delete.new.pass _ _ c.delete.new.held c.worker.invariant c.delete.ensures.after.same c.delete.ensures.kept
-    c.delete.ensures.after.ledgers.others (λ slot. ap (λ ds. get ds slot) c.delete.ensures.after.private) (rests_as c.delete.new.pass c.worker.inside.standing (resting_in c.worker.inside.standing (ap (λ (w : WorkerView). w.held) c.worker.view_is ∙ c.requires.free) c.in_default.not-Pending) c.in-Err.ensures.after.stands)
+    changed _ c.worker.inside.home c.delete.new.pass _ _ c.delete.new.held c.worker.invariant
+    c.delete.ensures.after.same c.delete.ensures.kept
+    c.delete.ensures.after.ledgers.others (λ slot. ap (λ ds. get ds slot) c.delete.ensures.after.private)
+    (rests_as c.delete.new.pass c.worker.inside.standing
+    (resting_in c.worker.inside.standing (ap (λ (w : WorkerView). w.held) c.worker.view_is ∙ c.requires.free)
+    c.in_default.not-Pending) c.in-Err.ensures.after.stands)
     (_, c.index_mut-own.ensures.value, c.delete.ensures.blocks)
 
 pub returns-in-Err-clause-says : goal.returns-in-Err-clause-says
 returns-in-Err-clause-says c =
-    elim (two_faults c.self.inside.shared.layout c.args.tries c.args.key c.worker.inside.pass.view.log c.delete.new.pass.view.log c.in-Err.fault c.in-Err.ensures.after.did) [
+    elim (two_faults c.self.inside.shared.layout c.args.tries c.args.key c.worker.inside.pass.view.log
+    c.delete.new.pass.view.log c.in-Err.fault c.in-Err.ensures.after.did) [
       | inl busy ↦ rw busy (record {
         same = search rules;
         past = search (rules, seen_all);
-        told = rw (← c.worker.view_is) (free_in c.worker.inside.standing (resting_in c.worker.inside.standing (ap (λ (w : WorkerView). w.held) c.worker.view_is ∙ c.requires.free) c.in_default.not-Pending));
+        told = rw (← c.worker.view_is) (free_in c.worker.inside.standing
+            (resting_in c.worker.inside.standing (ap (λ (w : WorkerView). w.held) c.worker.view_is ∙ c.requires.free)
+            c.in_default.not-Pending));
         moment = search rules;
         won = search rules;
         steps = search rules;
-        queues = others_kept _ _ c.worker.inside.home c.delete.new.pass c.delete.new.held c.worker.view_is c.worker.invariant.own c.delete.ensures.kept.own c.delete.ensures.after.same;
-        blocks = rw (← c.worker.view_is) (room_after c.worker.inside.home _ c.worker.inside.queues.items _ c.delete.new.held c.worker.invariant.own c.index_mut-own.ensures.value c.delete.ensures.blocks);
+        queues = others_kept _ _ c.worker.inside.home c.delete.new.pass c.delete.new.held c.worker.view_is
+            c.worker.invariant.own c.delete.ensures.kept.own c.delete.ensures.after.same;
+        blocks = rw (← c.worker.view_is) (room_after c.worker.inside.home _ c.worker.inside.queues.items _
+            c.delete.new.held c.worker.invariant.own c.index_mut-own.ensures.value c.delete.ensures.blocks);
         held = search rules;
         fit = search rules;
       })
@@ -88,14 +126,24 @@ returns-in-Err-clause-says c =
         same = search rules;
         past = search (rules, seen_all);
         told = (
-            let P : CallFault → Type 0 = λ m. LacksRoomOr (LosesAfterFlag c.self.inside.shared.layout c.args.tries c.args.key c.worker.inside.pass.view.log c.delete.new.pass.view.log) c.delete.new.held.queue.spare (Err m) in
-            (rw (← c.worker.view_is) (free_in c.worker.inside.standing (resting_in c.worker.inside.standing (ap (λ (w : WorkerView). w.held) c.worker.view_is ∙ c.requires.free) c.in_default.not-Pending)), lacks_after c.worker.inside.home _ _ c.worker.inside.queues.items c.delete.new.held c.worker.invariant.own c.delete.ensures.kept.own (subst P out c.in-Err.ensures.refused))
+            let P : CallFault → Type 0 = λ m. LacksRoomOr
+            (LosesAfterFlag c.self.inside.shared.layout c.args.tries c.args.key c.worker.inside.pass.view.log
+            c.delete.new.pass.view.log) c.delete.new.held.queue.spare (Err m) in (
+              rw (← c.worker.view_is) (free_in c.worker.inside.standing
+                  (resting_in c.worker.inside.standing (ap (λ (w : WorkerView). w.held) c.worker.view_is
+                  ∙ c.requires.free) c.in_default.not-Pending)),
+              lacks_after c.worker.inside.home _ _
+                  c.worker.inside.queues.items c.delete.new.held c.worker.invariant.own c.delete.ensures.kept.own
+                  (subst P out c.in-Err.ensures.refused),
+            )
             );
         moment = search rules;
         won = search rules;
         steps = search rules;
-        queues = others_kept _ _ c.worker.inside.home c.delete.new.pass c.delete.new.held c.worker.view_is c.worker.invariant.own c.delete.ensures.kept.own c.delete.ensures.after.same;
-        blocks = rw (← c.worker.view_is) (room_after c.worker.inside.home _ c.worker.inside.queues.items _ c.delete.new.held c.worker.invariant.own c.index_mut-own.ensures.value c.delete.ensures.blocks);
+        queues = others_kept _ _ c.worker.inside.home c.delete.new.pass c.delete.new.held c.worker.view_is
+            c.worker.invariant.own c.delete.ensures.kept.own c.delete.ensures.after.same;
+        blocks = rw (← c.worker.view_is) (room_after c.worker.inside.home _ c.worker.inside.queues.items _
+            c.delete.new.held c.worker.invariant.own c.index_mut-own.ensures.value c.delete.ensures.blocks);
         held = search rules;
         fit = search rules;
       })
@@ -103,62 +151,119 @@ returns-in-Err-clause-says c =
 
 pub returns-in-Err-clause-leaves : goal.returns-in-Err-clause-leaves
 returns-in-Err-clause-leaves c =
-    elim (two_faults c.self.inside.shared.layout c.args.tries c.args.key c.worker.inside.pass.view.log c.delete.new.pass.view.log c.in-Err.fault c.in-Err.ensures.after.did) [
+    elim (two_faults c.self.inside.shared.layout c.args.tries c.args.key c.worker.inside.pass.view.log
+    c.delete.new.pass.view.log c.in-Err.fault c.in-Err.ensures.after.did) [
       | inl busy ↦ rw busy (record {
         says = rw busy at (returns-in-Err-clause-says c);
         did = (
-            deleted_so _ _ c.args.tries c.args.key _ _ (record { pass = c.delete.new.pass; queues = slice_set c.worker.inside.queues.items c.worker.inside.home c.delete.new.held; pending = pending_in c.worker.inside.standing; held = held_in c.worker.inside.standing; fit = c.delete.new.workspace.placement })
-            (Err fault.Busy) c.self.view_is c.worker.view_is (free_in c.worker.inside.standing (resting_in c.worker.inside.standing (ap (λ (w : WorkerView). w.held) c.worker.view_is ∙ c.requires.free) c.in_default.not-Pending), (let P : CallFault → Type 0 = λ m. DeleteDid c.self.inside.shared.layout c.args.tries c.args.key c.worker.inside.pass.view.log c.delete.new.pass.view.log (Err m) in subst P busy c.in-Err.ensures.after.did))
+            deleted_so _ _ c.args.tries c.args.key _ _ (record {
+              pass = c.delete.new.pass;
+              queues = slice_set c.worker.inside.queues.items c.worker.inside.home
+                  c.delete.new.held;
+              pending = pending_in c.worker.inside.standing;
+              held = held_in
+                  c.worker.inside.standing;
+              fit = c.delete.new.workspace.placement;
+            })
+            (Err fault.Busy) c.self.view_is c.worker.view_is (
+              free_in c.worker.inside.standing (resting_in c.worker.inside.standing
+                  (ap (λ (w : WorkerView). w.held) c.worker.view_is ∙ c.requires.free) c.in_default.not-Pending),
+              (let P : CallFault → Type 0 = λ m. DeleteDid c.self.inside.shared.layout c.args.tries c.args.key
+                  c.worker.inside.pass.view.log c.delete.new.pass.view.log (Err m) in
+                  subst P busy c.in-Err.ensures.after.did),
+            )
             );
         lacks = search rules;
         interfered = λ is. (
-            let P : CallFault → Type 0 = λ m. DeleteDid c.self.inside.shared.layout c.args.tries c.args.key c.worker.inside.pass.view.log c.delete.new.pass.view.log (Err m) in
-            delete_interfered c.self.inside.shared c.args.self.now c.worker.inside.pass c.args.worker.now.pass c.delete.new.pass c.args.key c.args.tries c.self.view_is (ap (λ (x : WorkerView). x.pass) c.worker.view_is)
-            c.know_run.ensures.seen c.know_run-in-Err.ensures.seen c.know_run.ensures.fits c.delete.ensures.after.same c.delete.ensures.after.past c.requires.own (subst P busy c.in-Err.ensures.after.did)
+            let P : CallFault → Type 0 = λ m. DeleteDid c.self.inside.shared.layout c.args.tries c.args.key
+            c.worker.inside.pass.view.log c.delete.new.pass.view.log (Err m) in
+            delete_interfered c.self.inside.shared c.args.self.now c.worker.inside.pass c.args.worker.now.pass
+            c.delete.new.pass c.args.key c.args.tries c.self.view_is
+            (ap (λ (x : WorkerView). x.pass) c.worker.view_is)
+            c.know_run.ensures.seen c.know_run-in-Err.ensures.seen c.know_run.ensures.fits
+            c.delete.ensures.after.same c.delete.ensures.after.past c.requires.own
+            (subst P busy c.in-Err.ensures.after.did)
             );
         lost = λ is. absurd (let no = is in cc);
         alone = λ runs. (
-            let P : CallFault → Type 0 = λ m. DeleteDid c.self.inside.shared.layout c.args.tries c.args.key c.worker.inside.pass.view.log c.delete.new.pass.view.log (Err m) in
-            delete_alone c.self.inside.shared c.args.self.now c.worker.inside.pass c.args.worker.now.pass c.delete.new.pass c.args.key c.args.tries c.self.view_is (ap (λ (x : WorkerView). x.pass) c.worker.view_is)
-            c.know_run.ensures.seen c.know_run-in-Err.ensures.seen c.know_run.ensures.fits c.delete.ensures.after.same c.delete.ensures.after.past c.requires.own runs (rests_in c.worker.inside.pass c.worker.inside.standing (resting_in c.worker.inside.standing (ap (λ (w : WorkerView). w.held) c.worker.view_is ∙ c.requires.free) c.in_default.not-Pending) c.worker.invariant.between.stands)
+            let P : CallFault → Type 0 = λ m. DeleteDid c.self.inside.shared.layout c.args.tries c.args.key
+            c.worker.inside.pass.view.log c.delete.new.pass.view.log (Err m) in
+            delete_alone c.self.inside.shared c.args.self.now c.worker.inside.pass c.args.worker.now.pass
+            c.delete.new.pass c.args.key c.args.tries c.self.view_is
+            (ap (λ (x : WorkerView). x.pass) c.worker.view_is)
+            c.know_run.ensures.seen c.know_run-in-Err.ensures.seen c.know_run.ensures.fits
+            c.delete.ensures.after.same c.delete.ensures.after.past c.requires.own runs
+            (rests_in c.worker.inside.pass c.worker.inside.standing
+            (resting_in c.worker.inside.standing (ap (λ (w : WorkerView). w.held) c.worker.view_is
+            ∙ c.requires.free) c.in_default.not-Pending) c.worker.invariant.between.stands)
             (subst P busy c.in-Err.ensures.after.did)
             );
       })
       | inr out ↦ rw out (record {
         says = rw out at (returns-in-Err-clause-says c);
         did = (
-            deleted_so _ _ c.args.tries c.args.key _ _ (record { pass = c.delete.new.pass; queues = slice_set c.worker.inside.queues.items c.worker.inside.home c.delete.new.held; pending = pending_in c.worker.inside.standing; held = held_in c.worker.inside.standing; fit = c.delete.new.workspace.placement })
-            (Err fault.NoMemory) c.self.view_is c.worker.view_is (free_in c.worker.inside.standing (resting_in c.worker.inside.standing (ap (λ (w : WorkerView). w.held) c.worker.view_is ∙ c.requires.free) c.in_default.not-Pending), (let P : CallFault → Type 0 = λ m. DeleteDid c.self.inside.shared.layout c.args.tries c.args.key c.worker.inside.pass.view.log c.delete.new.pass.view.log (Err m) in subst P out c.in-Err.ensures.after.did))
+            deleted_so _ _ c.args.tries c.args.key _ _ (record {
+              pass = c.delete.new.pass;
+              queues = slice_set c.worker.inside.queues.items c.worker.inside.home
+                  c.delete.new.held;
+              pending = pending_in c.worker.inside.standing;
+              held = held_in
+                  c.worker.inside.standing;
+              fit = c.delete.new.workspace.placement;
+            })
+            (Err fault.NoMemory) c.self.view_is c.worker.view_is (
+              free_in c.worker.inside.standing (resting_in c.worker.inside.standing
+                  (ap (λ (w : WorkerView). w.held) c.worker.view_is ∙ c.requires.free) c.in_default.not-Pending),
+              (let P : CallFault → Type 0 = λ m. DeleteDid c.self.inside.shared.layout c.args.tries c.args.key
+                  c.worker.inside.pass.view.log c.delete.new.pass.view.log (Err m) in
+                  subst P out c.in-Err.ensures.after.did),
+            )
             );
         lacks = (
-            let P : CallFault → Type 0 = λ m. LacksRoomOr (LosesAfterFlag c.self.inside.shared.layout c.args.tries c.args.key c.worker.inside.pass.view.log c.delete.new.pass.view.log) c.delete.new.held.queue.spare (Err m) in
-            lacks_after c.worker.inside.home _ _ c.worker.inside.queues.items c.delete.new.held c.worker.invariant.own c.delete.ensures.kept.own (subst P out c.in-Err.ensures.refused)
+            let P : CallFault → Type 0 = λ m. LacksRoomOr
+            (LosesAfterFlag c.self.inside.shared.layout c.args.tries c.args.key c.worker.inside.pass.view.log
+            c.delete.new.pass.view.log) c.delete.new.held.queue.spare (Err m) in
+            lacks_after c.worker.inside.home _ _ c.worker.inside.queues.items c.delete.new.held
+            c.worker.invariant.own c.delete.ensures.kept.own (subst P out c.in-Err.ensures.refused)
             );
         interfered = λ is. absurd (let no = is in cc);
         lost = λ is. absurd (let no = is in cc);
         alone = λ runs. (
-            let P : CallFault → Type 0 = λ m. LacksRoomOr (LosesAfterFlag c.self.inside.shared.layout c.args.tries c.args.key c.worker.inside.pass.view.log c.delete.new.pass.view.log) c.delete.new.held.queue.spare (Err m) in
-            lacks_after c.worker.inside.home _ _ c.worker.inside.queues.items c.delete.new.held c.worker.invariant.own c.delete.ensures.kept.own (subst P out c.in-Err.ensures.refused)
+            let P : CallFault → Type 0 = λ m. LacksRoomOr
+            (LosesAfterFlag c.self.inside.shared.layout c.args.tries c.args.key c.worker.inside.pass.view.log
+            c.delete.new.pass.view.log) c.delete.new.held.queue.spare (Err m) in
+            lacks_after c.worker.inside.home _ _ c.worker.inside.queues.items c.delete.new.held
+            c.worker.invariant.own c.delete.ensures.kept.own (subst P out c.in-Err.ensures.refused)
             );
       })
     ]
 
 pub invariant_of-worker-in-Ok-Pending : goal.invariant_of-worker-in-Ok-Pending
 invariant_of-worker-in-Ok-Pending c =
-    changed _ c.worker.inside.home c.delete.new.pass _ _ c.delete.new.held c.worker.invariant c.delete.ensures.after.same c.delete.ensures.kept
-    c.delete.ensures.after.ledgers.others (λ slot. ap (λ ds. get ds slot) c.delete.ensures.after.private) (rw c.in-Ok-Pending.field-0-is at c.in-Ok-Pending.ensures.after.stands)
+    changed _ c.worker.inside.home c.delete.new.pass _ _ c.delete.new.held c.worker.invariant
+    c.delete.ensures.after.same c.delete.ensures.kept
+    c.delete.ensures.after.ledgers.others (λ slot. ap (λ ds. get ds slot) c.delete.ensures.after.private)
+    (rw c.in-Ok-Pending.field-0-is at c.in-Ok-Pending.ensures.after.stands)
     (_, c.index_mut-own.ensures.value, c.delete.ensures.blocks)
 
 pub returns-in-Ok-Pending-clause-says : goal.returns-in-Ok-Pending-clause-says
 returns-in-Ok-Pending-clause-says c = record {
   same = search rules;
   past = search (rules, seen_all);
-  told = rw (← c.worker.view_is) ((free_in c.worker.inside.standing (resting_in c.worker.inside.standing (ap (λ (w : WorkerView). w.held) c.worker.view_is ∙ c.requires.free) c.in_default.not-Pending)).0, c.in-Ok-Pending.leaf, refl);
+  told = rw (← c.worker.view_is) (
+    (free_in c.worker.inside.standing
+        (resting_in c.worker.inside.standing (ap (λ (w : WorkerView). w.held) c.worker.view_is ∙ c.requires.free)
+        c.in_default.not-Pending)).0,
+    c.in-Ok-Pending.leaf,
+    refl,
+  );
   moment = search rules;
   won = search rules;
   steps = search rules;
-  queues = others_kept _ _ c.worker.inside.home c.delete.new.pass c.delete.new.held c.worker.view_is c.worker.invariant.own c.delete.ensures.kept.own c.delete.ensures.after.same;
-  blocks = rw (← c.worker.view_is) (room_after c.worker.inside.home _ c.worker.inside.queues.items _ c.delete.new.held c.worker.invariant.own c.index_mut-own.ensures.value c.delete.ensures.blocks);
+  queues = others_kept _ _ c.worker.inside.home c.delete.new.pass c.delete.new.held c.worker.view_is
+      c.worker.invariant.own c.delete.ensures.kept.own c.delete.ensures.after.same;
+  blocks = rw (← c.worker.view_is) (room_after c.worker.inside.home _ c.worker.inside.queues.items _
+      c.delete.new.held c.worker.invariant.own c.index_mut-own.ensures.value c.delete.ensures.blocks);
   held = search rules;
   fit = search rules;
 }
@@ -167,35 +272,65 @@ pub returns-in-Ok-Pending-clause-leaves : goal.returns-in-Ok-Pending-clause-leav
 returns-in-Ok-Pending-clause-leaves c = record {
   says = returns-in-Ok-Pending-clause-says c;
   did = (
-      deleted_so _ _ c.args.tries c.args.key _ _ (record { pass = c.delete.new.pass; queues = slice_set c.worker.inside.queues.items c.worker.inside.home c.delete.new.held; pending = Some (record { key = c.args.key; leaf = c.in-Ok-Pending.leaf }); held = None; fit = c.delete.new.workspace.placement })
-      (Err fault.Unfinished) c.self.view_is c.worker.view_is ((free_in c.worker.inside.standing (resting_in c.worker.inside.standing (ap (λ (w : WorkerView). w.held) c.worker.view_is ∙ c.requires.free) c.in_default.not-Pending)).0, c.in-Ok-Pending.leaf, refl, (let P : Deletion → Type 0 = λ m. DeleteDid c.self.inside.shared.layout c.args.tries c.args.key c.worker.inside.pass.view.log c.delete.new.pass.view.log (Ok m) in subst P c.in-Ok-Pending.field-0-is c.in-Ok-Pending.ensures.after.did))
+      deleted_so _ _ c.args.tries c.args.key _ _ (record {
+        pass = c.delete.new.pass;
+        queues = slice_set c.worker.inside.queues.items c.worker.inside.home
+            c.delete.new.held;
+        pending = Some (record { key = c.args.key; leaf = c.in-Ok-Pending.leaf });
+        held = None;
+        fit = c.delete.new.workspace.placement;
+      })
+      (Err fault.Unfinished) c.self.view_is c.worker.view_is (
+        (free_in c.worker.inside.standing (resting_in c.worker.inside.standing
+            (ap (λ (w : WorkerView). w.held) c.worker.view_is ∙ c.requires.free) c.in_default.not-Pending)).0,
+        c.in-Ok-Pending.leaf,
+        refl,
+        (let P : Deletion
+            → Type 0 = λ m. DeleteDid c.self.inside.shared.layout c.args.tries c.args.key c.worker.inside.pass.view.log
+            c.delete.new.pass.view.log (Ok m) in subst P c.in-Ok-Pending.field-0-is c.in-Ok-Pending.ensures.after.did),
+      )
       );
   lacks = (
-      let P : Deletion → Type 0 = λ m. LacksRoomOr (LosesAfterFlag c.self.inside.shared.layout c.args.tries c.args.key c.worker.inside.pass.view.log c.delete.new.pass.view.log) c.delete.new.held.queue.spare (Ok m) in
+      let P : Deletion → Type 0 = λ m. LacksRoomOr (LosesAfterFlag c.self.inside.shared.layout c.args.tries
+      c.args.key c.worker.inside.pass.view.log c.delete.new.pass.view.log) c.delete.new.held.queue.spare (Ok m) in
       rw (← c.self.view_is, ← c.worker.view_is)
       (elim (subst P c.in-Ok-Pending.field-0-is c.in-Ok-Pending.ensures.refused) [
-        | inl less ↦ inl (lacks_after c.worker.inside.home _ _ c.worker.inside.queues.items c.delete.new.held c.worker.invariant.own c.delete.ensures.kept.own less)
+        | inl less ↦ inl (lacks_after c.worker.inside.home _ _ c.worker.inside.queues.items c.delete.new.held
+            c.worker.invariant.own c.delete.ensures.kept.own less)
         | inr lost ↦ inr (c.in-Ok-Pending.leaf, lost)
       ])
       );
   interfered = λ is. absurd (let no = is in cc);
   lost = λ is. (
-      let P : Deletion → Type 0 = λ m. LacksRoomOr (LosesAfterFlag c.self.inside.shared.layout c.args.tries c.args.key c.worker.inside.pass.view.log c.delete.new.pass.view.log) c.delete.new.held.queue.spare (Ok m) in
+      let P : Deletion → Type 0 = λ m. LacksRoomOr (LosesAfterFlag c.self.inside.shared.layout c.args.tries
+      c.args.key c.worker.inside.pass.view.log c.delete.new.pass.view.log) c.delete.new.held.queue.spare (Ok m) in
       (elim (subst P c.in-Ok-Pending.field-0-is c.in-Ok-Pending.ensures.refused) [
-        | inl less ↦ inl (lacks_after c.worker.inside.home _ _ c.worker.inside.queues.items c.delete.new.held c.worker.invariant.own c.delete.ensures.kept.own less)
+        | inl less ↦ inl (lacks_after c.worker.inside.home _ _ c.worker.inside.queues.items c.delete.new.held
+            c.worker.invariant.own c.delete.ensures.kept.own less)
         | inr lost ↦ inr
-            (delete_lost c.self.inside.shared c.args.self.now c.worker.inside.pass c.args.worker.now.pass c.delete.new.pass c.args.key c.args.tries c.self.view_is (ap (λ (x : WorkerView). x.pass) c.worker.view_is)
-            c.know_run.ensures.seen c.know_run-in-Ok-Pending.ensures.seen c.know_run.ensures.fits c.delete.ensures.after.same c.delete.ensures.after.past c.requires.own c.in-Ok-Pending.leaf
+            (delete_lost c.self.inside.shared c.args.self.now c.worker.inside.pass c.args.worker.now.pass
+            c.delete.new.pass c.args.key c.args.tries c.self.view_is
+            (ap (λ (x : WorkerView). x.pass) c.worker.view_is)
+            c.know_run.ensures.seen c.know_run-in-Ok-Pending.ensures.seen c.know_run.ensures.fits
+            c.delete.ensures.after.same c.delete.ensures.after.past c.requires.own c.in-Ok-Pending.leaf
             (rw c.in-Ok-Pending.field-0-is at c.in-Ok-Pending.ensures.after.stands) lost)
       ])
       );
   alone = λ runs. (
-      let P : Deletion → Type 0 = λ m. LacksRoomOr (LosesAfterFlag c.self.inside.shared.layout c.args.tries c.args.key c.worker.inside.pass.view.log c.delete.new.pass.view.log) c.delete.new.held.queue.spare (Ok m) in
+      let P : Deletion → Type 0 = λ m. LacksRoomOr (LosesAfterFlag c.self.inside.shared.layout c.args.tries
+      c.args.key c.worker.inside.pass.view.log c.delete.new.pass.view.log) c.delete.new.held.queue.spare (Ok m) in
       (elim (subst P c.in-Ok-Pending.field-0-is c.in-Ok-Pending.ensures.refused) [
-        | inl less ↦ inr (lacks_after c.worker.inside.home _ _ c.worker.inside.queues.items c.delete.new.held c.worker.invariant.own c.delete.ensures.kept.own less)
+        | inl less ↦ inr (lacks_after c.worker.inside.home _ _ c.worker.inside.queues.items c.delete.new.held
+            c.worker.invariant.own c.delete.ensures.kept.own less)
         | inr lost ↦ inl
-            (delete_finished c.self.inside.shared c.args.self.now c.worker.inside.pass c.args.worker.now.pass c.delete.new.pass c.args.key c.args.tries c.self.view_is (ap (λ (x : WorkerView). x.pass) c.worker.view_is)
-            c.know_run.ensures.seen c.know_run-in-Ok-Pending.ensures.seen c.know_run.ensures.fits c.delete.ensures.after.same c.delete.ensures.after.past c.requires.own c.in-Ok-Pending.leaf runs (rests_in c.worker.inside.pass c.worker.inside.standing (resting_in c.worker.inside.standing (ap (λ (w : WorkerView). w.held) c.worker.view_is ∙ c.requires.free) c.in_default.not-Pending) c.worker.invariant.between.stands) lost)
+            (delete_finished c.self.inside.shared c.args.self.now c.worker.inside.pass c.args.worker.now.pass
+            c.delete.new.pass c.args.key c.args.tries c.self.view_is
+            (ap (λ (x : WorkerView). x.pass) c.worker.view_is)
+            c.know_run.ensures.seen c.know_run-in-Ok-Pending.ensures.seen c.know_run.ensures.fits
+            c.delete.ensures.after.same c.delete.ensures.after.past c.requires.own c.in-Ok-Pending.leaf runs
+            (rests_in c.worker.inside.pass c.worker.inside.standing
+            (resting_in c.worker.inside.standing (ap (λ (w : WorkerView). w.held) c.worker.view_is
+            ∙ c.requires.free) c.in_default.not-Pending) c.worker.invariant.between.stands) lost)
       ])
       );
 }

@@ -22,15 +22,23 @@ pub returns-in_default-clause-says : goal.returns-in_default-clause-says
 returns-in_default-clause-says c = (returns-in_default-clause-leaves c).says
 
 pub index_mut-own-requires : goal.index_mut-own-requires
-index_mut-own-requires c = omega (arith, stands_within c.worker.inside.home _ c.worker.inside.queues.items c.worker.invariant.own, c.worker.inside.queues.ok.0)
+index_mut-own-requires c = omega (
+  arith,
+  stands_within c.worker.inside.home _ c.worker.inside.queues.items
+      c.worker.invariant.own,
+  c.worker.inside.queues.ok.0,
+)
 
 pub finish-requires-clause-kept : goal.finish-requires-clause-kept
 finish-requires-clause-kept c = kept_there _ c.worker.inside.home _ c.worker.invariant c.index_mut-own.ensures.value
 
 pub invariant_of-worker : goal.invariant_of-worker
 invariant_of-worker c =
-    changed _ c.worker.inside.home c.finish.new.pass _ _ c.finish.new.held c.worker.invariant c.finish.ensures.after.same c.finish.ensures.kept
-    c.finish.ensures.after.ledgers.others (λ slot. ap (λ ds. get ds slot) c.finish.ensures.after.private) (removing_in c.finish.new.pass c.worker.inside.standing _ c.in-Pending.is (c.finish.ensures.after.removing c.if-not-finish.true))
+    changed _ c.worker.inside.home c.finish.new.pass _ _ c.finish.new.held c.worker.invariant
+    c.finish.ensures.after.same c.finish.ensures.kept
+    c.finish.ensures.after.ledgers.others (λ slot. ap (λ ds. get ds slot) c.finish.ensures.after.private)
+    (removing_in c.finish.new.pass c.worker.inside.standing _ c.in-Pending.is
+    (c.finish.ensures.after.removing c.if-not-finish.true))
     (_, c.index_mut-own.ensures.value, c.finish.ensures.blocks)
 
 pub returns-then-not-finish-clause-says : goal.returns-then-not-finish-clause-says
@@ -41,8 +49,10 @@ returns-then-not-finish-clause-says c = record {
   moment = search rules;
   won = search rules;
   steps = search rules;
-  queues = others_kept _ _ c.worker.inside.home c.finish.new.pass c.finish.new.held c.worker.view_is c.worker.invariant.own c.finish.ensures.kept.own c.finish.ensures.after.same;
-  blocks = rw (← c.worker.view_is) (room_after c.worker.inside.home _ c.worker.inside.queues.items _ c.finish.new.held c.worker.invariant.own c.index_mut-own.ensures.value c.finish.ensures.blocks);
+  queues = others_kept _ _ c.worker.inside.home c.finish.new.pass c.finish.new.held c.worker.view_is
+      c.worker.invariant.own c.finish.ensures.kept.own c.finish.ensures.after.same;
+  blocks = rw (← c.worker.view_is) (room_after c.worker.inside.home _ c.worker.inside.queues.items _
+      c.finish.new.held c.worker.invariant.own c.index_mut-own.ensures.value c.finish.ensures.blocks);
   held = search rules;
   fit = search rules;
 }
@@ -54,32 +64,45 @@ returns-then-not-finish-clause-leaves c = record {
   lacks = (
       rw (← c.self.view_is, ← c.worker.view_is)
       (elim (c.finish.ensures.refused c.if-not-finish.true) [
-        | inl less ↦ inl (lacks_after c.worker.inside.home _ _ c.worker.inside.queues.items c.finish.new.held c.worker.invariant.own c.finish.ensures.kept.own less)
+        | inl less ↦ inl (lacks_after c.worker.inside.home _ _ c.worker.inside.queues.items c.finish.new.held
+            c.worker.invariant.own c.finish.ensures.kept.own less)
         | inr lost ↦ inr (c.in-Pending.pending, ap pending_in c.in-Pending.is, lost)
       ])
       );
   lost = λ is. (
       (elim (c.finish.ensures.refused c.if-not-finish.true) [
-        | inl less ↦ inl (lacks_after c.worker.inside.home _ _ c.worker.inside.queues.items c.finish.new.held c.worker.invariant.own c.finish.ensures.kept.own less)
+        | inl less ↦ inl (lacks_after c.worker.inside.home _ _ c.worker.inside.queues.items c.finish.new.held
+            c.worker.invariant.own c.finish.ensures.kept.own less)
         | inr lost ↦ inr
-            (finish_lost c.self.inside.shared c.args.self.now c.worker.inside.pass c.args.worker.now.pass c.finish.new.pass c.in-Pending.pending.key c.args.tries c.self.view_is (ap (λ (x : WorkerView). x.pass) c.worker.view_is)
-            c.know_run.ensures.seen c.know_run-then-not-finish.ensures.seen c.know_run.ensures.fits c.finish.ensures.after.same c.finish.ensures.after.past c.requires.own c.in-Pending.pending.leaf (c.finish.ensures.after.removing c.if-not-finish.true) lost)
+            (finish_lost c.self.inside.shared c.args.self.now c.worker.inside.pass c.args.worker.now.pass
+            c.finish.new.pass c.in-Pending.pending.key c.args.tries c.self.view_is
+            (ap (λ (x : WorkerView). x.pass) c.worker.view_is)
+            c.know_run.ensures.seen c.know_run-then-not-finish.ensures.seen c.know_run.ensures.fits
+            c.finish.ensures.after.same c.finish.ensures.after.past c.requires.own c.in-Pending.pending.leaf
+            (c.finish.ensures.after.removing c.if-not-finish.true) lost)
       ])
       );
   alone = λ alone. (
       (elim (c.finish.ensures.refused c.if-not-finish.true) [
-        | inl less ↦ inr (lacks_after c.worker.inside.home _ _ c.worker.inside.queues.items c.finish.new.held c.worker.invariant.own c.finish.ensures.kept.own less)
+        | inl less ↦ inr (lacks_after c.worker.inside.home _ _ c.worker.inside.queues.items c.finish.new.held
+            c.worker.invariant.own c.finish.ensures.kept.own less)
         | inr lost ↦ inl
-            (finish_alone c.self.inside.shared c.args.self.now c.worker.inside.pass c.args.worker.now.pass c.finish.new.pass c.in-Pending.pending.key c.args.tries c.self.view_is (ap (λ (x : WorkerView). x.pass) c.worker.view_is)
-            c.know_run.ensures.seen c.know_run-then-not-finish.ensures.seen c.know_run.ensures.fits c.finish.ensures.after.same c.finish.ensures.after.past c.requires.own c.in-Pending.pending.leaf alone (c.finish.ensures.after.removing c.if-not-finish.true) lost)
+            (finish_alone c.self.inside.shared c.args.self.now c.worker.inside.pass c.args.worker.now.pass
+            c.finish.new.pass c.in-Pending.pending.key c.args.tries c.self.view_is
+            (ap (λ (x : WorkerView). x.pass) c.worker.view_is)
+            c.know_run.ensures.seen c.know_run-then-not-finish.ensures.seen c.know_run.ensures.fits
+            c.finish.ensures.after.same c.finish.ensures.after.past c.requires.own c.in-Pending.pending.leaf alone
+            (c.finish.ensures.after.removing c.if-not-finish.true) lost)
       ])
       );
 }
 
 pub invariant_of-worker-2 : goal.invariant_of-worker-2
 invariant_of-worker-2 c =
-    changed _ c.worker.inside.home c.finish.new.pass _ _ c.finish.new.held c.worker.invariant c.finish.ensures.after.same c.finish.ensures.kept
-    c.finish.ensures.after.ledgers.others (λ slot. ap (λ ds. get ds slot) c.finish.ensures.after.private) (c.finish.ensures.after.rests c.if-not-finish.false)
+    changed _ c.worker.inside.home c.finish.new.pass _ _ c.finish.new.held c.worker.invariant
+    c.finish.ensures.after.same c.finish.ensures.kept
+    c.finish.ensures.after.ledgers.others (λ slot. ap (λ ds. get ds slot) c.finish.ensures.after.private)
+    (c.finish.ensures.after.rests c.if-not-finish.false)
     (_, c.index_mut-own.ensures.value, c.finish.ensures.blocks)
 
 pub returns-clause-says : goal.returns-clause-says
@@ -89,13 +112,20 @@ returns-clause-says c = record {
   told = rw (← c.worker.view_is) (subst IsSome (sym (ap pending_in c.in-Pending.is)) refl, refl);
   moment = (
       let n = c.in-Pending.pending in
-      let P : WorkerView → Type 0 = λ w. (o : PassView) → HadNoCall o w.pass → AnswerHasMoment o c.finish.new.pass Delete n.key true in
-      (n, ap (λ (w : WorkerView). w.pending) (sym c.worker.view_is) ∙ ap pending_in c.in-Pending.is, subst P c.worker.view_is (c.finish.ensures.after.moment c.if-not-finish.false))
+      let P : WorkerView → Type 0 = λ w. (o : PassView) → HadNoCall o w.pass
+      → AnswerHasMoment o c.finish.new.pass Delete n.key true in (
+        n,
+        ap (λ (w : WorkerView). w.pending) (sym c.worker.view_is)
+            ∙ ap pending_in c.in-Pending.is,
+        subst P c.worker.view_is (c.finish.ensures.after.moment c.if-not-finish.false),
+      )
       );
   won = search rules;
   steps = search rules;
-  queues = others_kept _ _ c.worker.inside.home c.finish.new.pass c.finish.new.held c.worker.view_is c.worker.invariant.own c.finish.ensures.kept.own c.finish.ensures.after.same;
-  blocks = rw (← c.worker.view_is) (room_after c.worker.inside.home _ c.worker.inside.queues.items _ c.finish.new.held c.worker.invariant.own c.index_mut-own.ensures.value c.finish.ensures.blocks);
+  queues = others_kept _ _ c.worker.inside.home c.finish.new.pass c.finish.new.held c.worker.view_is
+      c.worker.invariant.own c.finish.ensures.kept.own c.finish.ensures.after.same;
+  blocks = rw (← c.worker.view_is) (room_after c.worker.inside.home _ c.worker.inside.queues.items _
+      c.finish.new.held c.worker.invariant.own c.index_mut-own.ensures.value c.finish.ensures.blocks);
   held = search rules;
   fit = search rules;
 }
@@ -104,8 +134,22 @@ pub returns-clause-leaves : goal.returns-clause-leaves
 returns-clause-leaves c = record {
   says = returns-clause-says c;
   did = (
-      finished_so _ _ c.args.tries _ _ (record { pass = c.finish.new.pass; queues = slice_set c.worker.inside.queues.items c.worker.inside.home c.finish.new.held; pending = None; held = None; fit = c.finish.new.workspace.placement })
-      (Ok true) c.self.view_is c.worker.view_is (c.in-Pending.pending, ap pending_in c.in-Pending.is, refl, rw c.if-not-finish.false at c.finish.ensures.after.did)
+      finished_so _ _ c.args.tries _ _ (record {
+        pass = c.finish.new.pass;
+        queues = slice_set
+            c.worker.inside.queues.items c.worker.inside.home c.finish.new.held;
+        pending = None;
+        held = None;
+        fit =
+            c.finish.new.workspace.placement;
+      })
+      (Ok true) c.self.view_is c.worker.view_is (
+        c.in-Pending.pending,
+        ap pending_in c.in-Pending.is,
+        refl,
+        rw
+            c.if-not-finish.false at c.finish.ensures.after.did,
+      )
       );
   lacks = search rules;
   lost = λ is. absurd (let no = is in cc);

@@ -8,7 +8,14 @@ use Rattle.nm_tree.proofs.tree.Tree.hear.Goals as goal
 pub invariant_of-worker : goal.invariant_of-worker
 invariant_of-worker c =
     let w = c.worker.inside in
-    let P : PassView → Type 0 = λ p. IsWorker (record { pass = p; queues = w.queues.items; pending = pending_in w.standing; held = held_in w.standing; fit = w.workspace.value.placement }) w.home in
+    let P : PassView → Type 0 = λ p. IsWorker (record {
+      pass = p;
+      queues = w.queues.items;
+      pending = pending_in w.standing;
+      held = held_in w.standing;
+      fit =
+          w.workspace.value.placement;
+    }) w.home in
     subst P (sym c.hear.ensures.same) (sees_more c.hear.new.pass _ w.home c.worker.invariant)
 
 pub returns-clause-values : goal.returns-clause-values

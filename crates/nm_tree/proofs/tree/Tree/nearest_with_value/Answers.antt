@@ -10,17 +10,37 @@ use Rattle.nm_tree.proofs.Staying.{stays_resting, resting_in, free_in}
 use Rattle.nm_tree.proofs.tree.Tree.nearest_with_value.Goals as goal
 
 pub invariant_of-worker : goal.invariant_of-worker
-invariant_of-worker c = stays_resting c.worker.inside.pass c.nearest_with_value-answer.new.pass _ c.worker.inside.standing c.worker.inside.home (resting_in c.worker.inside.standing (ap (λ (w : WorkerView). w.held) c.worker.view_is ∙ c.requires.call.free) c.in_default.not-Pending) c.worker.invariant c.nearest_with_value-answer.ensures.after.same (quiet_so _ _ c.nearest_with_value-answer.ensures.after.won c.nearest_with_value-answer.ensures.after.uncut) c.nearest_with_value-answer.ensures.after.hands c.nearest_with_value-answer.ensures.after.rests
+invariant_of-worker c = stays_resting c.worker.inside.pass c.nearest_with_value-answer.new.pass _
+    c.worker.inside.standing c.worker.inside.home (resting_in c.worker.inside.standing
+    (ap (λ (w : WorkerView). w.held) c.worker.view_is ∙ c.requires.call.free) c.in_default.not-Pending)
+    c.worker.invariant c.nearest_with_value-answer.ensures.after.same
+    (quiet_so _ _ c.nearest_with_value-answer.ensures.after.won c.nearest_with_value-answer.ensures.after.uncut)
+    c.nearest_with_value-answer.ensures.after.hands c.nearest_with_value-answer.ensures.after.rests
 
 pub returns-clause-leaves : goal.returns-clause-leaves
 returns-clause-leaves c = record {
   same = search rules;
   past = search (rules, seen_all);
-  did = rw (← c.worker.view_is, ← c.self.view_is) (has_looked _ c.args.tries _ _ _ (free_in c.worker.inside.standing (resting_in c.worker.inside.standing (ap (λ (w : WorkerView). w.held) c.worker.view_is ∙ c.requires.call.free) c.in_default.not-Pending)) c.nearest_with_value-answer.result c.nearest_with_value-answer.ensures.after.did c.nearest_with_value-answer.ensures.after.missed c.nearest_with_value-answer.ensures.after.busy);
-  interfered = λ is. near_interfered c.self.inside.shared c.args.self.now c.worker.inside.pass c.args.worker.now.pass c.nearest_with_value-answer.new.pass c.args.key c.args.tries c.self.view_is (ap (λ (x : WorkerView). x.pass) c.worker.view_is)
-      c.know_run.ensures.seen c.know_run-2.ensures.seen c.know_run.ensures.fits c.nearest_with_value-answer.ensures.after.same c.nearest_with_value-answer.ensures.after.past c.requires.call.own c.args.side (of_error c.nearest_with_value-answer.result fault.Busy is c.nearest_with_value-answer.ensures.after.missed);
-  alone = λ alone is. near_alone c.args.worker.now.pass c.nearest_with_value-answer.new.pass c.args.tries alone (near_interfered c.self.inside.shared c.args.self.now c.worker.inside.pass c.args.worker.now.pass c.nearest_with_value-answer.new.pass c.args.key c.args.tries c.self.view_is (ap (λ (x : WorkerView). x.pass) c.worker.view_is)
-      c.know_run.ensures.seen c.know_run-2.ensures.seen c.know_run.ensures.fits c.nearest_with_value-answer.ensures.after.same c.nearest_with_value-answer.ensures.after.past c.requires.call.own c.args.side (of_error c.nearest_with_value-answer.result fault.Busy is c.nearest_with_value-answer.ensures.after.missed));
+  did = rw (← c.worker.view_is, ← c.self.view_is) (has_looked _ c.args.tries _ _ _
+      (free_in c.worker.inside.standing (resting_in c.worker.inside.standing
+      (ap (λ (w : WorkerView). w.held) c.worker.view_is ∙ c.requires.call.free) c.in_default.not-Pending))
+      c.nearest_with_value-answer.result c.nearest_with_value-answer.ensures.after.did
+      c.nearest_with_value-answer.ensures.after.missed c.nearest_with_value-answer.ensures.after.busy);
+  interfered = λ is. near_interfered c.self.inside.shared c.args.self.now c.worker.inside.pass c.args.worker.now.pass
+      c.nearest_with_value-answer.new.pass c.args.key c.args.tries c.self.view_is
+      (ap (λ (x : WorkerView). x.pass) c.worker.view_is)
+      c.know_run.ensures.seen c.know_run-2.ensures.seen c.know_run.ensures.fits
+      c.nearest_with_value-answer.ensures.after.same c.nearest_with_value-answer.ensures.after.past
+      c.requires.call.own c.args.side (of_error c.nearest_with_value-answer.result fault.Busy is
+      c.nearest_with_value-answer.ensures.after.missed);
+  alone = λ alone is. near_alone c.args.worker.now.pass c.nearest_with_value-answer.new.pass c.args.tries alone
+      (near_interfered c.self.inside.shared c.args.self.now c.worker.inside.pass c.args.worker.now.pass
+      c.nearest_with_value-answer.new.pass c.args.key c.args.tries c.self.view_is
+      (ap (λ (x : WorkerView). x.pass) c.worker.view_is)
+      c.know_run.ensures.seen c.know_run-2.ensures.seen c.know_run.ensures.fits
+      c.nearest_with_value-answer.ensures.after.same c.nearest_with_value-answer.ensures.after.past
+      c.requires.call.own c.args.side (of_error c.nearest_with_value-answer.result fault.Busy is
+      c.nearest_with_value-answer.ensures.after.missed));
   moment = search rules;
   won = search rules;
   steps = search rules;

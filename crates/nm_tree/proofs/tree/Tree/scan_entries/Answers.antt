@@ -16,7 +16,12 @@ use Rattle.nm_tree.proofs.Staying.{stays_resting, resting_in, free_in}
 use Rattle.nm_tree.proofs.tree.Tree.scan_entries.Goals as goal
 
 pub invariant_of-worker : goal.invariant_of-worker
-invariant_of-worker c = stays_resting c.worker.inside.pass c.scan_with_values-answer.new.pass _ c.worker.inside.standing c.worker.inside.home (resting_in c.worker.inside.standing (ap (λ (w : WorkerView). w.held) c.worker.view_is ∙ c.requires.call.free) c.in_default.not-Pending) c.worker.invariant c.scan_with_values-answer.ensures.after.same (quiet_so _ _ c.scan_with_values-answer.ensures.after.won c.scan_with_values-answer.ensures.after.uncut) c.scan_with_values-answer.ensures.after.hands c.scan_with_values-answer.ensures.after.rests
+invariant_of-worker c = stays_resting c.worker.inside.pass c.scan_with_values-answer.new.pass _
+    c.worker.inside.standing c.worker.inside.home (resting_in c.worker.inside.standing
+    (ap (λ (w : WorkerView). w.held) c.worker.view_is ∙ c.requires.call.free) c.in_default.not-Pending)
+    c.worker.invariant c.scan_with_values-answer.ensures.after.same
+    (quiet_so _ _ c.scan_with_values-answer.ensures.after.won c.scan_with_values-answer.ensures.after.uncut)
+    c.scan_with_values-answer.ensures.after.hands c.scan_with_values-answer.ensures.after.rests
 
 pub returns-clause-leaves : goal.returns-clause-leaves
 returns-clause-leaves c =
@@ -28,15 +33,35 @@ returns-clause-leaves c =
     let r = c.scan_with_values-answer.result in
     let Full : ℕ → Type 0 = IsFull (length (keys_of c.scan_with_values-answer.new.out)) in
     let early = early_for Full t (GivesUpUnderPin (StopsShort b.layout) t p.view.log q.view.log) (WasReshaped w q 1) r
-    (λ short. scan_interfered b c.args.self.now p w q 0 t c.self.view_is (ap (λ (x : WorkerView). x.pass) c.worker.view_is) c.know_run.ensures.seen c.know_run-2.ensures.seen c.know_run.ensures.fits c.scan_with_values-answer.ensures.after.same c.scan_with_values-answer.ensures.after.past c.requires.call.own short) c.scan_with_values-answer.ensures.after.early in
+    (λ short. scan_interfered b c.args.self.now p w q 0 t c.self.view_is
+    (ap (λ (x : WorkerView). x.pass) c.worker.view_is) c.know_run.ensures.seen c.know_run-2.ensures.seen
+    c.know_run.ensures.fits c.scan_with_values-answer.ensures.after.same
+    c.scan_with_values-answer.ensures.after.past c.requires.call.own short)
+    c.scan_with_values-answer.ensures.after.early in
     record {
       same = search rules;
       past = search (rules, seen_all);
-      did = rw (← c.worker.view_is, ← c.self.view_is) (has_scanned _ c.args.tries _ _ _ (free_in c.worker.inside.standing (resting_in c.worker.inside.standing (ap (λ (w : WorkerView). w.held) c.worker.view_is ∙ c.requires.call.free) c.in_default.not-Pending)) c.scan_with_values-answer.result c.scan_with_values-answer.ensures.after.did c.scan_with_values-answer.ensures.after.missed c.scan_with_values-answer.ensures.after.busy);
-      interfered = λ is. many_interfered c.self.inside.shared c.args.self.now c.worker.inside.pass c.args.worker.now.pass c.scan_with_values-answer.new.pass 0 c.args.tries c.self.view_is (ap (λ (x : WorkerView). x.pass) c.worker.view_is)
-          c.know_run.ensures.seen c.know_run-2.ensures.seen c.know_run.ensures.fits c.scan_with_values-answer.ensures.after.same c.scan_with_values-answer.ensures.after.past c.requires.call.own (c.args.from ∷ c.args.from ∷ []) (of_error c.scan_with_values-answer.result fault.Busy is c.scan_with_values-answer.ensures.after.missed);
-      alone = λ alone is. many_alone c.args.worker.now.pass c.scan_with_values-answer.new.pass c.args.tries alone (many_interfered c.self.inside.shared c.args.self.now c.worker.inside.pass c.args.worker.now.pass c.scan_with_values-answer.new.pass 0 c.args.tries c.self.view_is (ap (λ (x : WorkerView). x.pass) c.worker.view_is)
-          c.know_run.ensures.seen c.know_run-2.ensures.seen c.know_run.ensures.fits c.scan_with_values-answer.ensures.after.same c.scan_with_values-answer.ensures.after.past c.requires.call.own (c.args.from ∷ c.args.from ∷ []) (of_error c.scan_with_values-answer.result fault.Busy is c.scan_with_values-answer.ensures.after.missed));
+      did = rw (← c.worker.view_is, ← c.self.view_is)
+          (has_scanned _ c.args.tries _ _ _ (free_in c.worker.inside.standing
+          (resting_in c.worker.inside.standing (ap (λ (w : WorkerView). w.held) c.worker.view_is
+          ∙ c.requires.call.free) c.in_default.not-Pending)) c.scan_with_values-answer.result
+          c.scan_with_values-answer.ensures.after.did c.scan_with_values-answer.ensures.after.missed
+          c.scan_with_values-answer.ensures.after.busy);
+      interfered = λ is. many_interfered c.self.inside.shared c.args.self.now c.worker.inside.pass
+          c.args.worker.now.pass c.scan_with_values-answer.new.pass 0 c.args.tries c.self.view_is
+          (ap (λ (x : WorkerView). x.pass) c.worker.view_is)
+          c.know_run.ensures.seen c.know_run-2.ensures.seen c.know_run.ensures.fits
+          c.scan_with_values-answer.ensures.after.same c.scan_with_values-answer.ensures.after.past
+          c.requires.call.own (c.args.from ∷ c.args.from ∷ [])
+          (of_error c.scan_with_values-answer.result fault.Busy is c.scan_with_values-answer.ensures.after.missed);
+      alone = λ alone is. many_alone c.args.worker.now.pass c.scan_with_values-answer.new.pass c.args.tries alone
+          (many_interfered c.self.inside.shared c.args.self.now c.worker.inside.pass c.args.worker.now.pass
+          c.scan_with_values-answer.new.pass 0 c.args.tries c.self.view_is
+          (ap (λ (x : WorkerView). x.pass) c.worker.view_is)
+          c.know_run.ensures.seen c.know_run-2.ensures.seen c.know_run.ensures.fits
+          c.scan_with_values-answer.ensures.after.same c.scan_with_values-answer.ensures.after.past
+          c.requires.call.own (c.args.from ∷ c.args.from ∷ [])
+          (of_error c.scan_with_values-answer.result fault.Busy is c.scan_with_values-answer.ensures.after.missed));
       moment = search rules;
       count = search rules;
       next = search rules;

@@ -15,7 +15,11 @@ use Rattle.nm_tree.proofs.Staying.{stays_resting, resting_in, free_in}
 use Rattle.nm_tree.proofs.tree.Tree.scan_to.Goals as goal
 
 pub invariant_of-worker : goal.invariant_of-worker
-invariant_of-worker c = stays_resting c.worker.inside.pass c.scan-answer.new.pass _ c.worker.inside.standing c.worker.inside.home (resting_in c.worker.inside.standing (ap (λ (w : WorkerView). w.held) c.worker.view_is ∙ c.requires.free) c.in_default.not-Pending) c.worker.invariant c.scan-answer.ensures.same (quiet_so _ _ c.scan-answer.ensures.won c.scan-answer.ensures.uncut) c.scan-answer.ensures.hands c.scan-answer.ensures.rests
+invariant_of-worker c = stays_resting c.worker.inside.pass c.scan-answer.new.pass _ c.worker.inside.standing
+    c.worker.inside.home (resting_in c.worker.inside.standing
+    (ap (λ (w : WorkerView). w.held) c.worker.view_is ∙ c.requires.free) c.in_default.not-Pending) c.worker.invariant
+    c.scan-answer.ensures.same (quiet_so _ _ c.scan-answer.ensures.won c.scan-answer.ensures.uncut)
+    c.scan-answer.ensures.hands c.scan-answer.ensures.rests
 
 pub returns : goal.returns
 returns c =
@@ -27,15 +31,30 @@ returns c =
     let r = c.scan-answer.result in
     let Full : ℕ → Type 0 = IsFull (length c.scan-answer.new.out) in
     let early = early_for Full t (GivesUpUnderPin (StopsShort b.layout) t p.view.log q.view.log) (WasReshaped w q 1) r
-    (λ short. scan_interfered b c.args.self.now p w q 0 t c.self.view_is (ap (λ (x : WorkerView). x.pass) c.worker.view_is) c.know_run.ensures.seen c.know_run-2.ensures.seen c.know_run.ensures.fits c.scan-answer.ensures.same c.scan-answer.ensures.past c.requires.own short) c.scan-answer.ensures.early in
+    (λ short. scan_interfered b c.args.self.now p w q 0 t c.self.view_is
+    (ap (λ (x : WorkerView). x.pass) c.worker.view_is) c.know_run.ensures.seen c.know_run-2.ensures.seen
+    c.know_run.ensures.fits c.scan-answer.ensures.same c.scan-answer.ensures.past c.requires.own short)
+    c.scan-answer.ensures.early in
     record {
       same = search rules;
       past = search (rules, seen_all);
-      did = rw (← c.worker.view_is, ← c.self.view_is) (has_scanned _ c.args.tries _ _ _ (free_in c.worker.inside.standing (resting_in c.worker.inside.standing (ap (λ (w : WorkerView). w.held) c.worker.view_is ∙ c.requires.free) c.in_default.not-Pending)) c.scan-answer.result c.scan-answer.ensures.did c.scan-answer.ensures.missed c.scan-answer.ensures.busy);
-      interfered = λ is. many_interfered c.self.inside.shared c.args.self.now c.worker.inside.pass c.args.worker.now.pass c.scan-answer.new.pass 0 c.args.tries c.self.view_is (ap (λ (x : WorkerView). x.pass) c.worker.view_is)
-          c.know_run.ensures.seen c.know_run-2.ensures.seen c.know_run.ensures.fits c.scan-answer.ensures.same c.scan-answer.ensures.past c.requires.own (c.args.from ∷ c.args.from ∷ []) (of_error c.scan-answer.result fault.Busy is c.scan-answer.ensures.missed);
-      alone = λ alone is. many_alone c.args.worker.now.pass c.scan-answer.new.pass c.args.tries alone (many_interfered c.self.inside.shared c.args.self.now c.worker.inside.pass c.args.worker.now.pass c.scan-answer.new.pass 0 c.args.tries c.self.view_is (ap (λ (x : WorkerView). x.pass) c.worker.view_is)
-          c.know_run.ensures.seen c.know_run-2.ensures.seen c.know_run.ensures.fits c.scan-answer.ensures.same c.scan-answer.ensures.past c.requires.own (c.args.from ∷ c.args.from ∷ []) (of_error c.scan-answer.result fault.Busy is c.scan-answer.ensures.missed));
+      did = rw (← c.worker.view_is, ← c.self.view_is)
+          (has_scanned _ c.args.tries _ _ _ (free_in c.worker.inside.standing
+          (resting_in c.worker.inside.standing (ap (λ (w : WorkerView). w.held) c.worker.view_is ∙ c.requires.free)
+          c.in_default.not-Pending)) c.scan-answer.result c.scan-answer.ensures.did c.scan-answer.ensures.missed
+          c.scan-answer.ensures.busy);
+      interfered = λ is. many_interfered c.self.inside.shared c.args.self.now c.worker.inside.pass
+          c.args.worker.now.pass c.scan-answer.new.pass 0 c.args.tries c.self.view_is
+          (ap (λ (x : WorkerView). x.pass) c.worker.view_is)
+          c.know_run.ensures.seen c.know_run-2.ensures.seen c.know_run.ensures.fits c.scan-answer.ensures.same
+          c.scan-answer.ensures.past c.requires.own (c.args.from ∷ c.args.from ∷ [])
+          (of_error c.scan-answer.result fault.Busy is c.scan-answer.ensures.missed);
+      alone = λ alone is. many_alone c.args.worker.now.pass c.scan-answer.new.pass c.args.tries alone
+          (many_interfered c.self.inside.shared c.args.self.now c.worker.inside.pass c.args.worker.now.pass
+          c.scan-answer.new.pass 0 c.args.tries c.self.view_is (ap (λ (x : WorkerView). x.pass) c.worker.view_is)
+          c.know_run.ensures.seen c.know_run-2.ensures.seen c.know_run.ensures.fits c.scan-answer.ensures.same
+          c.scan-answer.ensures.past c.requires.own (c.args.from ∷ c.args.from ∷ [])
+          (of_error c.scan-answer.result fault.Busy is c.scan-answer.ensures.missed));
       moment = search rules;
       count = search rules;
       next = search rules;

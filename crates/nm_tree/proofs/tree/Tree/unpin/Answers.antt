@@ -7,8 +7,10 @@ use Rattle.nm_tree.proofs.tree.Tree.unpin.Goals as goal
 
 pub invariant_of-worker : goal.invariant_of-worker
 invariant_of-worker c =
-    stays _ c.worker.inside.home c.leave.new.pass _ _ c.worker.invariant (search rules) (left _ _ (ap (λ (x : PassView). x.view.log) c.leave.ensures.took.step)) c.leave.ensures.hands.private
-    (c.leave.ensures.hands.ledgers (labelled c.worker.inside.pass _ _ c.worker.invariant.between.stands)) c.leave.ensures.rests
+    stays _ c.worker.inside.home c.leave.new.pass _ _ c.worker.invariant (search rules)
+    (left _ _ (ap (λ (x : PassView). x.view.log) c.leave.ensures.took.step)) c.leave.ensures.hands.private
+    (c.leave.ensures.hands.ledgers (labelled c.worker.inside.pass _ _ c.worker.invariant.between.stands))
+    c.leave.ensures.rests
 
 pub returns : goal.returns
 returns c = record {
