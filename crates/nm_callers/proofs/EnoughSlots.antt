@@ -109,7 +109,8 @@ module _ (p q : PassView) (seen : HasSeen q.view) (fits : IsLayout q.view.layout
       by (inl made) = let s = stood turns is q.view.number (Claim free.slot) Taken made in
           true≢false (sym (free.pooled s.so_far s.rest s.are s.later) ∙ s.stands)
       by (inr made) = let s = stood turns is q.view.number (Look free.slot Birth) (BirthIs last_number) made in
-          free.births s.so_far s.rest s.are s.later (same_birth (node (words_after L s.so_far) free.slot).birth s.stands)
+          free.births s.so_far s.rest s.are s.later (same_birth (node (words_after L s.so_far) free.slot).birth
+          s.stands)
 
 -- ---- managed calls
 

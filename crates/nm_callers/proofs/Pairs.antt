@@ -78,7 +78,8 @@ module _ (k : ℕ) (start one before after last : PassView) (workers : after.vie
   number_one : one.view.number < 2
   number_one = subst (λ (n : ℕ). one.view.number < n) workers
       (subst (λ (l : Layout). one.view.number < l.workers) layout
-      (answers_below one.view.layout start.view.past one.view.past one.view.number Insert k true inserted first.workers))
+      (answers_below one.view.layout start.view.past one.view.past one.view.number Insert k true inserted
+      first.workers))
 
   -- its part of what it has seen at last is what it had done
   own : part_of one.view.number last.view.past ≡ one.view.log

@@ -49,7 +49,8 @@ module _ (k : ℕ) (key : IsKey k) where
 
   -- behind an act that puts it in, where none takes it away that is as late
   pub put_in : (acts : List Act) (S last : ℕ → Type 0) → Replays S acts last → Ascend acts → (a : Act)
-      → IsTrueInsert k a → ((c : Act) → IsAmong acts c → IsTrueDelete k c → c.moment < a.moment) → IsAmong acts a → last k
+      → IsTrueInsert k a → ((c : Act) → IsAmong acts c → IsTrueDelete k c → c.moment < a.moment) → IsAmong acts a
+      → last k
   put_in [] S last r up a puts none at = absurd at
   put_in (x ∷ acts) S last r up a puts none (inl is) =
       holds_on acts (changed S x.op x.key x.answer) last r.2

@@ -1,6 +1,33 @@
 -- A crew, and what becomes of it at one place.
-use Rattle.std.proofs.Common.{◌≡◌, ◌≢◌, ◌⊎◌, inr, ◌<◌, ◌+◌, ◌++◌, ◌∙◌, ℕ, suc, List, [], ◌∷◌, length, map, slice_set,
-    slice_index_or, All, Option, Some, None, IfSome, refl, sym, ap, append_assoc, arith}
+use Rattle.std.proofs.Common.{
+  ◌≡◌,
+  ◌≢◌,
+  ◌⊎◌,
+  inr,
+  ◌<◌,
+  ◌+◌,
+  ◌++◌,
+  ◌∙◌,
+  ℕ,
+  suc,
+  List,
+  [],
+  ◌∷◌,
+  length,
+  map,
+  slice_set,
+  slice_index_or,
+  All,
+  Option,
+  Some,
+  None,
+  IfSome,
+  refl,
+  sym,
+  ap,
+  append_assoc,
+  arith,
+}
 use Rattle.std.specs.Prelude.{sum_by}
 use Rattle.std.proofs.lemmas.List.{length-map, append-nil, length-set, set-set, set_comm, get_or-set_other}
 use Rattle.std.proofs.lemmas.List.Elements.{All-nil, All-cons, All-head, All-tail, All-set, at_read}
@@ -9,15 +36,34 @@ use Rattle.nm_serial.specs.declared.answer.Answer.{Answer}
 use Rattle.nm_epoch.specs.declared.collecting.HeldQueue.{HeldQueue}
 use Rattle.nm_epoch.specs.Collecting.{HaveLost}
 use Rattle.nm_files.specs.declared.read.entry.ScriptCall.{ScriptCall}
-use Rattle.nm_files.specs.declared.read.entry.ScriptCall.TheVariants.{Has, Insert, Delete, Finish, Pin, Unpin, Advance,
-    Collect, Resign}
+use Rattle.nm_files.specs.declared.read.entry.ScriptCall.TheVariants.{
+  Has,
+  Insert,
+  Delete,
+  Finish,
+  Pin,
+  Unpin,
+  Advance,
+  Collect,
+  Resign,
+}
 use Rattle.nm_steps.specs.Steps.{TreeView, IsOf}
 use Rattle.nm_tree.specs.Closing.{given_in}
 use Rattle.nm_tree.specs.Resigning.{merged}
 use Rattle.nm_tree.specs.Workers.{WorkerView, AreNew, KeepsOtherQueues}
 use Rattle.nm_tree.proofs.Merging.{length-merged}
-use Rattle.nm_serial.specs.Crews.{AreCrewOf, HasAsked, HasDoneAt, HasResignedOrStayed, IsGone, PlaysAll, PlaysLine,
-    present, stands_for, worker_at}
+use Rattle.nm_serial.specs.Crews.{
+  AreCrewOf,
+  HasAsked,
+  HasDoneAt,
+  HasResignedOrStayed,
+  IsGone,
+  PlaysAll,
+  PlaysLine,
+  present,
+  stands_for,
+  worker_at,
+}
 use Rattle.nm_serial.specs.Makes.{IsOwnCall}
 
 -- a place is written
@@ -64,7 +110,7 @@ present_stand_for (None ∷ crew) = present_stand_for crew
     zero-more n = omega arith
 present_stand_for (Some w ∷ crew) =
     sum_by-cons (λ (w : WorkerView). length w.queues) w (present crew)
-      ∙ ap (λ n. length w.queues + n) (present_stand_for crew) ∙ sym (sum_by-cons stands_for (Some w) crew)
+    ∙ ap (λ n. length w.queues + n) (present_stand_for crew) ∙ sym (sum_by-cons stands_for (Some w) crew)
 
 -- the workers of a new tree stand for themselves
 pub new_stand_for : (b : TreeView) (n : ℕ) (ws : List WorkerView) → AreNew b n ws
@@ -89,7 +135,7 @@ present_are_of b (None ∷ crew) all = present_are_of b crew
     (All-tail (λ (o : Option WorkerView). IfSome o (λ w. IsOf b w.pass)) None crew all)
 present_are_of b (Some w ∷ crew) all =
     All-cons (λ (w : WorkerView). IsOf b w.pass) w (present crew)
-      (All-head (λ (o : Option WorkerView). IfSome o (λ w. IsOf b w.pass)) (Some w) crew all)
+    (All-head (λ (o : Option WorkerView). IfSome o (λ w. IsOf b w.pass)) (Some w) crew all)
     (present_are_of b crew (All-tail (λ (o : Option WorkerView). IfSome o (λ w. IsOf b w.pass)) (Some w) crew all))
 
 -- ---- lines
@@ -120,8 +166,8 @@ pub written : (crew : List (Option WorkerView)) (heir leaver : ℕ) (taken still
     ≡ slice_set (slice_set crew heir taken) leaver still
 written crew heir leaver taken still e f two =
     ap (λ (l : List (Option WorkerView)). slice_set l leaver still)
-      (set_comm (slice_set crew heir e) leaver heir f taken two
-      ∙ ap (λ (l : List (Option WorkerView)). slice_set l leaver f) (set-set crew heir e taken))
+    (set_comm (slice_set crew heir e) leaver heir f taken two
+    ∙ ap (λ (l : List (Option WorkerView)). slice_set l leaver f) (set-set crew heir e taken))
     ∙ set-set (slice_set crew heir taken) leaver f still
 
 -- the first place is left, and then the others
@@ -152,10 +198,20 @@ module _ (crew : List (Option WorkerView)) (leaver heir : ℕ) (taking leaving t
   leaver_is = sym (get_or-set_other crew heir leaver e None two) ∙ leaver_was
 
   pub has_asked : (a : Answer) → HasResignedOrStayed taking leaving taken still a
-    → HasAsked leaver heir crew a (slice_set (slice_set (slice_set (slice_set crew heir e) leaver f) heir
-    (Some taken)) leaver still)
-  has_asked a did = record { two = two; taking = taking; leaving = leaving; taken = taken; still = still; heir_is =
-    heir_is; leaver_is = leaver_is; did = did; places = written crew heir leaver (Some taken) still e f two }
+      → HasAsked leaver heir crew a (slice_set (slice_set (slice_set (slice_set crew heir e) leaver f) heir
+      (Some taken)) leaver still)
+  has_asked a did = record {
+    two = two;
+    taking = taking;
+    leaving = leaving;
+    taken = taken;
+    still = still;
+    heir_is =
+        heir_is;
+    leaver_is = leaver_is;
+    did = did;
+    places = written crew heir leaver (Some taken) still e f two;
+  }
 
   abbrev after : List (Option WorkerView)
   after = slice_set (slice_set (slice_set (slice_set crew heir e) leaver f) heir (Some taken)) leaver still
@@ -166,9 +222,9 @@ module _ (crew : List (Option WorkerView)) (leaver heir : ℕ) (taking leaving t
   has_asked_if (Some a) did = inr (has_asked a did)
 
   pub resigning_keeps_whole : heir < length crew → leaver < length crew
-    → stands_for (Some taken) + stands_for still ≡ stands_for (Some taking) + stands_for (Some leaving)
+      → stands_for (Some taken) + stands_for still ≡ stands_for (Some taking) + stands_for (Some leaving)
       → sum_by stands_for (slice_set (slice_set (slice_set (slice_set crew heir e) leaver f) heir (Some taken))
-        leaver still) ≡ sum_by stands_for crew
+      leaver still) ≡ sum_by stands_for crew
   resigning_keeps_whole hl ll same =
       let first = weighed crew heir (Some taken) hl in
       let long = length-set crew heir (Some taken) in
@@ -183,7 +239,7 @@ pub whole_at_end : (b : TreeView) (ws left : List WorkerView) (crew after : List
     → sum_by stands_for after ≡ sum_by stands_for crew → left ≡ present after → given_in left ≡ b.layout.workers
 whole_at_end b ws left crew after n new many sizes places kept is =
     let start : sum_by stands_for crew ≡ length ws = ap (λ (c : List (Option WorkerView)). sum_by stands_for c)
-          places ∙ new_stand_for b 0 ws new in
+    places ∙ new_stand_for b 0 ws new in
     ap given_in is ∙ present_stand_for after ∙ kept ∙ start ∙ many ∙ sym sizes
 
 -- each call but a resigning is its worker's alone

@@ -1,6 +1,23 @@
 -- What a run tells of its input, by the bytes of it that it read.
-use Rattle.std.proofs.Common.{◌≡◌, ℕ, List, length, take, drop, Result, Ok, Err, refl, sym, ap, subst, inl, inr, arith,
-    ◌∙◌}
+use Rattle.std.proofs.Common.{
+  ◌≡◌,
+  ℕ,
+  List,
+  length,
+  take,
+  drop,
+  Result,
+  Ok,
+  Err,
+  refl,
+  sym,
+  ap,
+  subst,
+  inl,
+  inr,
+  arith,
+  ◌∙◌,
+}
 use Rattle.std.specs.Prelude.{Option, Some, None, IfSome, IfOk, OnOk, IfErr, IsOk, Vec}
 use Rattle.std.specs.Global.{Global}
 use Rattle.nm_files.specs.Lines.{parts}
@@ -88,7 +105,7 @@ whole_read command input s is =
       | inr many ↦
           let p = take 12100122 input in
           let same = same_file (first_line_of command) (line_of calls) p (drop 12100122 input)
-                (omega (arith, length-take 12100122 input)) in
+          (omega (arith, length-take 12100122 input)) in
           let two : Ok s ≡ Err same.0 = sym is ∙ same.1 in
           let no : ⊥ = cc in
           absurd no
@@ -102,7 +119,7 @@ pub tells_text : (IsText : Script → List (List ℕ) → List ℕ → Type 0) (
 tells_text IsText command None bytes text old new read written wrote = tt
 tells_text IsText command (Some input) bytes text old new read written wrote =
     let whole : bytes ≡ input = read ∙ whole_read command input written.0
-          (sym (ap (script_of command) read) ∙ written.1) in
+    (sym (ap (script_of command) read) ∙ written.1) in
     (text, subst (λ (b : List ℕ). IsWritten IsText command b text) whole written, wrote)
 
 pub tells_gate : (IsStopped : Script → ℕ → ℕ → Type 0) (command : Command) (known : Option (List ℕ)) (bytes : List ℕ)

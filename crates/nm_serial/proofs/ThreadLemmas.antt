@@ -1,6 +1,24 @@
 -- Workers that are each promised something, in their order.
-use Rattle.std.proofs.Common.{◌≡◌, ◌<◌, ◌++◌, ◌∙◌, ℕ, zero, suc, List, [], ◌∷◌, All, Some, length, map, refl, sym, ap,
-    arith}
+use Rattle.std.proofs.Common.{
+  ◌≡◌,
+  ◌<◌,
+  ◌++◌,
+  ◌∙◌,
+  ℕ,
+  zero,
+  suc,
+  List,
+  [],
+  ◌∷◌,
+  All,
+  Some,
+  length,
+  map,
+  refl,
+  sym,
+  ap,
+  arith,
+}
 use Rattle.std.specs.Prelude.{slice_index_or}
 use Rattle.std.proofs.lemmas.List.Elements.{All-map}
 use Rattle.std.proofs.lemmas.List.Sums.{sum_by-cons}
@@ -17,7 +35,7 @@ pub each_pushed : {X Y : Type 0} (R : X → Y → Type 0) (xs : List X) (ys : Li
     → length ys ≡ length xs → ((k : ℕ) (a : X) (b : Y) → k < length xs
     → R (slice_index_or xs k a) (slice_index_or ys k b)) → R x y
     → (k : ℕ) (a : X) (b : Y) → k < length (xs ++ x ∷ [])
-      → R (slice_index_or (xs ++ x ∷ []) k a) (slice_index_or (ys ++ y ∷ []) k b)
+    → R (slice_index_or (xs ++ x ∷ []) k a) (slice_index_or (ys ++ y ∷ []) k b)
 each_pushed R [] [] x y len each r zero a b lt = r
 each_pushed R [] [] x y len each r (suc k) a b lt = absurd (omega arith)
 each_pushed R [] (u ∷ ys) x y len each r k a b lt = absurd (omega arith)
@@ -47,11 +65,11 @@ module _ (lets stops : ℕ → ℕ → Type 0) (b : TreeView) (tries : ℕ) (es 
     (ps : List Played) (played : HaveAllPlayed lets stops b tries es ws ps) where
   pub ended_are_of : All (λ w. IsOf b w.pass) (map (λ (p : Played). p.worker) ps)
   ended_are_of = All-map (λ (w : WorkerView). IsOf b w.pass) (λ (p : Played). p.worker) ps
-    (λ k p lt. (played.each k p.worker p (let long = played.all in omega (arith, lt, long))).own)
+      (λ k p lt. (played.each k p.worker p (let long = played.all in omega (arith, lt, long))).own)
 
   pub ended_stand_for_all : (n : ℕ) → AreNew b 0 ws → length ws ≡ n → b.layout.workers ≡ n
-    → given_in (map (λ (p : Played). p.worker) ps) ≡ b.layout.workers
+      → given_in (map (λ (p : Played). p.worker) ps) ≡ b.layout.workers
   ended_stand_for_all n new many sizes =
       same_many ws ps played.all (λ k w p lt. (played.each k w p lt).queues)
-        ∙ (ap given_in (sym (present_all ws)) ∙ present_stand_for (map Some ws) ∙ new_stand_for b 0 ws new) ∙ many
-        ∙ sym sizes
+      ∙ (ap given_in (sym (present_all ws)) ∙ present_stand_for (map Some ws) ∙ new_stand_for b 0 ws new) ∙ many
+      ∙ sym sizes

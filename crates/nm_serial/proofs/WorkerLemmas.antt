@@ -24,13 +24,13 @@ all_are_of b (w ∷ ws) each = (each 0 w (omega arith), all_are_of b ws (λ k d 
 
 module _ {X : Type 0} (P : X → Type 0) (xs : List X) (x : X) where
   pub front : ((k : ℕ) (d : X) → k < length (xs ++ x ∷ []) → P (slice_index_or (xs ++ x ∷ []) k d)) → (k : ℕ) (d : X)
-    → k < length xs → P (slice_index_or xs k d)
+      → k < length xs → P (slice_index_or xs k d)
   front all k d lt = let more = length_push xs x in
-    subst P (get_or_append_left xs (x ∷ []) d k lt) (all k d (omega (arith, lt, more)))
+      subst P (get_or_append_left xs (x ∷ []) d k lt) (all k d (omega (arith, lt, more)))
 
   pub last : ((k : ℕ) (d : X) → k < length (xs ++ x ∷ []) → P (slice_index_or (xs ++ x ∷ []) k d)) → P x
   last all = let more = length_push xs x in
-    subst P (get_or-append_seam xs x [] x) (all (length xs) x (omega (arith, more)))
+      subst P (get_or-append_seam xs x [] x) (all (length xs) x (omega (arith, more)))
 
 pub pushed : {X : Type 0} (P : X → Type 0) (xs : List X) (x : X)
     → ((k : ℕ) (d : X) → k < length xs → P (slice_index_or xs k d)) → P x → (k : ℕ) (d : X)

@@ -356,7 +356,8 @@ module _ (Among : ℕ → Type 0) (Before : ℕ → ℕ → Type 0) (tries : ℕ
       let whole = add-mul n 1 most in
       record {
         onward = onward_more (n * most + most) ((n + 1) * most) w z (omega (arith, whole))
-            (onward_then (n * most) most w x z first.onward (record { on = last.on; none = last.left; won = last.won }));
+            (onward_then (n * most) most w x z first.onward
+            (record { on = last.on; none = last.left; won = last.won }));
         met = λ two. met_more most n w x z first two last;
       }
 

@@ -53,7 +53,8 @@ inserted_there g [] = refl
 inserted_there g (h ∷ hs) = by (nat_lt h.origin g.origin) (inserted_there g hs)
   where
     by : (b : Bool) → insert hs (place_in g.origin hs) g ≡ inserted g hs
-        → insert (h ∷ hs) (if b then suc (place_in g.origin hs) else 0) g ≡ (if b then h ∷ inserted g hs else g ∷ h ∷ hs)
+        → insert (h ∷ hs) (if b then suc (place_in g.origin hs) else 0) g
+        ≡ (if b then h ∷ inserted g hs else g ∷ h ∷ hs)
     by true rest = ap (λ l. h ∷ l) rest
     by false rest = refl
 

@@ -446,7 +446,8 @@ module _ (end : End) (L : Layout) (tries : ℕ) (w : WorkerView) (none : w.pendi
   half_round : (x z : WorkerView) (r : Result (Option ℕ) CallFault) → Finds end L tries x z r
       → GoesOn (round_bound L tries) 0 x z
   half_round x z r found = let fits = round_fits L tries in
-      goes_more (near_bound L tries) (round_bound L tries) 0 x z (omega (arith, fits)) (goes_near end L tries x z r found)
+      goes_more (near_bound L tries) (round_bound L tries) 0 x z (omega (arith, fits))
+      (goes_near end L tries x z r found)
 
   by_none : (n : ℕ) (x z : WorkerView) → n < tries → HaveGone L tries n w x → Finds end L tries x z (Ok None)
       → Says z (Ok None)
@@ -543,7 +544,8 @@ module _ (end : End) (L : Layout) (tries : ℕ) (w : WorkerView) (none : w.pendi
             held = on.held;
             fit = on.fit;
             alone = λ runs.
-                (let few = l.alone (alone_later w.pass x.pass z.pass gone.on.same gone.on.past l.past runs.alone) refl in
+                (let few = l.alone (alone_later w.pass x.pass z.pass gone.on.same gone.on.past l.past runs.alone)
+                refl in
                 omega (arith, few));
           }
       by fault.Pending found l = not_pending x gone.free l.did.0

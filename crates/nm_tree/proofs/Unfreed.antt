@@ -433,7 +433,8 @@ module _ (L : Layout) (k : ℕ) where
       end' new (then' old mid end' (flagged f.end f.birth f.left tries c old mid h)
       (after_done (leaf_of f.end f.birth) f.end.seek_record f.left c mid end' more)) (these _ end' new refl leaves)
   delete_finished tries old new (Ok (deletion.Done false)) (c, end', h, leaves) = then' old end' new
-      (then' old h.1 end' (flags_lost h.0 old h.1 h.3) (seeks L k h.1 end' c h.4.0 h.4.1)) (these _ end' new refl leaves)
+      (then' old h.1 end' (flags_lost h.0 old h.1 h.3) (seeks L k h.1 end' c h.4.0 h.4.1))
+      (these _ end' new refl leaves)
   delete_finished tries old new (Ok (deletion.Pending n)) (inl (f, c, mid, is, h, more)) = then' old mid new
       (flagged f.end f.birth f.left tries c old mid h)
       (after_refused (leaf_of f.end f.birth) f.end.seek_record f.left c mid new more)

@@ -15,11 +15,11 @@ after_parts c n events = sym (after_in-append c (take n events) (drop n events))
 -- a core at its opening ran the first n events that it was given, and then the rest
 pub ran_in_parts : (opening core between last : Configuration) (events given rest : List (ℕ × Event)) (n : ℕ)
     → core ≡ opening → given ≡ events → between ≡ after_in core (take n given) → rest ≡ drop n events
-      → last ≡ after_in between rest
+    → last ≡ after_in between rest
     → last ≡ after_in opening events
 ran_in_parts opening core between last events given rest n opened listed done left ran =
     ran ∙ ap (after_in between) left
     ∙ ap (λ (c : Configuration). after_in c (drop n events))
-      (done ∙ ap (λ (c : Configuration). after_in c (take n given)) opened
-      ∙ ap (λ (ts : List (ℕ × Event)). after_in opening (take n ts)) listed)
+    (done ∙ ap (λ (c : Configuration). after_in c (take n given)) opened
+    ∙ ap (λ (ts : List (ℕ × Event)). after_in opening (take n ts)) listed)
     ∙ after_parts opening n events

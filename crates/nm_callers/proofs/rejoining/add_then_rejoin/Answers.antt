@@ -29,7 +29,8 @@ returns-clause-found c none =
     let looked : SaysManaged Has d h k y z (Ok there) = c.in-Ok-contains.ensures.says in
     let told : HasSeenAllOf y.pass x.pass = record {
       goes_on = closed_seen x c.close.result c.close.ensures.did y.pass.view.past
-          (subst (Extends y.pass.view.past) (ap (λ (n : Notice). n.past) c.into_note-note.ensures) c.hear.ensures.heard);
+          (subst (Extends y.pass.view.past) (ap (λ (n : Notice). n.past) c.into_note-note.ensures)
+          c.hear.ensures.heard);
     } in
     let seen = seen_through x.pass y.pass z.pass told (seen_behind Has d h k y z (Ok there) looked) in
     let trees : c.contains.new.self.tree ≡ c.insert.new.self.tree = c.contains.ensures.tree

@@ -8,5 +8,5 @@ pub returns-clause-did : goal.returns-clause-did
 returns-clause-did c =
     let free : c.args.worker.now.held ≡ None = search rules in
     has_searched (HasDeleted c.args.tree.now.layout c.args.tries c.args.key c.args.worker.now c.delete.new.worker)
-      c.args.worker.now c.delete.new.worker c.delete.result c.of_change.result free c.delete.ensures.leaves.did
-      c.of_change.ensures
+    c.args.worker.now c.delete.new.worker c.delete.result c.of_change.result free c.delete.ensures.leaves.did
+    c.of_change.ensures

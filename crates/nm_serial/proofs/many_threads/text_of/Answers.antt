@@ -14,12 +14,12 @@ play_apart-requires-clause-own g c κs within = λ k d lt. new_are_of c.in_ok-tr
 pub put_end-requires-clause-own : goal.put_end-requires-clause-own
 put_end-requires-clause-own g c =
     subst (λ (ws : List WorkerView). All (λ (w : WorkerView). IsOf c.in_ok-tree.tree w.pass) ws)
-      (sym c.in-Ok-workers_of.ensures) (ended_are_of _ _ c.in_ok-tree.tree _ _ c.in_ok-tree.workers.items
-      c.in_ok-played.played.items c.in_ok-played.ensures.played)
+    (sym c.in-Ok-workers_of.ensures) (ended_are_of _ _ c.in_ok-tree.tree _ _ c.in_ok-tree.workers.items
+    c.in_ok-played.played.items c.in_ok-played.ensures.played)
 
 pub put_end-requires-clause-whole : goal.put_end-requires-clause-whole
 put_end-requires-clause-whole g c =
     let sizes = ap (λ (l : Layout). l.workers) c.in_ok-tree.ensures.new.layout in
     ap given_in c.in-Ok-workers_of.ensures ∙ ended_stand_for_all _ _ c.in_ok-tree.tree _ _ c.in_ok-tree.workers.items
-      c.in_ok-played.played.items c.in_ok-played.ensures.played _ c.in_ok-tree.ensures.new.new
-      c.in_ok-tree.ensures.new.count sizes
+    c.in_ok-played.played.items c.in_ok-played.ensures.played _ c.in_ok-tree.ensures.new.new
+    c.in_ok-tree.ensures.new.count sizes

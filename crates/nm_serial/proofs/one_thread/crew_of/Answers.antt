@@ -13,8 +13,8 @@ loop-worker-preserved c =
     let all = rw cut at i.left in
     record {
       own = rw pushed (All-push (λ (o : Option WorkerView). IfSome o (λ w. IsOf c.args.tree.now w.pass))
-        c.loop-worker.crew.items (Some c.in-Some.worker) i.own
-        (All-head P c.in-Some.worker c.next.new.self.rest.items all));
+          c.loop-worker.crew.items (Some c.in-Some.worker) i.own
+          (All-head P c.in-Some.worker c.next.new.self.rest.items all));
       left = All-tail P c.in-Some.worker c.next.new.self.rest.items all;
       places = rw (pushed, append_assoc) (rw cut at i.places);
     }

@@ -10,8 +10,8 @@ loop-entry-preserved c =
     let i = c.loop-entry.invariant in
     let rest = drop (c.loop-entry.entry-index + 1) c.args.calls.now in
     let cut : drop c.loop-entry.entry-index c.args.calls.now
-          ≡ c.entry-item.result ∷ rest = drop_more c.args.calls.now c.loop-entry.entry-index c.entry-item.result
-          c.loop-entry-test.true ∙ ap (λ (e : ℕ × ScriptCall). e ∷ rest) (sym c.entry-item.is) in
+    ≡ c.entry-item.result ∷ rest = drop_more c.args.calls.now c.loop-entry.entry-index c.entry-item.result
+    c.loop-entry-test.true ∙ ap (λ (e : ℕ × ScriptCall). e ∷ rest) (sym c.entry-item.is) in
     let a = c.in-Some.answer in
     let pushed : c.push.new.self.items ≡ c.loop-entry.answers.items ++ a ∷ [] = search rules in
     record {
@@ -20,13 +20,13 @@ loop-entry-preserved c =
       whole = c.play_line.ensures.whole ∙ i.whole;
       goes_on = λ more z next.
           rw (pushed, append_assoc) (i.goes_on (a ∷ more) z
-            (line_first c.args.tree.now c.args.header.now.tries _ rest c.entry-item.result a more
-            c.loop-entry.crew.items c.play_line.new.crew.items z cut c.in-Some.ensures.did next));
+          (line_first c.args.tree.now c.args.header.now.tries _ rest c.entry-item.result a more
+          c.loop-entry.crew.items c.play_line.new.crew.items z cut c.in-Some.ensures.did next));
     }
 
 pub returns-clause-did : goal.returns-clause-did
 returns-clause-did c =
     let last : PlaysAll c.args.tree.now c.args.header.now.tries (drop c.loop-entry.entry-index c.args.calls.now) []
-          c.loop-entry.crew.items c.loop-entry.crew.items = rw
-          (drop_all c.loop-entry.entry-index c.args.calls.now c.loop-entry-test.false) refl in
+    c.loop-entry.crew.items c.loop-entry.crew.items = rw
+    (drop_all c.loop-entry.entry-index c.args.calls.now c.loop-entry-test.false) refl in
     rw (← append-nil c.loop-entry.answers.items) (c.loop-entry.invariant.goes_on [] c.loop-entry.crew.items last)

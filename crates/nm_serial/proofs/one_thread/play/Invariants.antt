@@ -11,6 +11,6 @@ invariant-loop-entry l = record {
   count : length l.crew.items ≡ length l.fn.crew.items;
   whole : sum_by stands_for l.crew.items ≡ sum_by stands_for l.fn.crew.items;
   goes_on : (more : List Answer) (z : List (Option WorkerView))
-    → PlaysAll l.tree l.header.tries (drop l.entry-index l.calls) more l.crew.items z
+      → PlaysAll l.tree l.header.tries (drop l.entry-index l.calls) more l.crew.items z
       → PlaysAll l.tree l.header.tries l.calls (l.answers.items ++ more) l.fn.crew.items z;
 }

@@ -12,8 +12,8 @@ returns-in_default c =
       own = placed c.args.tree.now crew c.args.worker c.make_at.new.place c.make_at.ensures.own c.requires.own;
       count = length-set crew c.args.worker c.make_at.new.place;
       whole = line_keeps_whole crew c.args.worker c.index_mut.result.now c.make_at.new.place below at
-        c.make_at.ensures.whole;
+          c.make_at.ensures.whole;
       did = made_line c.args.tree.now c.args.header.now.tries c.args.worker c.args.call.now crew
-        c.index_mut.result.now c.make_at.new.place c.make_at.result (is_own c.args.call.now c.in_default.not-Resign)
-        at c.make_at.ensures.did;
+          c.index_mut.result.now c.make_at.new.place c.make_at.result (is_own c.args.call.now c.in_default.not-Resign)
+          at c.make_at.ensures.did;
     }

@@ -12,9 +12,9 @@ returns-clause-own c =
     let second = slice_set first c.args.leaver c.take-2.new.self in
     let third = slice_set second c.args.heir (Some c.leave-taken.result.0) in
     placed b third c.args.leaver c.leave-taken.result.1 c.leave-taken.ensures.leaver
-      (placed b second c.args.heir (Some c.leave-taken.result.0) c.leave-taken.ensures.heir
-      (emptied b first c.args.leaver c.take-2.new.self c.take-2.ensures.after
-      (emptied b c.args.crew.now.items c.args.heir c.take.new.self c.take.ensures.after c.requires.own)))
+    (placed b second c.args.heir (Some c.leave-taken.result.0) c.leave-taken.ensures.heir
+    (emptied b first c.args.leaver c.take-2.new.self c.take-2.ensures.after
+    (emptied b c.args.crew.now.items c.args.heir c.take.new.self c.take.ensures.after c.requires.own)))
 
 pub returns-clause-whole : goal.returns-clause-whole
 returns-clause-whole c =
@@ -25,12 +25,12 @@ returns-clause-whole c =
     let long = length-set crew c.args.heir c.take.new.self in
     let below : c.args.leaver < length first = omega (arith, long, c.requires.leaver) in
     let heir_is : worker_at crew c.args.heir ≡ Some c.in-Some.taking = stands_at crew c.args.heir
-          c.index_mut.result.now c.requires.heir c.index_mut.ensures.value ∙ taken in
+    c.index_mut.result.now c.requires.heir c.index_mut.ensures.value ∙ taken in
     let leaver_was : worker_at first c.args.leaver ≡ Some c.in-Some-take.leaving = stands_at first c.args.leaver
-          c.index_mut-2.result.now below c.index_mut-2.ensures.value ∙ left in
+    c.index_mut-2.result.now below c.index_mut-2.ensures.value ∙ left in
     resigning_keeps_whole crew c.args.leaver c.args.heir c.in-Some.taking c.in-Some-take.leaving
-      c.leave-taken.result.0 c.leave-taken.result.1 c.take.new.self c.take-2.new.self c.if-leaver-heir.false heir_is
-      leaver_was c.requires.heir c.requires.leaver c.leave-taken.ensures.whole
+    c.leave-taken.result.0 c.leave-taken.result.1 c.take.new.self c.take-2.new.self c.if-leaver-heir.false heir_is
+    leaver_was c.requires.heir c.requires.leaver c.leave-taken.ensures.whole
 
 pub returns-clause-did : goal.returns-clause-did
 returns-clause-did c =
@@ -41,9 +41,9 @@ returns-clause-did c =
     let long = length-set crew c.args.heir c.take.new.self in
     let below : c.args.leaver < length first = omega (arith, long, c.requires.leaver) in
     let heir_is : worker_at crew c.args.heir ≡ Some c.in-Some.taking = stands_at crew c.args.heir
-          c.index_mut.result.now c.requires.heir c.index_mut.ensures.value ∙ taken in
+    c.index_mut.result.now c.requires.heir c.index_mut.ensures.value ∙ taken in
     let leaver_was : worker_at first c.args.leaver ≡ Some c.in-Some-take.leaving = stands_at first c.args.leaver
-          c.index_mut-2.result.now below c.index_mut-2.ensures.value ∙ left in
+    c.index_mut-2.result.now below c.index_mut-2.ensures.value ∙ left in
     has_asked_if crew c.args.leaver c.args.heir c.in-Some.taking c.in-Some-take.leaving c.leave-taken.result.0
-      c.leave-taken.result.1 c.take.new.self c.take-2.new.self c.if-leaver-heir.false heir_is leaver_was
-      c.leave-taken.result.2 c.leave-taken.ensures.did
+    c.leave-taken.result.1 c.take.new.self c.take-2.new.self c.if-leaver-heir.false heir_is leaver_was
+    c.leave-taken.result.2 c.leave-taken.ensures.did

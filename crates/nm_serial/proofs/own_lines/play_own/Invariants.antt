@@ -13,12 +13,12 @@ invariant-loop-entry g l = record {
   queues : length l.worker.queues ≡ length l.fn.worker.queues;
   line : l.line ≡ 2 + l.entry-index;
   goes_on : (more : List Answer) (z : WorkerView) → PlaysOwn (g.G.Gate.lets l.lines.gate.now) l.lines.tree.now
-    l.lines.tries l.number l.line (drop l.entry-index l.lines.calls.now) more l.worker z
+      l.lines.tries l.number l.line (drop l.entry-index l.lines.calls.now) more l.worker z
       → PlaysOwn (g.G.Gate.lets l.lines.gate.now) l.lines.tree.now l.lines.tries l.number 2 l.lines.calls.now
-        (l.answers.items ++ more) l.fn.worker z;
+      (l.answers.items ++ more) l.fn.worker z;
   stops_on : (s : Stop) (z : WorkerView) → StopsOwn (g.G.Gate.lets l.lines.gate.now)
-    (g.G.Gate.stops l.lines.gate.now) l.lines.tree.now l.lines.tries l.number l.line
-    (drop l.entry-index l.lines.calls.now) l.worker z s
+      (g.G.Gate.stops l.lines.gate.now) l.lines.tree.now l.lines.tries l.number l.line
+      (drop l.entry-index l.lines.calls.now) l.worker z s
       → StopsOwn (g.G.Gate.lets l.lines.gate.now) (g.G.Gate.stops l.lines.gate.now) l.lines.tree.now l.lines.tries
-        l.number 2 l.lines.calls.now l.fn.worker z s;
+      l.number 2 l.lines.calls.now l.fn.worker z s;
 }

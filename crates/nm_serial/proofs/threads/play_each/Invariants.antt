@@ -7,9 +7,9 @@ invariant-loop-worker g l = record {
   left : l.yielded ++ l.worker-iterator.rest.items ≡ l.fn.workers.items;
   count : vec_len l.handles ≡ length l.yielded;
   each : (k : ℕ) (w : WorkerView) (d : _) → k < length l.yielded
-    → ((slice_index_or l.handles.items k d).promise.gate.now ≡ l.lines.gate.now)
-    × ((slice_index_or l.handles.items k d).promise.tree.now ≡ l.lines.tree.now)
-    × ((slice_index_or l.handles.items k d).promise.tries ≡ l.lines.tries)
-    × ((slice_index_or l.handles.items k d).promise.calls.now ≡ l.lines.calls.now)
-    × ((slice_index_or l.handles.items k d).promise.was.value ≡ slice_index_or l.yielded k w);
+      → ((slice_index_or l.handles.items k d).promise.gate.now ≡ l.lines.gate.now)
+      × ((slice_index_or l.handles.items k d).promise.tree.now ≡ l.lines.tree.now)
+      × ((slice_index_or l.handles.items k d).promise.tries ≡ l.lines.tries)
+      × ((slice_index_or l.handles.items k d).promise.calls.now ≡ l.lines.calls.now)
+      × ((slice_index_or l.handles.items k d).promise.was.value ≡ slice_index_or l.yielded k w);
 }

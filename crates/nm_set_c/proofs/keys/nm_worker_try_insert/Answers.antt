@@ -16,6 +16,7 @@ returns c = record {
     search rules,
     told Worker
         (TellsTryInsert c.args.tries c.args.key) ⊤ (held_by c.args.worker.now) (held_by c.put-2.new.self)
-        c.in-Worker.member c.try_insert.new.self c.of_answer-outcome.result (search rules) (search rules) (search rules),
+        c.in-Worker.member c.try_insert.new.self c.of_answer-outcome.result (search rules) (search rules)
+        (search rules),
   );
 }

@@ -21,7 +21,8 @@ returns-clause-says c =
     inr (
       free,
       inserts_then b h c.args.key w y c.in-Ok._done c.in-Ok.ensures.says z r
-          c.ask_value_with_retries.ensures.frees (subst (λ (d : TreeView). AnswersIn d h Insert c.args.key (h.rounds + 1)
+          c.ask_value_with_retries.ensures.frees (subst
+          (λ (d : TreeView). AnswersIn d h Insert c.args.key (h.rounds + 1)
           y z r) c.finish_with_retries.ensures.tree c.ask_value_with_retries.ensures.says),
     )
 

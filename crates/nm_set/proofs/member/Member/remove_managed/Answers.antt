@@ -26,7 +26,8 @@ returns-then-not-is_unfinished-clause-says g c =
     inr (
       free,
       removes_then b h k w y c.in-Ok._done c.in-Ok.ensures.says z r
-          c.ask_value_with_retries-told.ensures.frees (removes_plain b h k y z r (c.if-not-is_unfinished.ensures.no refl)
+          c.ask_value_with_retries-told.ensures.frees (removes_plain b h k y z r
+          (c.if-not-is_unfinished.ensures.no refl)
           a),
     )
 

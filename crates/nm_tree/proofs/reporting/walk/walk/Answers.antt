@@ -139,7 +139,8 @@ loop-part-preserved-then-part-ne0-2 c = record {
     reached_there : (e : IsEndOf c.args.layout c.args.words.now.core)
         → Reached (end_of c.args.layout c.args.words.now.core e).memory c.in-Some.part.slot
     reached_there e = (taken_reached (end_of c.args.layout c.args.words.now.core e).memory c.loop-part.waiting.items
-        c.pop.new.self.items c.in-Some.part c.in-Some.ensures.items (c.loop-part.invariant.parts e)).1 c.if-part-ne0.true
+        c.pop.new.self.items c.in-Some.part c.in-Some.ensures.items (c.loop-part.invariant.parts e)).1
+        c.if-part-ne0.true
 
 pub loop-part-smaller : goal.loop-part-smaller
 loop-part-smaller c = popped_fewer c.loop-part.waiting.items c.pop.new.self.items c.in-Some.part c.in-Some.ensures.items

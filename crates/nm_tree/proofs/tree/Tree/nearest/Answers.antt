@@ -23,15 +23,18 @@ returns c = record {
   did = rw (← c.worker.view_is, ← c.self.view_is) (has_looked _ c.args.tries _ _ _
       (free_in c.worker.inside.standing (resting_in c.worker.inside.standing
       (ap (λ (w : WorkerView). w.held) c.worker.view_is ∙ c.requires.free) c.in_default.not-Pending))
-      c.nearest-answer.result c.nearest-answer.ensures.did c.nearest-answer.ensures.missed c.nearest-answer.ensures.busy);
+      c.nearest-answer.result c.nearest-answer.ensures.did c.nearest-answer.ensures.missed
+      c.nearest-answer.ensures.busy);
   interfered = λ is. near_interfered c.self.inside.shared c.args.self.now c.worker.inside.pass c.args.worker.now.pass
-      c.nearest-answer.new.pass c.args.key c.args.tries c.self.view_is (ap (λ (x : WorkerView). x.pass) c.worker.view_is)
+      c.nearest-answer.new.pass c.args.key c.args.tries c.self.view_is
+      (ap (λ (x : WorkerView). x.pass) c.worker.view_is)
       c.know_run.ensures.seen c.know_run-2.ensures.seen c.know_run.ensures.fits c.nearest-answer.ensures.same
       c.nearest-answer.ensures.past c.requires.own c.args.side
       (of_error c.nearest-answer.result fault.Busy is c.nearest-answer.ensures.missed);
   alone = λ alone is. near_alone c.args.worker.now.pass c.nearest-answer.new.pass c.args.tries alone
       (near_interfered c.self.inside.shared c.args.self.now c.worker.inside.pass c.args.worker.now.pass
-      c.nearest-answer.new.pass c.args.key c.args.tries c.self.view_is (ap (λ (x : WorkerView). x.pass) c.worker.view_is)
+      c.nearest-answer.new.pass c.args.key c.args.tries c.self.view_is
+      (ap (λ (x : WorkerView). x.pass) c.worker.view_is)
       c.know_run.ensures.seen c.know_run-2.ensures.seen c.know_run.ensures.fits c.nearest-answer.ensures.same
       c.nearest-answer.ensures.past c.requires.own c.args.side
       (of_error c.nearest-answer.result fault.Busy is c.nearest-answer.ensures.missed));

@@ -9,6 +9,8 @@ pub close-requires : goal.close-requires
 close-requires g c =
     let P : WorkerView → Type 0 = λ w. MayCall c.self.inside.tree w in
     let joined : c.append.new.self.items ≡ c.self.inside.workers.items ++ c.self.inside.others.items = search rules in
-    record { own = rw joined (all_are_of c.self.inside.tree
-      (c.self.inside.workers.items ++ c.self.inside.others.items)
-      (All-append P c.self.inside.workers.items c.self.inside.others.items c.self.invariant.0 c.self.invariant.1)) }
+    record {
+      own = rw joined (all_are_of c.self.inside.tree
+          (c.self.inside.workers.items ++ c.self.inside.others.items)
+          (All-append P c.self.inside.workers.items c.self.inside.others.items c.self.invariant.0 c.self.invariant.1));
+    }
