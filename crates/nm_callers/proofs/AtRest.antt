@@ -1,31 +1,5 @@
 -- What a worker is answered beside which no other one has made a turn, by counting what it has won.
-use Rattle.std.proofs.Common.{
-  ◌≡◌,
-  ◌≢◌,
-  ◌∙◌,
-  ℕ,
-  ◌+◌,
-  ◌<◌,
-  ◌≤◌,
-  inl,
-  inr,
-  ◌⊎◌,
-  Bool,
-  true,
-  false,
-  List,
-  [],
-  ◌∷◌,
-  ◌++◌,
-  append-nil,
-  append_assoc,
-  length,
-  refl,
-  sym,
-  ap,
-  subst,
-  arith,
-}
+use Rattle.std.proofs.Common.{◌≡◌, ◌≢◌, ◌∙◌, ℕ, ◌+◌, ◌<◌, ◌≤◌, inl, inr, ◌⊎◌, Bool, true, false, List, [], ◌∷◌, ◌++◌, append-nil, append_assoc, length, refl, sym, ap, subst, arith}
 use Rattle.std.proofs.lemmas.Bool.{cases_lt}
 use Rattle.std.proofs.lemmas.Option.{same_Some}
 use Rattle.std.specs.Prelude.{All, filter, unwrap_or, Option, Some, None}

@@ -1,33 +1,5 @@
 -- Where a slot stays free, a call does not find each slot taken; so what is not answered lacks room.
-use Rattle.std.proofs.Common.{
-  ◌≡◌,
-  ◌∙◌,
-  ◌⊎◌,
-  inl,
-  inr,
-  ◌<◌,
-  ◌≤◌,
-  ◌+◌,
-  ℕ,
-  zero,
-  suc,
-  Bool,
-  true,
-  false,
-  true≢false,
-  List,
-  [],
-  ◌∷◌,
-  ◌++◌,
-  append_assoc,
-  length,
-  length-append,
-  refl,
-  sym,
-  ap,
-  subst,
-  arith,
-}
+use Rattle.std.proofs.Common.{◌≡◌, ◌∙◌, ◌⊎◌, inl, inr, ◌<◌, ◌≤◌, ◌+◌, ℕ, zero, suc, Bool, true, false, true≢false, List, [], ◌∷◌, ◌++◌, append_assoc, length, length-append, refl, sym, ap, subst, arith}
 use Rattle.std.specs.Prelude.{Contains, None, Result, Ok, Err}
 use Rattle.nm_edge.specs.Layouts.{Layout, IsLayout}
 use Rattle.nm_model.specs.declared.event.Event.{Event}

@@ -9,21 +9,7 @@ use Rattle.nm_model.specs.Acts.{InSet}
 use Rattle.nm_model.specs.Headline.{after_turn, words_after, words_from, written}
 use Rattle.nm_model.specs.Memory.{Memory, opening}
 use Rattle.nm_model.specs.declared.event.Event.{Event}
-use Rattle.nm_model.specs.declared.event.Event.TheVariants.{
-  Announce,
-  Leave,
-  LeaveWith,
-  Advance,
-  Claim,
-  Give,
-  Fill,
-  Link,
-  Flag,
-  Tag,
-  Splice,
-  Swap,
-  Join,
-}
+use Rattle.nm_model.specs.declared.event.Event.TheVariants.{Announce, Leave, LeaveWith, Advance, Claim, Give, Fill, Link, Flag, Tag, Splice, Swap, Join}
 use Rattle.nm_model.specs.declared.event.Field.TheVariants.{Key, Edge as EdgeOn, Birth}
 use Rattle.nm_model.specs.declared.reply.Reply.{Reply}
 use Rattle.nm_model.specs.declared.reply.Refused.{Refused}

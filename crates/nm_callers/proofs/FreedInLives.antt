@@ -1,24 +1,5 @@
 -- A worker of a map frees nodes by its collections alone.
-use Rattle.std.proofs.Common.{
-  ◌≡◌,
-  ◌∙◌,
-  inl,
-  inr,
-  ℕ,
-  zero,
-  suc,
-  Bool,
-  length,
-  List,
-  [],
-  ◌∷◌,
-  ◌++◌,
-  append-nil,
-  append_assoc,
-  refl,
-  sym,
-  ap,
-}
+use Rattle.std.proofs.Common.{◌≡◌, ◌∙◌, inl, inr, ℕ, zero, suc, Bool, length, List, [], ◌∷◌, ◌++◌, append-nil, append_assoc, refl, sym, ap}
 use Rattle.std.specs.Prelude.{map, nat_lt, take, Option, Some, Result}
 use Rattle.nm_edge.specs.Layouts.{Layout}
 use Rattle.nm_edge.specs.declared.node.NodeId.{NodeId}

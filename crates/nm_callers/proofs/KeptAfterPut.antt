@@ -1,24 +1,6 @@
 -- A get after an insert of the same key finds the value that was inserted, if no delete and no put of
 -- the key takes effect.
-use Rattle.std.proofs.Common.{
-  ◌≡◌,
-  ℕ,
-  ◌+◌,
-  ◌<◌,
-  List,
-  [],
-  ◌∷◌,
-  ◌++◌,
-  append_assoc,
-  length,
-  refl,
-  sym,
-  ap,
-  subst,
-  ◌∙◌,
-  true≢false,
-  arith,
-}
+use Rattle.std.proofs.Common.{◌≡◌, ℕ, ◌+◌, ◌<◌, List, [], ◌∷◌, ◌++◌, append_assoc, length, refl, sym, ap, subst, ◌∙◌, true≢false, arith}
 use Rattle.std.specs.Prelude.{IsSome, None, Some, Option}
 use Rattle.std.proofs.lemmas.List.{length-append}
 use Rattle.nm_edge.specs.Layouts.{Layout, IsLayout}

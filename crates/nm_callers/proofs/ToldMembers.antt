@@ -1,22 +1,5 @@
 -- What a member finds that has made its calls one after the other, over the page alone.
-use Rattle.std.proofs.Common.{
-  ◌+◌,
-  ◌≡◌,
-  ◌<◌,
-  ℕ,
-  Bool,
-  true,
-  false,
-  true≢false,
-  List,
-  [],
-  inl,
-  inr,
-  sym,
-  ap,
-  subst,
-  arith,
-}
+use Rattle.std.proofs.Common.{◌+◌, ◌≡◌, ◌<◌, ℕ, Bool, true, false, true≢false, List, [], inl, inr, sym, ap, subst, arith}
 use Rattle.std.specs.Prelude.{Option, Some, None, Result, Ok, IfOk, IfSome, is_ok}
 use Rattle.nm_edge.specs.Keys.{IsKey}
 use Rattle.nm_edge.specs.Layouts.{Layout}

@@ -1,27 +1,6 @@
 -- Two answers that stand, the later one of a call that began behind all that the first one's worker
 -- had seen then: what follows of the page alone.
-use Rattle.std.proofs.Common.{
-  ◌≡◌,
-  ◌<◌,
-  ◌≤◌,
-  inl,
-  inr,
-  ℕ,
-  suc,
-  Bool,
-  true,
-  false,
-  List,
-  [],
-  ◌∷◌,
-  length,
-  refl,
-  sym,
-  ap,
-  subst,
-  ◌∙◌,
-  arith,
-}
+use Rattle.std.proofs.Common.{◌≡◌, ◌<◌, ◌≤◌, inl, inr, ℕ, suc, Bool, true, false, List, [], ◌∷◌, length, refl, sym, ap, subst, ◌∙◌, arith}
 use Rattle.std.specs.Prelude.{slice_index_or, AllPairs}
 use Rattle.nm_edge.specs.Layouts.{Layout}
 use Rattle.nm_model.specs.declared.event.Op.{Op}
@@ -33,15 +12,7 @@ use Rattle.nm_steps.specs.Rules.{Extends}
 use Rattle.nm_theorem.specs.EachRun.{IsTrueDelete}
 use Rattle.nm_model.specs.Histories.{Called, IsAct, IsHistory, HasHistory, AnswerStands, called_in}
 use Rattle.nm_model.specs.Histories.IsAct.{IsAnswered, IsPending}
-use Rattle.nm_callers.specs.Meanwhile.{
-  IsMissedWhereNoneInserted,
-  IsToldThen,
-  IsTrueInsert,
-  OnlyWithin,
-  NoneDeleted,
-  NoneInserted,
-  IsAnsweredThen,
-}
+use Rattle.nm_callers.specs.Meanwhile.{IsMissedWhereNoneInserted, IsToldThen, IsTrueInsert, OnlyWithin, NoneDeleted, NoneInserted, IsAnsweredThen}
 use Rattle.nm_callers.proofs.Replayed.{still, still_out, added, taken, found, missed}
 
 -- ---- acts in the order of their moments

@@ -13,32 +13,10 @@ use Rattle.nm_steps.specs.Values.{HasSeenStores}
 use Rattle.nm_steps.proofs.Growing.{goes_on_itself, goes_on_through}
 use Rattle.nm_steps.proofs.Seeing.{stores_through}
 use Rattle.nm_walks.specs.WonCounts.{won_flags}
-use Rattle.nm_calls.specs.MapHistories.{
-  AreOfMaps,
-  GivesEach,
-  HasDelete,
-  IsMapHistory,
-  MapAct,
-  PutsThere,
-  WonOneFlag,
-  found_by,
-  map_after,
-  no_map,
-}
+use Rattle.nm_calls.specs.MapHistories.{AreOfMaps, GivesEach, HasDelete, IsMapHistory, MapAct, PutsThere, WonOneFlag, found_by, map_after, no_map}
 use Rattle.nm_calls.specs.Maps.{HoldsStores, WasTaken}
 use Rattle.nm_calls.specs.Won.{HasWon}
-use Rattle.nm_calls.proofs.PlainMaps.{
-  In,
-  Last,
-  contained_in,
-  contains_in,
-  gives_at,
-  in_right,
-  last_of,
-  put_last,
-  split_in,
-  untouched,
-}
+use Rattle.nm_calls.proofs.PlainMaps.{In, Last, contained_in, contains_in, gives_at, in_right, last_of, put_last, split_in, untouched}
 use Rattle.nm_calls.proofs.PlainMaps.Last.{Put, Taken, Untouched}
 use Rattle.nm_calls.proofs.StoresInTurns.{stores_in_turns}
 use Rattle.nm_callers.specs.TakenTwice.{AreTwoDeletes, HasOwnDelete, TookByDelete, WasPutBefore}

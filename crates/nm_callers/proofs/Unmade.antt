@@ -1,33 +1,6 @@
 -- Where no worker has won such an exchange, and no call is open, no act of a history of the turns
 -- has changed the set so.
-use Rattle.std.proofs.Common.{
-  ◌≡◌,
-  ◌⊎◌,
-  inl,
-  inr,
-  ℕ,
-  ◌+◌,
-  ◌<◌,
-  ◌==◌,
-  Bool,
-  true,
-  false,
-  true≢false,
-  ◌&&◌,
-  ◌||◌,
-  cond,
-  List,
-  [],
-  ◌∷◌,
-  ◌++◌,
-  length,
-  refl,
-  sym,
-  ap,
-  subst,
-  ◌∙◌,
-  arith,
-}
+use Rattle.std.proofs.Common.{◌≡◌, ◌⊎◌, inl, inr, ℕ, ◌+◌, ◌<◌, ◌==◌, Bool, true, false, true≢false, ◌&&◌, ◌||◌, cond, List, [], ◌∷◌, ◌++◌, length, refl, sym, ap, subst, ◌∙◌, arith}
 use Rattle.std.specs.Prelude.{Option, Some, None, Result, Ok, Err, filter}
 use Rattle.std.specs.List.{list_any}
 use Rattle.std.proofs.lemmas.Bool.{eq-eqb, eqb-true, and_parts, or_cases}
@@ -45,17 +18,7 @@ use Rattle.nm_model.specs.declared.trace.Turn.{Turn}
 use Rattle.nm_model.specs.Walks.{Entry}
 use Rattle.nm_model.specs.Acts.{Act, IsAmong}
 use Rattle.nm_order.specs.Logs.{part_of}
-use Rattle.nm_model.specs.Histories.{
-  Called,
-  AnswerStands,
-  IsAct,
-  IsHistory,
-  answer_turn,
-  call_after,
-  call_begun,
-  call_by,
-  called_in,
-}
+use Rattle.nm_model.specs.Histories.{Called, AnswerStands, IsAct, IsHistory, answer_turn, call_after, call_begun, call_by, called_in}
 use Rattle.nm_model.specs.Histories.IsAct.{IsAnswered, IsPending}
 use Rattle.nm_theorem.proofs.HistoriesOfRuns.{call_join}
 use Rattle.nm_tree.specs.Running.{AreOfWorkers, TrueAnswersHaveWon, WinsIn, wins}

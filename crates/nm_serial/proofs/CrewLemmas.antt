@@ -1,33 +1,5 @@
 -- A crew, and what becomes of it at one place.
-use Rattle.std.proofs.Common.{
-  ◌≡◌,
-  ◌≢◌,
-  ◌⊎◌,
-  inr,
-  ◌<◌,
-  ◌+◌,
-  ◌++◌,
-  ◌∙◌,
-  ℕ,
-  suc,
-  List,
-  [],
-  ◌∷◌,
-  length,
-  map,
-  slice_set,
-  slice_index_or,
-  All,
-  Option,
-  Some,
-  None,
-  IfSome,
-  refl,
-  sym,
-  ap,
-  append_assoc,
-  arith,
-}
+use Rattle.std.proofs.Common.{◌≡◌, ◌≢◌, ◌⊎◌, inr, ◌<◌, ◌+◌, ◌++◌, ◌∙◌, ℕ, suc, List, [], ◌∷◌, length, map, slice_set, slice_index_or, All, Option, Some, None, IfSome, refl, sym, ap, append_assoc, arith}
 use Rattle.std.specs.Prelude.{sum_by}
 use Rattle.std.proofs.lemmas.List.{length-map, append-nil, length-set, set-set, set_comm, get_or-set_other}
 use Rattle.std.proofs.lemmas.List.Elements.{All-nil, All-cons, All-head, All-tail, All-set, at_read}
@@ -36,34 +8,13 @@ use Rattle.nm_serial.specs.declared.answer.Answer.{Answer}
 use Rattle.nm_epoch.specs.declared.collecting.HeldQueue.{HeldQueue}
 use Rattle.nm_epoch.specs.Collecting.{HaveLost}
 use Rattle.nm_files.specs.declared.read.entry.ScriptCall.{ScriptCall}
-use Rattle.nm_files.specs.declared.read.entry.ScriptCall.TheVariants.{
-  Has,
-  Insert,
-  Delete,
-  Finish,
-  Pin,
-  Unpin,
-  Advance,
-  Collect,
-  Resign,
-}
+use Rattle.nm_files.specs.declared.read.entry.ScriptCall.TheVariants.{Has, Insert, Delete, Finish, Pin, Unpin, Advance, Collect, Resign}
 use Rattle.nm_steps.specs.Steps.{TreeView, IsOf}
 use Rattle.nm_tree.specs.Closing.{given_in}
 use Rattle.nm_tree.specs.Resigning.{merged}
 use Rattle.nm_tree.specs.Workers.{WorkerView, AreNew, KeepsOtherQueues}
 use Rattle.nm_tree.proofs.Merging.{length-merged}
-use Rattle.nm_serial.specs.Crews.{
-  AreCrewOf,
-  HasAsked,
-  HasDoneAt,
-  HasResignedOrStayed,
-  IsGone,
-  PlaysAll,
-  PlaysLine,
-  present,
-  stands_for,
-  worker_at,
-}
+use Rattle.nm_serial.specs.Crews.{AreCrewOf, HasAsked, HasDoneAt, HasResignedOrStayed, IsGone, PlaysAll, PlaysLine, present, stands_for, worker_at}
 use Rattle.nm_serial.specs.Makes.{IsOwnCall}
 
 -- a place is written

@@ -1,23 +1,5 @@
 -- What a run tells of its input, by the bytes of it that it read.
-use Rattle.std.proofs.Common.{
-  ◌≡◌,
-  ℕ,
-  List,
-  length,
-  take,
-  drop,
-  Result,
-  Ok,
-  Err,
-  refl,
-  sym,
-  ap,
-  subst,
-  inl,
-  inr,
-  arith,
-  ◌∙◌,
-}
+use Rattle.std.proofs.Common.{◌≡◌, ℕ, List, length, take, drop, Result, Ok, Err, refl, sym, ap, subst, inl, inr, arith, ◌∙◌}
 use Rattle.std.specs.Prelude.{Option, Some, None, IfSome, IfOk, OnOk, IfErr, IsOk, Vec}
 use Rattle.std.specs.Global.{Global}
 use Rattle.nm_files.specs.Lines.{parts}

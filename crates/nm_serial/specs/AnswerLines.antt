@@ -3,22 +3,7 @@ use Rattle.std.specs.Prelude.{ℕ, true, false, List, [], ◌∷◌, ◌++◌, c
 use Rattle.nm_serial.specs.declared.answer.Refusal.{Refusal}
 use Rattle.nm_serial.specs.declared.answer.Refusal.TheVariants as refused
 use Rattle.nm_serial.specs.declared.answer.Answer.{Answer}
-use Rattle.nm_serial.specs.declared.answer.Answer.TheVariants.{
-  Said,
-  Busy,
-  Full,
-  Unfinished,
-  Pending,
-  Pinned,
-  Moved,
-  Left,
-  Held,
-  Lost,
-  Spent,
-  Collected,
-  Resigned,
-  Refused,
-}
+use Rattle.nm_serial.specs.declared.answer.Answer.TheVariants.{Said, Busy, Full, Unfinished, Pending, Pinned, Moved, Left, Held, Lost, Spent, Collected, Resigned, Refused}
 
 -- a word and a number, and a second word and number
 abbrev pub two_numbers : List ℕ → ℕ → List ℕ → ℕ → List ℕ

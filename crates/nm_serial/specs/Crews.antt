@@ -1,22 +1,5 @@
 -- The workers of a script that one thread plays: at each number its worker, until it resigns.
-use Rattle.std.specs.Prelude.{
-  ◌≡◌,
-  ◌≢◌,
-  ◌⊎◌,
-  ℕ,
-  List,
-  [],
-  ◌∷◌,
-  length,
-  slice_index_or,
-  slice_set,
-  All,
-  Option,
-  Some,
-  None,
-  IsSome,
-  IfSome,
-}
+use Rattle.std.specs.Prelude.{◌≡◌, ◌≢◌, ◌⊎◌, ℕ, List, [], ◌∷◌, length, slice_index_or, slice_set, All, Option, Some, None, IsSome, IfSome}
 use Rattle.nm_serial.specs.declared.answer.Answer.{Answer}
 use Rattle.nm_serial.specs.declared.answer.Answer.TheVariants as answer
 use Rattle.nm_serial.specs.declared.answer.Refusal.TheVariants as refused

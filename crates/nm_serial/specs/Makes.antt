@@ -1,22 +1,5 @@
 -- What a line of a script does to its worker, by its answer.
-use Rattle.std.specs.Prelude.{
-  ◌≡◌,
-  ◌⊎◌,
-  ◌==◌,
-  ◌+◌,
-  if◌then◌else◌,
-  List,
-  [],
-  ◌∷◌,
-  ◌++◌,
-  ℕ,
-  Bool,
-  Some,
-  None,
-  IsSome,
-  Result,
-  length,
-}
+use Rattle.std.specs.Prelude.{◌≡◌, ◌⊎◌, ◌==◌, ◌+◌, if◌then◌else◌, List, [], ◌∷◌, ◌++◌, ℕ, Bool, Some, None, IsSome, Result, length}
 use Rattle.nm_serial.specs.declared.answer.Answer.{Answer}
 use Rattle.nm_serial.specs.declared.answer.Answer.TheVariants as answer
 use Rattle.nm_serial.specs.declared.answer.Refusal.TheVariants as refused
@@ -29,17 +12,7 @@ use Rattle.nm_epoch.specs.Scans.{IsAdvance}
 use Rattle.nm_model.specs.declared.event.Event.TheVariants.{Leave}
 use Rattle.nm_model.specs.declared.reply.Reply.TheVariants.{Departed}
 use Rattle.nm_files.specs.declared.read.entry.ScriptCall.{ScriptCall}
-use Rattle.nm_files.specs.declared.read.entry.ScriptCall.TheVariants.{
-  Has,
-  Insert,
-  Delete,
-  Finish,
-  Pin,
-  Unpin,
-  Advance as Move,
-  Collect,
-  Resign,
-}
+use Rattle.nm_files.specs.declared.read.entry.ScriptCall.TheVariants.{Has, Insert, Delete, Finish, Pin, Unpin, Advance as Move, Collect, Resign}
 use Rattle.nm_steps.specs.Steps.{TreeView, Stepped}
 use Rattle.nm_calls.specs.declared.fault.CallFault.{CallFault}
 use Rattle.nm_tree.specs.declared.fault.PinFault.{PinFault}

@@ -1,30 +1,5 @@
 -- What a set has that one worker has filled, beside which no other one has made a turn.
-use Rattle.std.proofs.Common.{
-  ◌≡◌,
-  ◌∙◌,
-  ◌⊎◌,
-  inl,
-  inr,
-  ℕ,
-  suc,
-  ◌+◌,
-  ◌<◌,
-  ◌≤◌,
-  ◌==◌,
-  Bool,
-  true,
-  false,
-  List,
-  [],
-  ◌∷◌,
-  length,
-  refl,
-  sym,
-  ap,
-  subst,
-  arith,
-  ne_eqb,
-}
+use Rattle.std.proofs.Common.{◌≡◌, ◌∙◌, ◌⊎◌, inl, inr, ℕ, suc, ◌+◌, ◌<◌, ◌≤◌, ◌==◌, Bool, true, false, List, [], ◌∷◌, length, refl, sym, ap, subst, arith, ne_eqb}
 use Rattle.std.proofs.lemmas.Bool.{eqb-true, eqb-false}
 use Rattle.std.specs.Prelude.{filter, Contains, None, Ok}
 use Rattle.nm_edge.specs.Layouts.{Layout, IsLayout}
@@ -63,17 +38,7 @@ use Rattle.nm_tree.proofs.AnswersInRuns.{AnsweredBy, answered_by}
 use Rattle.nm_set.proofs.Counting.{flagged_once, linked_once}
 use Rattle.nm_set.proofs.Managing.{follows_then, is_no_fault}
 use Rattle.nm_set.proofs.Rests.{at_most, rests_below}
-use Rattle.nm_tree.proofs.RunSums.{
-  KeysOf,
-  by_workers,
-  flag_keys,
-  link_keys,
-  one_if,
-  own_many,
-  so_many,
-  taken_out,
-  times,
-}
+use Rattle.nm_tree.proofs.RunSums.{KeysOf, by_workers, flag_keys, link_keys, one_if, own_many, so_many, taken_out, times}
 
 -- ---- numbers that ascend
 

@@ -1,34 +1,6 @@
 -- Letters: what a worker tells of itself, what a reader's note tells on, and what a reader has heard
 -- of that was told of as much as the writer has done.
-use Rattle.std.proofs.Common.{
-  ◌≡◌,
-  ◌∙◌,
-  ◌⊎◌,
-  inl,
-  inr,
-  ℕ,
-  ◌+◌,
-  ◌-◌,
-  ◌<◌,
-  ◌≤◌,
-  ◌==◌,
-  ◌||◌,
-  Bool,
-  true,
-  false,
-  cond,
-  List,
-  [],
-  ◌∷◌,
-  ◌++◌,
-  append_assoc,
-  length,
-  refl,
-  sym,
-  ap,
-  subst,
-  arith,
-}
+use Rattle.std.proofs.Common.{◌≡◌, ◌∙◌, ◌⊎◌, inl, inr, ℕ, ◌+◌, ◌-◌, ◌<◌, ◌≤◌, ◌==◌, ◌||◌, Bool, true, false, cond, List, [], ◌∷◌, ◌++◌, append_assoc, length, refl, sym, ap, subst, arith}
 use Rattle.std.specs.Prelude.{Option, Some, None, Result, Ok, filter, is_some}
 use Rattle.std.proofs.lemmas.Bool.{cases_lt, eqb-true}
 use Rattle.std.proofs.lemmas.Option.{none-some}
@@ -58,17 +30,7 @@ use Rattle.nm_tree.proofs.OwnQueue.{log_of_own}
 use Rattle.nm_tree.proofs.FoundThenGone.{begins}
 use Rattle.nm_tree.proofs.JoinsAlone.{told_in_part}
 use Rattle.nm_set.specs.declared.posting.Stamp.{Stamp}
-use Rattle.nm_set.specs.Posts.{
-  ComesBehind,
-  HasHeardAll,
-  HasHeardOf,
-  HasTally,
-  HasWonNothing,
-  IsLetter,
-  IsTallyOf,
-  LettersAreInOrder,
-  pending_by,
-}
+use Rattle.nm_set.specs.Posts.{ComesBehind, HasHeardAll, HasHeardOf, HasTally, HasWonNothing, IsLetter, IsTallyOf, LettersAreInOrder, pending_by}
 
 -- ---- counts of a log
 

@@ -1,40 +1,5 @@
 -- What managed calls leave, by what each part of them leaves.
-use Rattle.std.proofs.Common.{
-  ◌≡◌,
-  ◌≢◌,
-  ◌≤◌,
-  ◌<◌,
-  ◌⊎◌,
-  inl,
-  inr,
-  true≢false,
-  ℕ,
-  zero,
-  suc,
-  ◌+◌,
-  ◌*◌,
-  ◌==◌,
-  Bool,
-  true,
-  false,
-  cond,
-  not,
-  ◌&&◌,
-  ◌||◌,
-  List,
-  [],
-  ◌∷◌,
-  ◌++◌,
-  append-nil,
-  append_assoc,
-  length,
-  refl,
-  sym,
-  ap,
-  subst,
-  ◌∙◌,
-  arith,
-}
+use Rattle.std.proofs.Common.{◌≡◌, ◌≢◌, ◌≤◌, ◌<◌, ◌⊎◌, inl, inr, true≢false, ℕ, zero, suc, ◌+◌, ◌*◌, ◌==◌, Bool, true, false, cond, not, ◌&&◌, ◌||◌, List, [], ◌∷◌, ◌++◌, append-nil, append_assoc, length, refl, sym, ap, subst, ◌∙◌, arith}
 use Rattle.std.specs.Prelude.{drop, Option, Some, None, IsSome, Result, Ok, Err, IfOk, IfErr, is_ok}
 use Rattle.std.specs.List.{AllZip, prefix_len}
 use Rattle.std.proofs.Math.Nat.{suc-mul, zero-mul, add-mul, mul-zero, mul-le-mul_right}
@@ -71,16 +36,7 @@ use Rattle.nm_calls.specs.Won.{HasWon}
 use Rattle.nm_calls.specs.declared.deleting.Unfinished.{Unfinished}
 use Rattle.nm_calls.specs.declared.fault.CallFault.{CallFault}
 use Rattle.nm_calls.specs.declared.fault.CallFault.TheVariants as fault
-use Rattle.nm_tree.specs.Answers.{
-  FailsAlone,
-  FinishHasMoment,
-  FinishTold,
-  FoundNoSlot,
-  FreesNone,
-  HasMade,
-  links_won,
-  flags_won,
-}
+use Rattle.nm_tree.specs.Answers.{FailsAlone, FinishHasMoment, FinishTold, FoundNoSlot, FreesNone, HasMade, links_won, flags_won}
 use Rattle.nm_tree.proofs.Answered.{found_ever}
 use Rattle.nm_tree.specs.Calls.{LeavesHas, LeavesInsert, LeavesDelete, LeavesAdvance, LeavesCollect, SaysFinish}
 use Rattle.nm_tree.specs.Workers.{WorkerView, IsIdle, KeepsOtherQueues, waiting_in}
@@ -91,45 +47,8 @@ use Rattle.nm_set.specs.declared.fault.Fullness.{Fullness}
 use Rattle.nm_set.specs.declared.fault.InsertFault.{InsertFault}
 use Rattle.nm_set.specs.declared.fault.InsertFault.TheVariants as inserting
 use Rattle.nm_set.specs.declared.managed.Options.{Options}
-use Rattle.nm_set.specs.Managed.{
-  Answers,
-  Collects,
-  FindsBehind,
-  GoesOn,
-  HasFoundElsewhere,
-  HasSighted,
-  IsLeft,
-  FinishesFirst,
-  IsFullIn,
-  IsReadyIn,
-  Manages,
-  ManagesIn,
-  MetInterference,
-  OnlyLoses,
-  Prepares,
-  Since,
-  WasFull,
-  flags_told_by,
-  interfering,
-  links_told_by,
-  of_insert,
-  round_bound,
-}
-use Rattle.nm_set.specs.Rounds.{
-  AnswersIn,
-  FinishesIn,
-  Inserts,
-  IsKnown,
-  IsOnward,
-  IsReady,
-  IsRelieved,
-  ManagesInsert,
-  Removes,
-  WereBusy,
-  plain,
-  rounds_bound,
-  with_fullness,
-}
+use Rattle.nm_set.specs.Managed.{Answers, Collects, FindsBehind, GoesOn, HasFoundElsewhere, HasSighted, IsLeft, FinishesFirst, IsFullIn, IsReadyIn, Manages, ManagesIn, MetInterference, OnlyLoses, Prepares, Since, WasFull, flags_told_by, interfering, links_told_by, of_insert, round_bound}
+use Rattle.nm_set.specs.Rounds.{AnswersIn, FinishesIn, Inserts, IsKnown, IsOnward, IsReady, IsRelieved, ManagesInsert, Removes, WereBusy, plain, rounds_bound, with_fullness}
 
 -- nothing is not there
 pub none_there : {A B : Type 0} (x : Option A) → x ≡ None → IsSome x → B

@@ -1,29 +1,5 @@
 -- What managed calls of a map leave, by what each part of them leaves.
-use Rattle.std.proofs.Common.{
-  ◌≡◌,
-  ◌≢◌,
-  ◌≤◌,
-  inl,
-  inr,
-  ℕ,
-  ◌+◌,
-  ◌*◌,
-  Bool,
-  true,
-  false,
-  List,
-  [],
-  ◌∷◌,
-  ◌++◌,
-  append_assoc,
-  length,
-  refl,
-  sym,
-  ap,
-  subst,
-  ◌∙◌,
-  arith,
-}
+use Rattle.std.proofs.Common.{◌≡◌, ◌≢◌, ◌≤◌, inl, inr, ℕ, ◌+◌, ◌*◌, Bool, true, false, List, [], ◌∷◌, ◌++◌, append_assoc, length, refl, sym, ap, subst, ◌∙◌, arith}
 use Rattle.std.specs.Prelude.{Option, Some, None, IsSome, Result, Ok, Err, IfOk, IfErr}
 use Rattle.std.proofs.Math.Nat.{add-mul, mul-add, zero-mul, mul-le-mul_right}
 use Rattle.std.proofs.lemmas.List.{length-append}
@@ -57,27 +33,7 @@ use Rattle.nm_set.specs.Managed.{IsLeft, ManagesIn, MetInterference, SaysManaged
 use Rattle.nm_set.specs.MapRounds.{GetsIn, KeepsStores, LooksWereBusy, MovesValue, SaysRemoved}
 use Rattle.nm_set.specs.Maps.{AnswersGet, ManagesGet, PopsValue, SaysChange, TookMeanwhile, look_bound}
 use Rattle.nm_set.specs.Rounds.{AnswersIn, FinishesIn, IsOnward, Removes, rounds_bound}
-use Rattle.nm_set.proofs.Managing.{
-  finished,
-  finished_nothing,
-  finishes_first,
-  goes_more,
-  goes_then,
-  left_since,
-  lose_same,
-  manages_in,
-  met_nothing,
-  met_since,
-  met_then,
-  never_full,
-  never_unfinished,
-  none_there,
-  number_of_pass,
-  onward_itself,
-  onward_more,
-  onward_then,
-  wins_after,
-}
+use Rattle.nm_set.proofs.Managing.{finished, finished_nothing, finishes_first, goes_more, goes_then, left_since, lose_same, manages_in, met_nothing, met_since, met_then, never_full, never_unfinished, none_there, number_of_pass, onward_itself, onward_more, onward_then, wins_after}
 
 -- ---- an earlier moment
 

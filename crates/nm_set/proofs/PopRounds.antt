@@ -1,26 +1,5 @@
 -- A key is taken by managed calls: what each round leaves, and what the call leaves after all of them.
-use Rattle.std.proofs.Common.{
-  ◌≡◌,
-  ◌∙◌,
-  ◌≤◌,
-  inl,
-  inr,
-  ℕ,
-  suc,
-  ◌+◌,
-  ◌*◌,
-  Bool,
-  true,
-  false,
-  [],
-  append-nil,
-  length,
-  refl,
-  sym,
-  ap,
-  subst,
-  arith,
-}
+use Rattle.std.proofs.Common.{◌≡◌, ◌∙◌, ◌≤◌, inl, inr, ℕ, suc, ◌+◌, ◌*◌, Bool, true, false, [], append-nil, length, refl, sym, ap, subst, arith}
 use Rattle.std.specs.Prelude.{Option, Some, None, IsSome, Result, Ok, Err, IfOk}
 use Rattle.std.proofs.Math.Nat.{add-mul, suc-mul, mul-add, mul-le-mul_right}
 use Rattle.nm_edge.specs.Layouts.{Layout, IsLayout}
@@ -39,42 +18,13 @@ use Rattle.nm_tree.specs.Workers.{IsBetweenCalls, WorkerView}
 use Rattle.nm_tree.proofs.AlonePops.{found_is_there}
 use Rattle.nm_tree.proofs.FoundThenGone.{late_cut}
 use Rattle.nm_tree.proofs.FlaggedSeen.{none_seen}
-use Rattle.nm_tree.proofs.Taking.{
-  found_by,
-  found_in,
-  gives_up_at,
-  key_found,
-  moment_since,
-  near_bound,
-  none_found,
-  none_inside,
-  scaled,
-  told_at,
-  was_so_since,
-}
+use Rattle.nm_tree.proofs.Taking.{found_by, found_in, gives_up_at, key_found, moment_since, near_bound, none_found, none_inside, scaled, told_at, was_so_since}
 use Rattle.nm_set.specs.declared.managed.Options.{Options}
 use Rattle.nm_set.specs.Managed.{GoesOn, MetInterference, round_bound}
 use Rattle.nm_set.specs.MapRounds.{Removed, SaysRemoved}
 use Rattle.nm_set.specs.Popping.{PopLeft, Pops, flags_told_by_pop, pop_round_bound, pop_rounds_bound}
 use Rattle.nm_set.specs.Rounds.{FinishesIn, IsOnward}
-use Rattle.nm_set.proofs.Managing.{
-  finished,
-  goes_more,
-  goes_then,
-  late_met,
-  lose_same,
-  met_fewer,
-  met_nothing,
-  met_since,
-  met_then,
-  near_met,
-  none_there,
-  number_of_pass,
-  onward_itself,
-  onward_more,
-  onward_then,
-  wins_after,
-}
+use Rattle.nm_set.proofs.Managing.{finished, goes_more, goes_then, late_met, lose_same, met_fewer, met_nothing, met_since, met_then, near_met, none_there, number_of_pass, onward_itself, onward_more, onward_then, wins_after}
 
 abbrev pop_busy : Result (Option ℕ) CallFault
 pop_busy = Err fault.Busy

@@ -1,27 +1,5 @@
 -- A set that is closed, or left open, by what its tree has told.
-use Rattle.std.proofs.Common.{
-  ◌≡◌,
-  ◌∙◌,
-  ◌+◌,
-  ◌≤◌,
-  ℕ,
-  false,
-  true,
-  inr,
-  List,
-  [],
-  ◌∷◌,
-  ◌++◌,
-  append-nil,
-  length,
-  length-append,
-  map,
-  refl,
-  sym,
-  ap,
-  subst,
-  arith,
-}
+use Rattle.std.proofs.Common.{◌≡◌, ◌∙◌, ◌+◌, ◌≤◌, ℕ, false, true, inr, List, [], ◌∷◌, ◌++◌, append-nil, length, length-append, map, refl, sym, ap, subst, arith}
 use Rattle.std.specs.Prelude.{Result, Ok, Err, IfOk, IfErr}
 use Rattle.nm_edge.specs.declared.placement.Fit.{Fit}
 use Rattle.nm_steps.specs.Steps.{TreeView}

@@ -1,25 +1,6 @@
 -- Sets that are made of keys: what the turns that fill a set leave in it, and what its members have
 -- done and seen then.
-use Rattle.std.specs.Prelude.{
-  ◌≡◌,
-  ◌≢◌,
-  ◌↔◌,
-  ◌<◌,
-  ◌≤◌,
-  ℕ,
-  suc,
-  Bool,
-  true,
-  List,
-  [],
-  ◌∷◌,
-  None,
-  Result,
-  Ok,
-  Err,
-  length,
-  Contains,
-}
+use Rattle.std.specs.Prelude.{◌≡◌, ◌≢◌, ◌↔◌, ◌<◌, ◌≤◌, ℕ, suc, Bool, true, List, [], ◌∷◌, None, Result, Ok, Err, length, Contains}
 use Rattle.nm_edge.specs.Keys.{IsKey}
 use Rattle.nm_edge.specs.Layouts.{IsLayoutFault, Layout}
 use Rattle.nm_edge.specs.declared.placement.Fit.{Fit}

@@ -1,31 +1,6 @@
 -- Managed calls: what a caller learns from a call that is retried while it loses its tries, that
 -- finishes a remove which has begun, and that collects waiting nodes.
-use Rattle.std.specs.Prelude.{
-  ◌≡◌,
-  ◌≢◌,
-  ◌⊎◌,
-  ◌+◌,
-  ◌*◌,
-  ◌≤◌,
-  ℕ,
-  Bool,
-  false,
-  true,
-  length,
-  drop,
-  List,
-  ◌++◌,
-  Option,
-  Some,
-  None,
-  IsSome,
-  Result,
-  Ok,
-  Err,
-  IfOk,
-  IfErr,
-  Contains,
-}
+use Rattle.std.specs.Prelude.{◌≡◌, ◌≢◌, ◌⊎◌, ◌+◌, ◌*◌, ◌≤◌, ℕ, Bool, false, true, length, drop, List, ◌++◌, Option, Some, None, IsSome, Result, Ok, Err, IfOk, IfErr, Contains}
 use Rattle.std.specs.List.{AllZip}
 use Rattle.nm_edge.specs.Layouts.{Layout}
 use Rattle.nm_edge.specs.declared.node.NodeId.{NodeId}

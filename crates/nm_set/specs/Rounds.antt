@@ -16,19 +16,7 @@ use Rattle.nm_set.specs.declared.fault.Fullness.{Fullness}
 use Rattle.nm_set.specs.declared.fault.InsertFault.{InsertFault}
 use Rattle.nm_set.specs.declared.fault.InsertFault.TheVariants as inserting
 use Rattle.nm_set.specs.declared.managed.Options.{Options}
-use Rattle.nm_set.specs.Managed.{
-  Answers,
-  Collects,
-  FindsBehind,
-  GoesOn,
-  Manages,
-  MetInterference,
-  Prepares,
-  Since,
-  WasFull,
-  of_insert,
-  round_bound,
-}
+use Rattle.nm_set.specs.Managed.{Answers, Collects, FindsBehind, GoesOn, Manages, MetInterference, Prepares, Since, WasFull, of_insert, round_bound}
 
 -- what a worker has seen, and what it holds between two calls, as `Member::know_run` shows it
 pub record IsKnown (w : WorkerView) : Type 0 where

@@ -1,28 +1,5 @@
 -- Members of a set, and the seats of its workers that no member has.
-use Rattle.std.specs.Prelude.{
-  ◌≡◌,
-  ◌⊎◌,
-  ◌+◌,
-  ◌<◌,
-  ◌≤◌,
-  ℕ,
-  suc,
-  length,
-  Bool,
-  true,
-  false,
-  List,
-  [],
-  ◌∷◌,
-  ◌++◌,
-  Option,
-  Some,
-  None,
-  IsSome,
-  Result,
-  Ok,
-  Err,
-}
+use Rattle.std.specs.Prelude.{◌≡◌, ◌⊎◌, ◌+◌, ◌<◌, ◌≤◌, ℕ, suc, length, Bool, true, false, List, [], ◌∷◌, ◌++◌, Option, Some, None, IsSome, Result, Ok, Err}
 use Rattle.nm_steps.specs.Steps.{TreeView, IsOf}
 use Rattle.nm_edge.specs.declared.placement.Fit.{Fit}
 use Rattle.nm_tree.specs.Calls.{LeavesUnpin}

@@ -11,34 +11,7 @@ use base.Fml.{ftrue, fsep}
 use prog.Model.{Model}
 use prog.Wired.{Wired}
 use types.Logic.{Logic, sem}
-use types.Kit.{
-  Item,
-  Goal,
-  Seq,
-  Step,
-  step,
-  ‵,
-  raw,
-  given,
-  ◌$◌,
-  ◌∵◌,
-  !,
-  qed,
-  move,
-  keep,
-  drop,
-  join,
-  fsplit,
-  fjoin,
-  fpick,
-  fpack,
-  feq_i,
-  feq_l,
-  use1,
-  learn,
-  show,
-  done,
-}
+use types.Kit.{Item, Goal, Seq, Step, step, ‵, raw, given, ◌$◌, ◌∵◌, !, qed, move, keep, drop, join, fsplit, fjoin, fpick, fpack, feq_i, feq_l, use1, learn, show, done}
 use contract.Monad.{fact_use}
 use contract.Running.{Running}
 use denote.Exit.{no}

@@ -1,22 +1,6 @@
 -- What a call that looks up several keys returns and leaves: m is the worker before the call, n the
 -- worker after it, and o the outcome.
-use Rattle.std.specs.Prelude.{
-  ◌≡◌,
-  ◌⊎◌,
-  ℕ,
-  if◌then◌else◌,
-  Bool,
-  true,
-  false,
-  List,
-  map,
-  All,
-  Result,
-  Ok,
-  Err,
-  IfOk,
-  IfErr,
-}
+use Rattle.std.specs.Prelude.{◌≡◌, ◌⊎◌, ℕ, if◌then◌else◌, Bool, true, false, List, map, All, Result, Ok, Err, IfOk, IfErr}
 use Rattle.nm_edge.specs.Keys.{IsKey}
 use Rattle.nm_calls.specs.declared.many.Query.{Query}
 use Rattle.nm_calls.specs.InTurns.{key_of}

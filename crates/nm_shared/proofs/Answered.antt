@@ -17,15 +17,7 @@ use Rattle.nm_steps.specs.Steps.{TreeView}
 use Rattle.nm_steps.proofs.Growing.{goes_on_through}
 use Rattle.nm_tree.specs.Workers.{WorkerView}
 use Rattle.nm_shared.specs.OwnActs.{WasAnswered}
-use Rattle.nm_shared.specs.Sharing.{
-  SharedView,
-  CallerView,
-  SaysShared,
-  CallsOfOneCallerAreInOrder,
-  ShownCallsAreApart,
-  note_of,
-  pass_of,
-}
+use Rattle.nm_shared.specs.Sharing.{SharedView, CallerView, SaysShared, CallsOfOneCallerAreInOrder, ShownCallsAreApart, note_of, pass_of}
 use Rattle.nm_shared.proofs.OwnActs.{own_acts, acts_in_order}
 
 -- ---- one answer

@@ -1,25 +1,5 @@
 -- A member that was borrowed, asked once, and given back.
-use Rattle.std.proofs.Common.{
-  ◌≡◌,
-  ◌∙◌,
-  ℕ,
-  suc,
-  ◌+◌,
-  ◌<◌,
-  Bool,
-  List,
-  [],
-  ◌∷◌,
-  ◌++◌,
-  length,
-  inl,
-  inr,
-  sym,
-  ap,
-  subst,
-  arith,
-  refl,
-}
+use Rattle.std.proofs.Common.{◌≡◌, ◌∙◌, ℕ, suc, ◌+◌, ◌<◌, Bool, List, [], ◌∷◌, ◌++◌, length, inl, inr, sym, ap, subst, arith, refl}
 use Rattle.std.specs.Prelude.{Option, Some, None, Result, Ok, Err}
 use Rattle.atomic_table.specs.Seated.{TableId}
 use Rattle.nm_calls.specs.declared.fault.CallFault.{CallFault}
@@ -52,19 +32,7 @@ use Rattle.nm_lending.specs.Visits.{AreSeated}
 use Rattle.nm_lending.specs.Views.{LoanView, NoneIsLent}
 use Rattle.nm_lending.specs.Views as lending
 use Rattle.nm_shared.specs.SharedMaps.{AsksIfPinned, AsksUnderPin, GetsMany}
-use Rattle.nm_shared.specs.Sharing.{
-  SharedView,
-  CallerView,
-  NoneWasFree,
-  Sits,
-  IsBorrowed,
-  MayComeBack,
-  SitsIn,
-  Visited,
-  SaysShared,
-  goes_on,
-  note_of,
-}
+use Rattle.nm_shared.specs.Sharing.{SharedView, CallerView, NoneWasFree, Sits, IsBorrowed, MayComeBack, SitsIn, Visited, SaysShared, goes_on, note_of}
 
 -- ---- what each managed call keeps
 

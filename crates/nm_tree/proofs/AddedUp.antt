@@ -1,26 +1,5 @@
 -- What the workers of a tree without a call have linked is what they have flagged and what is left.
-use Rattle.std.proofs.Common.{
-  ◌≡◌,
-  ◌∙◌,
-  ◌⊎◌,
-  inl,
-  inr,
-  ℕ,
-  ◌+◌,
-  ◌<◌,
-  ◌≤◌,
-  ◌↔◌,
-  List,
-  [],
-  ◌∷◌,
-  ◌++◌,
-  length,
-  length-append,
-  refl,
-  sym,
-  ap,
-  arith,
-}
+use Rattle.std.proofs.Common.{◌≡◌, ◌∙◌, ◌⊎◌, inl, inr, ℕ, ◌+◌, ◌<◌, ◌≤◌, ◌↔◌, List, [], ◌∷◌, ◌++◌, length, length-append, refl, sym, ap, arith}
 use Rattle.std.specs.Prelude.{All, AllPairs, Bool, Contains, None, Result}
 use Rattle.std.proofs.lemmas.Bool.{cases_lt}
 use Rattle.nm_edge.specs.Keys.{IsKey}
@@ -44,19 +23,7 @@ use Rattle.nm_order.proofs.TotalsOfRuns.{each_total_is_the_set}
 use Rattle.nm_tree.specs.Closing.{KeysAddUp, won_in}
 use Rattle.nm_tree.specs.Running.{wins}
 use Rattle.nm_tree.proofs.EndLaws.{enough_nodes}
-use Rattle.nm_tree.proofs.RunSums.{
-  KeysOf,
-  flag_keys,
-  link_keys,
-  none_pend,
-  one_if,
-  same_length,
-  so_many,
-  times,
-  times-append,
-  times_none,
-  times_once,
-}
+use Rattle.nm_tree.proofs.RunSums.{KeysOf, flag_keys, link_keys, none_pend, one_if, same_length, so_many, times, times-append, times_none, times_once}
 use Rattle.nm_tree.proofs.TurnTotals.{wins_flags, wins_links}
 
 -- exchanges of one kind, counted on turns

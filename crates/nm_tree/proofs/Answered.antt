@@ -17,18 +17,7 @@ use Rattle.nm_calls.specs.Inserts.{InsertDid}
 use Rattle.nm_calls.specs.PlainWalks.{LooksUnderPin, PlainMissed}
 use Rattle.nm_calls.specs.Scans.{count_of}
 use Rattle.nm_calls.specs.declared.scanning.Scanned.{Scanned}
-use Rattle.nm_tree.specs.Answers.{
-  IsFree,
-  LacksRoom,
-  HasTold,
-  HasAnswered,
-  InsertTold,
-  HasInserted,
-  FailsAlone,
-  FindsNoSlot,
-  FoundNoSlot,
-  HasMade,
-}
+use Rattle.nm_tree.specs.Answers.{IsFree, LacksRoom, HasTold, HasAnswered, InsertTold, HasInserted, FailsAlone, FindsNoSlot, FoundNoSlot, HasMade}
 use Rattle.nm_tree.specs.Looked.{HasSeenMore}
 use Rattle.nm_tree.specs.Workers.{WorkerView}
 

@@ -1,25 +1,5 @@
 -- What a worker is between two calls, after a call that may have changed its own queue.
-use Rattle.std.proofs.Common.{
-  ◌≡◌,
-  ◌≢◌,
-  ℕ,
-  zero,
-  suc,
-  ◌≤◌,
-  inl,
-  inr,
-  Bool,
-  false,
-  List,
-  [],
-  ◌∷◌,
-  Option,
-  refl,
-  sym,
-  ap,
-  ◌∙◌,
-  subst,
-}
+use Rattle.std.proofs.Common.{◌≡◌, ◌≢◌, ℕ, zero, suc, ◌≤◌, inl, inr, Bool, false, List, [], ◌∷◌, Option, refl, sym, ap, ◌∙◌, subst}
 use Rattle.std.specs.Prelude.{IsSome, unwrap_or, slice_index_or, slice_set, ◌==◌, if◌then◌else◌}
 use Rattle.std.proofs.Common.{length-set}
 use Rattle.std.proofs.lemmas.Bool.{ne_eqb}
@@ -37,36 +17,9 @@ use Rattle.nm_walks.specs.Cleanups.{HoldsCuts}
 use Rattle.nm_walks.specs.WonCounts.{won_links, won_flags, won_splices}
 use Rattle.nm_edge.specs.declared.placement.Fit.{Fit}
 use Rattle.nm_calls.specs.declared.deleting.Unfinished.{Unfinished}
-use Rattle.nm_tree.specs.Workers.{
-  WorkerView,
-  IsAs,
-  KeepsOtherQueues,
-  IsWorker,
-  IsCounted,
-  AreCounted,
-  AreOf,
-  HasOrigin,
-  QueueStandsAt,
-  OnlyOwnLedger,
-  log_held_of,
-  log_among,
-  ledger_in,
-}
+use Rattle.nm_tree.specs.Workers.{WorkerView, IsAs, KeepsOtherQueues, IsWorker, IsCounted, AreCounted, AreOf, HasOrigin, QueueStandsAt, OnlyOwnLedger, log_held_of, log_among, ledger_in}
 use Rattle.nm_walks.specs.Rooms.{TakesRoom}
-use Rattle.nm_tree.proofs.QueueLists.{
-  others_after,
-  few_after,
-  stands_there,
-  stands_after,
-  held_there,
-  held_after,
-  has_after,
-  had_before,
-  ascend_after,
-  not_both,
-  not_none,
-  origin_at,
-}
+use Rattle.nm_tree.proofs.QueueLists.{others_after, few_after, stands_there, stands_after, held_there, held_after, has_after, had_before, ascend_after, not_both, not_none, origin_at}
 use Rattle.nm_tree.proofs.OwnQueue.{TellAlike, all_counted_still, counted_still, holds_own, own_counted}
 use Rattle.nm_tree.proofs.Numbers.{numbers_stay, resigned_stay}
 

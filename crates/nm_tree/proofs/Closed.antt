@@ -1,41 +1,10 @@
 -- What the end of a tree leaves.
-use Rattle.std.proofs.Common.{
-  ◌≡◌,
-  ℕ,
-  suc,
-  ◌+◌,
-  ◌-◌,
-  ◌<◌,
-  ◌≤◌,
-  inl,
-  inr,
-  true,
-  List,
-  [],
-  ◌∷◌,
-  ◌++◌,
-  append-nil,
-  length,
-  map,
-  refl,
-  sym,
-  ap,
-  ◌∙◌,
-  subst,
-  arith,
-}
+use Rattle.std.proofs.Common.{◌≡◌, ℕ, suc, ◌+◌, ◌-◌, ◌<◌, ◌≤◌, inl, inr, true, List, [], ◌∷◌, ◌++◌, append-nil, length, map, refl, sym, ap, ◌∙◌, subst, arith}
 use Rattle.std.proofs.lemmas.List.Elements.{All-cons, All-head, All-nil, All-tail}
 use Rattle.std.proofs.lemmas.List.{length-map}
 use Rattle.std.proofs.lemmas.List.Concat.{length-flat_map}
 use Rattle.std.proofs.lemmas.List.FromFn.{length-range_with_len}
-use Rattle.std.proofs.lemmas.List.Sorted.{
-  IsPermutation-append_right,
-  IsPermutation-cons,
-  IsPermutation-insert,
-  IsPermutation-refl,
-  IsPermutation-trans,
-  length_permutation,
-}
+use Rattle.std.proofs.lemmas.List.Sorted.{IsPermutation-append_right, IsPermutation-cons, IsPermutation-insert, IsPermutation-refl, IsPermutation-trans, length_permutation}
 use Rattle.std.specs.List.{range_with_len}
 use Rattle.std.specs.Prelude.{All, IsPermutation, filter, flat_map, slice_index_or}
 use Rattle.nm_edge.specs.Layouts.{Layout}
@@ -58,16 +27,7 @@ use Rattle.nm_steps.proofs.Seeing.{stores_same, stores_through}
 use Rattle.nm_epoch.specs.declared.collecting.HeldQueue.{HeldQueue}
 use Rattle.nm_epoch.specs.Collecting.{AreHeld}
 use Rattle.nm_tree.specs.Workers.{WorkerView, IsWorker, TellLedgers, HasOrigin, AreAbove, Ascend}
-use Rattle.nm_tree.specs.Closing.{
-  AreAllOf,
-  AreFrom,
-  IsClosed,
-  IsOfTurns,
-  StandsForAll,
-  all_joined,
-  all_merged,
-  given_in,
-}
+use Rattle.nm_tree.specs.Closing.{AreAllOf, AreFrom, IsClosed, IsOfTurns, StandsForAll, all_joined, all_merged, given_in}
 use Rattle.nm_tree.specs.Resigning.{inserted, merged, place_in}
 use Rattle.nm_tree.proofs.AddedUp.{add_up}
 use Rattle.nm_tree.proofs.EndCounts.{sum_is}

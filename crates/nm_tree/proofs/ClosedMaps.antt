@@ -1,34 +1,5 @@
 -- What the end of a map leaves of its values.
-use Rattle.std.proofs.Common.{
-  ◌≡◌,
-  ℕ,
-  zero,
-  suc,
-  ◌+◌,
-  ◌-◌,
-  ◌<◌,
-  ◌≤◌,
-  ◌==◌,
-  inl,
-  inr,
-  Bool,
-  true,
-  false,
-  List,
-  [],
-  ◌∷◌,
-  ◌++◌,
-  append-nil,
-  length,
-  map,
-  refl,
-  sym,
-  ap,
-  subst,
-  ◌∙◌,
-  arith,
-  true≢false,
-}
+use Rattle.std.proofs.Common.{◌≡◌, ℕ, zero, suc, ◌+◌, ◌-◌, ◌<◌, ◌≤◌, ◌==◌, inl, inr, Bool, true, false, List, [], ◌∷◌, ◌++◌, append-nil, length, map, refl, sym, ap, subst, ◌∙◌, arith, true≢false}
 use Rattle.std.specs.Prelude.{All, AllPairs, Contains, Some, ◌/◌, nat_lt, slice_get, slice_index}
 use Rattle.std.proofs.lemmas.Bool.{cases_lt, eq-eqb, le-ltb, lt-ltb, ne_eqb}
 use Rattle.std.proofs.lemmas.List.{length-append, length-map, map-append, nil_from_length}
@@ -74,16 +45,7 @@ use Rattle.nm_tree.specs.declared.closing.Report.{Report}
 use Rattle.nm_tree.specs.declared.map_closing.MapReport.{MapReport}
 use Rattle.nm_tree.specs.Closing.{AreFrom, IsClosed, StandsForAll, all_merged, given_in}
 use Rattle.nm_tree.specs.Ended.{IsEndOf, end_of}
-use Rattle.nm_tree.specs.MapReports.{
-  AreLeavesOf,
-  EndsMap,
-  IsLeafOf,
-  LeavesValues,
-  SaysMapClosed,
-  Waits,
-  is_bare_in,
-  value_in,
-}
+use Rattle.nm_tree.specs.MapReports.{AreLeavesOf, EndsMap, IsLeafOf, LeavesValues, SaysMapClosed, Waits, is_bare_in, value_in}
 use Rattle.nm_tree.specs.Workers.{IsWorker, WorkerView}
 use Rattle.nm_tree.proofs.Closed.{GoesOnFromAll, StoresGoOnFromAll, closed, in_order, stores_from_earlier, turns_are}
 use Rattle.nm_tree.proofs.EndWorkers.{are as logs_shown}

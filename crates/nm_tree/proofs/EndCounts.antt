@@ -1,28 +1,6 @@
 -- The counts at a tree's end, by its turns and its report: nothing is private, what waits is in the
 -- queues, and all slots are told.
-use Rattle.std.proofs.Common.{
-  ◌≡◌,
-  ◌≢◌,
-  ℕ,
-  zero,
-  suc,
-  ◌+◌,
-  ◌-◌,
-  ◌<◌,
-  true,
-  false,
-  List,
-  [],
-  ◌∷◌,
-  map,
-  length,
-  refl,
-  sym,
-  ap,
-  ◌∙◌,
-  arith,
-  true≢false,
-}
+use Rattle.std.proofs.Common.{◌≡◌, ◌≢◌, ℕ, zero, suc, ◌+◌, ◌-◌, ◌<◌, true, false, List, [], ◌∷◌, map, length, refl, sym, ap, ◌∙◌, arith, true≢false}
 use Rattle.std.specs.Prelude.{Option, Some, None, is_some, slice_get, slice_index_or}
 use Rattle.std.proofs.lemmas.List.{length-map}
 use Rattle.std.proofs.lemmas.List.Sums.{sum_by-cons}

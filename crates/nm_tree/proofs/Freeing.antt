@@ -1,29 +1,5 @@
 -- Queues and what is counted of them, after a collection.
-use Rattle.std.proofs.Common.{
-  ◌≡◌,
-  ℕ,
-  zero,
-  suc,
-  ◌+◌,
-  ◌<◌,
-  ◌≤◌,
-  inl,
-  inr,
-  true,
-  false,
-  List,
-  [],
-  ◌∷◌,
-  ◌++◌,
-  map,
-  length,
-  refl,
-  sym,
-  ap,
-  ◌∙◌,
-  subst,
-  arith,
-}
+use Rattle.std.proofs.Common.{◌≡◌, ℕ, zero, suc, ◌+◌, ◌<◌, ◌≤◌, inl, inr, true, false, List, [], ◌∷◌, ◌++◌, map, length, refl, sym, ap, ◌∙◌, subst, arith}
 use Rattle.std.specs.Prelude.{Bool, Option, IsSome, cond}
 use Rattle.std.proofs.lemmas.List.{length-append}
 use Rattle.nm_model.specs.declared.ledger.Ledger.{Ledger}
@@ -37,20 +13,7 @@ use Rattle.nm_epoch.specs.declared.collecting.HeldQueue.{HeldQueue}
 use Rattle.nm_epoch.specs.declared.collecting.Collected.{Collected}
 use Rattle.nm_epoch.specs.declared.collecting.Tally.{Tally}
 use Rattle.nm_epoch.specs.declared.handing.HandedOut.{HandedOut}
-use Rattle.nm_epoch.specs.Collecting.{
-  AreHeld,
-  AreTrimmed,
-  Collects,
-  HaveLost,
-  IsQueueOf,
-  KeepsOtherLedgers,
-  KeepsRetired,
-  capped,
-  freed_more,
-  freeing,
-  ripe_of,
-  ripe_part,
-}
+use Rattle.nm_epoch.specs.Collecting.{AreHeld, AreTrimmed, Collects, HaveLost, IsQueueOf, KeepsOtherLedgers, KeepsRetired, capped, freed_more, freeing, ripe_of, ripe_part}
 use Rattle.nm_epoch.specs.Handing.{CollectsValues, HaveHandedOut, WasFound, WasRead, WereRead}
 use Rattle.nm_calls.specs.HandedBack.{WasCutInner, WasCutWith}
 use Rattle.nm_tree.specs.Handing.{GiveBack, WereCutWith}
@@ -59,18 +22,7 @@ use Rattle.nm_epoch.specs.Resting.{Settles, epochs}
 use Rattle.nm_walks.specs.WonCounts.{CountsWon}
 use Rattle.nm_edge.specs.declared.placement.Fit.{Fit}
 use Rattle.nm_epoch.proofs.OneQueue.{both_parts}
-use Rattle.nm_tree.specs.Workers.{
-  WorkerView,
-  IsWorker,
-  IsCounted,
-  AreCounted,
-  HasOrigin,
-  AreAbove,
-  Ascend,
-  QueueStandsAt,
-  log_held_of,
-  ledger_in,
-}
+use Rattle.nm_tree.specs.Workers.{WorkerView, IsWorker, IsCounted, AreCounted, HasOrigin, AreAbove, Ascend, QueueStandsAt, log_held_of, ledger_in}
 use Rattle.nm_tree.proofs.HeldLedgers.{split_in_run, retired_alike}
 use Rattle.nm_tree.proofs.Numbers.{numbers_stay, resigned_stay}
 use Rattle.nm_tree.proofs.OwnQueue.{quiet_of}

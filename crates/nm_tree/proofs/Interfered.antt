@@ -19,24 +19,11 @@ use Rattle.nm_progress.specs.Lost.{Interference, WasChanged, ChangeWasBusy}
 use Rattle.nm_epoch.specs.Resting.{IsResting}
 use Rattle.nm_progress.specs.Alone.{IsAlone, RunsAlone}
 use Rattle.nm_progress.specs.Walked.{ManyWereBusy, NearWasBusy}
-use Rattle.nm_progress.proofs.AloneCalls.{
-  lookups_alone_are_answered,
-  inserts_alone_are_answered,
-  deletes_alone_are_not_busy,
-}
+use Rattle.nm_progress.proofs.AloneCalls.{lookups_alone_are_answered, inserts_alone_are_answered, deletes_alone_are_not_busy}
 use Rattle.nm_progress.proofs.AloneRemovals.{deletes_alone_are_finished, finishes_alone_are_answered}
 use Rattle.nm_progress.proofs.LostLookups.{busy_lookups_met_interference}
-use Rattle.nm_progress.proofs.LostWalked.{
-  busy_many_met_interference,
-  busy_near_met_interference,
-  short_scans_met_interference,
-}
-use Rattle.nm_progress.proofs.InterferedCalls.{
-  busy_inserts_were_lost,
-  busy_deletes_were_lost,
-  unfinished_deletes_were_lost,
-  unfinished_finishes_were_lost,
-}
+use Rattle.nm_progress.proofs.LostWalked.{busy_many_met_interference, busy_near_met_interference, short_scans_met_interference}
+use Rattle.nm_progress.proofs.InterferedCalls.{busy_inserts_were_lost, busy_deletes_were_lost, unfinished_deletes_were_lost, unfinished_finishes_were_lost}
 
 -- of a tree and a worker whose insides are b and o, a call that ends at q
 module _ (b d : TreeView) (o p q : PassView) (k tries : ℕ) (tree : b ≡ d) (at : o ≡ p) (seen : HasSeen o.view)

@@ -1,25 +1,5 @@
 -- What queues tell of ledgers.
-use Rattle.std.proofs.Common.{
-  ◌≡◌,
-  ◌≢◌,
-  ℕ,
-  zero,
-  suc,
-  ◌+◌,
-  inl,
-  inr,
-  Bool,
-  true,
-  false,
-  List,
-  [],
-  ◌∷◌,
-  length,
-  refl,
-  sym,
-  subst,
-  arith,
-}
+use Rattle.std.proofs.Common.{◌≡◌, ◌≢◌, ℕ, zero, suc, ◌+◌, inl, inr, Bool, true, false, List, [], ◌∷◌, length, refl, sym, subst, arith}
 use Rattle.std.specs.Prelude.{Option, Some, None, IfSome, IfNone, if◌then◌else◌, ◌==◌, slice_index_or}
 use Rattle.std.proofs.lemmas.Bool.{eqb-true, eqb-false}
 use Rattle.nm_steps.specs.declared.view.View.{View}
@@ -28,17 +8,7 @@ use Rattle.nm_steps.specs.Steps.{PassView, IsInRun}
 use Rattle.nm_epoch.specs.declared.collecting.HeldQueue.{HeldQueue}
 use Rattle.nm_epoch.specs.Collecting.{IsQueueOf, AreHeld, NoneHas, capped}
 use Rattle.nm_tree.specs.declared.worker.Counts.{Counts}
-use Rattle.nm_tree.specs.Workers.{
-  IsCounted,
-  AreCounted,
-  IsLedger,
-  TellLedgers,
-  QueueStandsAt,
-  HasOrigin,
-  counts_among,
-  counts_in,
-  ledger_in,
-}
+use Rattle.nm_tree.specs.Workers.{IsCounted, AreCounted, IsLedger, TellLedgers, QueueStandsAt, HasOrigin, counts_among, counts_in, ledger_in}
 use Rattle.nm_tree.proofs.HeldLedgers.{ledger_waits, split_in_run}
 
 capped_sum : (a f l r : ℕ) → a ≡ capped f → r ≡ f + l → capped (a + l) ≡ capped r

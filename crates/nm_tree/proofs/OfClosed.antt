@@ -1,48 +1,7 @@
 -- What follows of each closed tree: its queues are the rest of the cuts, each slot stands once, its
 -- report is as a core tells, and its run is as every run.
-use Rattle.std.proofs.Common.{
-  ◌≡◌,
-  ℕ,
-  zero,
-  suc,
-  ◌<◌,
-  ◌≤◌,
-  inl,
-  inr,
-  ◌==◌,
-  Bool,
-  true,
-  not,
-  List,
-  [],
-  ◌∷◌,
-  ◌++◌,
-  map,
-  length,
-  append-nil,
-  refl,
-  sym,
-  ap,
-  ◌∙◌,
-  subst,
-  arith,
-  true≢false,
-}
-use Rattle.std.specs.Prelude.{
-  ◌↔◌,
-  ◌-◌,
-  Contains,
-  Result,
-  Ok,
-  Err,
-  Some,
-  false,
-  filter,
-  flat_map,
-  if◌then◌else◌,
-  option_map,
-  slice_get,
-}
+use Rattle.std.proofs.Common.{◌≡◌, ℕ, zero, suc, ◌<◌, ◌≤◌, inl, inr, ◌==◌, Bool, true, not, List, [], ◌∷◌, ◌++◌, map, length, append-nil, refl, sym, ap, ◌∙◌, subst, arith, true≢false}
+use Rattle.std.specs.Prelude.{◌↔◌, ◌-◌, Contains, Result, Ok, Err, Some, false, filter, flat_map, if◌then◌else◌, option_map, slice_get}
 use Rattle.std.proofs.lemmas.Bool.{cases_lt, eqb-true}
 use Rattle.std.proofs.lemmas.List.Concat.{length-flat_map}
 use Rattle.std.proofs.lemmas.List.Sorted.{length_permutation}
@@ -52,18 +11,7 @@ use Rattle.nm_edge.specs.Layouts.{Layout}
 use Rattle.nm_model.specs.declared.reply.Reply.{Reply}
 use Rattle.nm_model.specs.declared.reply.Refused.{Refused}
 use Rattle.nm_model.specs.declared.trace.Turn.{Turn}
-use Rattle.nm_model.specs.Headline.{
-  StandsAt,
-  Place,
-  cuts_of,
-  freed_by,
-  has_after,
-  is_among,
-  nodes_cut_of,
-  waits_of,
-  freed_of,
-  words_after,
-}
+use Rattle.nm_model.specs.Headline.{StandsAt, Place, cuts_of, freed_by, has_after, is_among, nodes_cut_of, waits_of, freed_of, words_after}
 use Rattle.nm_model.specs.Headline.Place.{InPool, InHands, OnPath as ByPath, Waits}
 use Rattle.nm_order.specs.History.{RunHasHistory}
 use Rattle.nm_model.specs.Acts.{InSet}
@@ -83,19 +31,7 @@ use Rattle.nm_epoch.specs.declared.collecting.HeldQueue.{HeldQueue}
 use Rattle.nm_steps.specs.Steps.{TreeView}
 use Rattle.nm_tree.specs.Running.{AreOfWorkers}
 use Rattle.nm_tree.specs.Workers.{WorkerView, waiting_in}
-use Rattle.nm_tree.specs.Closing.{
-  AllWereGiven,
-  EachReportIsACores,
-  EachSlotEndsOnce,
-  EndPlace,
-  EndsAt,
-  EndsOnce,
-  IsClosed,
-  OfEachClosed,
-  OfEachClosedRun,
-  QueuesAreTheRest,
-  SaysClosed,
-}
+use Rattle.nm_tree.specs.Closing.{AllWereGiven, EachReportIsACores, EachSlotEndsOnce, EndPlace, EndsAt, EndsOnce, IsClosed, OfEachClosed, OfEachClosedRun, QueuesAreTheRest, SaysClosed}
 use Rattle.nm_tree.specs.Closing.EndPlace.{Free, OnPath, Waiting}
 use Rattle.nm_tree.proofs.Closed.{as_many_queues}
 use Rattle.nm_tree.proofs.EndCounts.{counts_are}

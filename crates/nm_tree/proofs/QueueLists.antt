@@ -1,28 +1,5 @@
 -- The queues that a worker holds, one of which is its own.
-use Rattle.std.proofs.Common.{
-  ◌≡◌,
-  ◌≢◌,
-  ℕ,
-  zero,
-  suc,
-  ◌<◌,
-  ◌⊎◌,
-  Bool,
-  true,
-  false,
-  inl,
-  inr,
-  List,
-  [],
-  ◌∷◌,
-  length,
-  refl,
-  sym,
-  ap,
-  ◌∙◌,
-  subst,
-  arith,
-}
+use Rattle.std.proofs.Common.{◌≡◌, ◌≢◌, ℕ, zero, suc, ◌<◌, ◌⊎◌, Bool, true, false, inl, inr, List, [], ◌∷◌, length, refl, sym, ap, ◌∙◌, subst, arith}
 use Rattle.std.specs.Prelude.{slice_index_or, slice_set, nat_lt, if◌then◌else◌}
 use Rattle.std.proofs.lemmas.Bool.Decides.{eqb_tells}
 use Rattle.std.proofs.lemmas.List.Sums.{sum_by-cons}
@@ -37,18 +14,7 @@ use Rattle.nm_walks.specs.Bounds.{cut_bound}
 use Rattle.nm_walks.specs.Rooms.{TakesRoom}
 use Rattle.nm_tree.specs.Resigning.{inserted, merged}
 use Rattle.nm_calls.proofs.Rooms.{takes_none}
-use Rattle.nm_tree.specs.Workers.{
-  TakeRoom,
-  HaveFewBlocks,
-  AreFewIn,
-  blocks_in,
-  HasLittleRoom,
-  HasOrigin,
-  AreAbove,
-  Ascend,
-  QueueStandsAt,
-  KeepsOtherQueues,
-}
+use Rattle.nm_tree.specs.Workers.{TakeRoom, HaveFewBlocks, AreFewIn, blocks_in, HasLittleRoom, HasOrigin, AreAbove, Ascend, QueueStandsAt, KeepsOtherQueues}
 
 -- an index at which a queue stands is one of the list, and the queue there is that one
 pub stands_within : (i o : ℕ) (hs : List HeldQueue) → QueueStandsAt i o hs → i < length hs

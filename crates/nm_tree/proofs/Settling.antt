@@ -1,26 +1,6 @@
 -- Where nothing is pending of the workers with which a tree is closed, nothing is pending in its
 -- run.
-use Rattle.std.proofs.Common.{
-  ◌≡◌,
-  ℕ,
-  ◌≤◌,
-  Bool,
-  cond,
-  inl,
-  inr,
-  List,
-  [],
-  ◌∷◌,
-  ◌++◌,
-  map,
-  length,
-  refl,
-  sym,
-  ap,
-  subst,
-  ◌∙◌,
-  arith,
-}
+use Rattle.std.proofs.Common.{◌≡◌, ℕ, ◌≤◌, Bool, cond, inl, inr, List, [], ◌∷◌, ◌++◌, map, length, refl, sym, ap, subst, ◌∙◌, arith}
 use Rattle.std.specs.Prelude.{None, Option, Ok, All}
 use Rattle.std.proofs.lemmas.Bool.{eq-eqb}
 use Rattle.std.proofs.lemmas.List.Elements.{All-append, All-cons, All-head, All-tail, All-weaker}
@@ -40,13 +20,7 @@ use Rattle.nm_steps.specs.Steps.{PassView}
 use Rattle.nm_progress.specs.Pending.{NonePends, leaf_after, leaf_by}
 use Rattle.nm_progress.proofs.PendingTurns.{leaf_is_told, leaf_own}
 use Rattle.nm_tree.specs.Closing.{AreFrom, StandsForAll, all_joined}
-use Rattle.nm_tree.specs.Settled.{
-  TellNoFlag,
-  HasNothingPending,
-  HeirsHaveNothingPending,
-  RestingWorkersHaveNothingPending,
-  turns_of,
-}
+use Rattle.nm_tree.specs.Settled.{TellNoFlag, HasNothingPending, HeirsHaveNothingPending, RestingWorkersHaveNothingPending, turns_of}
 use Rattle.nm_tree.specs.Workers.{WorkerView, IsWorker, HasNumber}
 use Rattle.nm_tree.proofs.EndWorkers.{are, there}
 use Rattle.nm_tree.proofs.Heirs.{logs}

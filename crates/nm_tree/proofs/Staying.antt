@@ -1,25 +1,5 @@
 -- What a worker is between two calls, after a call that changes nothing in its hands.
-use Rattle.std.proofs.Common.{
-  ◌≡◌,
-  ℕ,
-  inl,
-  inr,
-  true,
-  false,
-  ◌&&◌,
-  List,
-  [],
-  ◌∷◌,
-  Option,
-  Some,
-  None,
-  refl,
-  sym,
-  ap,
-  ◌∙◌,
-  subst,
-  true≢false,
-}
+use Rattle.std.proofs.Common.{◌≡◌, ℕ, inl, inr, true, false, ◌&&◌, List, [], ◌∷◌, Option, Some, None, refl, sym, ap, ◌∙◌, subst, true≢false}
 use Rattle.std.specs.List.{list_all}
 use Rattle.std.specs.Prelude.{IsSome, is_some, unwrap_or}
 use Rattle.nm_model.specs.declared.arrivals.Call.{Call}

@@ -1,33 +1,5 @@
 -- A key is taken: what each round leaves, and what the call tells by all of them.
-use Rattle.std.proofs.Common.{
-  ◌≡◌,
-  ◌<◌,
-  ◌≤◌,
-  ◌⊎◌,
-  inl,
-  inr,
-  true≢false,
-  ℕ,
-  zero,
-  suc,
-  ◌+◌,
-  ◌*◌,
-  Bool,
-  true,
-  false,
-  List,
-  [],
-  ◌∷◌,
-  ◌++◌,
-  append_assoc,
-  length,
-  refl,
-  sym,
-  ap,
-  subst,
-  ◌∙◌,
-  arith,
-}
+use Rattle.std.proofs.Common.{◌≡◌, ◌<◌, ◌≤◌, ◌⊎◌, inl, inr, true≢false, ℕ, zero, suc, ◌+◌, ◌*◌, Bool, true, false, List, [], ◌∷◌, ◌++◌, append_assoc, length, refl, sym, ap, subst, ◌∙◌, arith}
 use Rattle.std.specs.Prelude.{Option, Some, None, IsSome, option_map, is_some, Result, Ok, Err}
 use Rattle.std.proofs.Math.Nat.{suc-mul, mul-add, mul_assoc, mul_comm}
 use Rattle.std.proofs.lemmas.List.{length-append}
@@ -59,19 +31,7 @@ use Rattle.nm_tree.specs.declared.popping.End.{End}
 use Rattle.nm_tree.specs.declared.popping.End.TheVariants.{First, FirstBelow, Last, LastFrom}
 use Rattle.nm_tree.specs.Answers.{flags_won}
 use Rattle.nm_tree.specs.Calls.{MayCall, LeavesNear, LeavesNext, LeavesPrev, LeavesDelete}
-use Rattle.nm_tree.specs.Popping.{
-  among,
-  comes_before,
-  IsOutside,
-  WereMissing,
-  pop_bound,
-  SaysPopOf,
-  Finds,
-  LosesRounds,
-  EndsRound,
-  HasPopped,
-  LeavesPop,
-}
+use Rattle.nm_tree.specs.Popping.{among, comes_before, IsOutside, WereMissing, pop_bound, SaysPopOf, Finds, LosesRounds, EndsRound, HasPopped, LeavesPop}
 use Rattle.nm_tree.specs.Workers.{WorkerView, KeepsOtherQueues, TakeRoom}
 use Rattle.nm_tree.proofs.QueueLists.{others_stay, room_stays}
 

@@ -1,32 +1,5 @@
 -- What calls add to a log: none of it frees a node. Only collections do.
-use Rattle.std.proofs.Common.{
-  ◌≡◌,
-  ◌≢◌,
-  ◌⊎◌,
-  ◌<◌,
-  inl,
-  inr,
-  ℕ,
-  zero,
-  suc,
-  ◌+◌,
-  ◌-◌,
-  Bool,
-  true,
-  false,
-  ◌||◌,
-  List,
-  [],
-  ◌∷◌,
-  ◌++◌,
-  append_assoc,
-  refl,
-  sym,
-  ap,
-  ◌∙◌,
-  arith,
-  true≢false,
-}
+use Rattle.std.proofs.Common.{◌≡◌, ◌≢◌, ◌⊎◌, ◌<◌, inl, inr, ℕ, zero, suc, ◌+◌, ◌-◌, Bool, true, false, ◌||◌, List, [], ◌∷◌, ◌++◌, append_assoc, refl, sym, ap, ◌∙◌, arith, true≢false}
 use Rattle.std.specs.Prelude.{Option, Some, None, Result, Ok, Err}
 use Rattle.std.specs.List.{list_all, list_any}
 use Rattle.std.proofs.lemmas.Bool.{and_parts, or_parts}
@@ -55,16 +28,7 @@ use Rattle.nm_walks.specs.declared.seek_record.ChainEdge.{ChainEdge}
 use Rattle.nm_walks.specs.declared.seek_record.SeekRecord.{SeekRecord}
 use Rattle.nm_walks.specs.declared.seek_record.WalkEnd.{WalkEnd}
 use Rattle.nm_walks.specs.AddedLooks.{AddsLooks, is_look}
-use Rattle.nm_walks.specs.Cleanups.{
-  Chooses,
-  CleanupLost,
-  CleanupWon,
-  CutsOff,
-  Freezes,
-  FreezesOne,
-  IsOneOfNodes,
-  Prepares,
-}
+use Rattle.nm_walks.specs.Cleanups.{Chooses, CleanupLost, CleanupWon, CutsOff, Freezes, FreezesOne, IsOneOfNodes, Prepares}
 use Rattle.nm_walks.specs.Growing.{ClaimsNewNodes, Grows, Returns}
 use Rattle.nm_walks.specs.Places.{Stops}
 use Rattle.nm_walks.specs.Walks.{EndsAtLeaf, IsBroken, IsTooLong, Reads, Seeks, Walks}
@@ -73,17 +37,7 @@ use Rattle.nm_calls.specs.declared.deleting.Deletion.TheVariants as deletion
 use Rattle.nm_calls.specs.declared.fault.CallFault.{CallFault}
 use Rattle.nm_calls.specs.declared.fault.CallFault.TheVariants as fault
 use Rattle.nm_calls.specs.Calls.{HasDid, HasMissed, LostWalks}
-use Rattle.nm_calls.specs.Deletes.{
-  DeleteDid,
-  DeleteFinishes,
-  FinishDid,
-  LostFlags,
-  LostRemovals,
-  Removes,
-  RemovesNothing,
-  TriesFlag,
-  leaf_of,
-}
+use Rattle.nm_calls.specs.Deletes.{DeleteDid, DeleteFinishes, FinishDid, LostFlags, LostRemovals, Removes, RemovesNothing, TriesFlag, leaf_of}
 use Rattle.nm_calls.specs.InTurns.{GiveUp as GiveUpInTurns}
 use Rattle.nm_calls.specs.Inserts.{Finishes, Helps, InsertDid, LostInserts, PinsThen, Readies, TriesLink}
 use Rattle.nm_calls.specs.NearKeys.{GiveUp, HasNone, HasNoneTo, HaveNone, bound}

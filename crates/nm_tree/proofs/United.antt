@@ -1,28 +1,5 @@
 -- What a worker is that stands for another one too.
-use Rattle.std.proofs.Common.{
-  ◌≡◌,
-  ℕ,
-  ◌+◌,
-  ◌≤◌,
-  ◌⊎◌,
-  ◌==◌,
-  inl,
-  inr,
-  Bool,
-  true,
-  cond,
-  List,
-  [],
-  ◌∷◌,
-  ◌++◌,
-  length,
-  refl,
-  sym,
-  ap,
-  ◌∙◌,
-  subst,
-  arith,
-}
+use Rattle.std.proofs.Common.{◌≡◌, ℕ, ◌+◌, ◌≤◌, ◌⊎◌, ◌==◌, inl, inr, Bool, true, cond, List, [], ◌∷◌, ◌++◌, length, refl, sym, ap, ◌∙◌, subst, arith}
 use Rattle.std.specs.Prelude.{Option, Some, None, IsSome}
 use Rattle.std.proofs.lemmas.Bool.{cond-true, eq-eqb}
 use Rattle.std.proofs.lemmas.Option.{none-some}
@@ -52,25 +29,8 @@ use Rattle.nm_epoch.specs.Resting.{Settles, search}
 use Rattle.nm_epoch.proofs.FewQueues.{few}
 use Rattle.nm_tree.specs.Workers.{WorkerView, IsBetweenCalls, IsWorker, HasNumber, HasOrigin, HoldNoSlot}
 use Rattle.nm_tree.specs.Resigning.{place_in, merged}
-use Rattle.nm_tree.proofs.Heirs.{
-  logs,
-  knows,
-  first_held,
-  second_held,
-  none_apart,
-  first_alike,
-  second_alike,
-  held_by_one,
-}
-use Rattle.nm_tree.proofs.Merging.{
-  length-merged,
-  has_merged,
-  merged_has,
-  ascend_merged,
-  held_merged,
-  counted_merged,
-  stands_at_place,
-}
+use Rattle.nm_tree.proofs.Heirs.{logs, knows, first_held, second_held, none_apart, first_alike, second_alike, held_by_one}
+use Rattle.nm_tree.proofs.Merging.{length-merged, has_merged, merged_has, ascend_merged, held_merged, counted_merged, stands_at_place}
 use Rattle.nm_tree.proofs.OwnQueue.{all_counted_still}
 use Rattle.nm_tree.proofs.QueueLists.{few_merged}
 use Rattle.nm_tree.proofs.Staying.{labelled, stands_still}

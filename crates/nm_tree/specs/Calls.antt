@@ -1,25 +1,6 @@
 -- What a call requires of its worker, and what each call leaves of it: all that it ensures, in one
 -- record.
-use Rattle.std.specs.Prelude.{
-  ◌≡◌,
-  ◌+◌,
-  ◌*◌,
-  ◌≤◌,
-  ℕ,
-  Bool,
-  List,
-  [],
-  ◌∷◌,
-  length,
-  map,
-  Option,
-  None,
-  Result,
-  IfOk,
-  IfErr,
-  IsErrOf,
-  All,
-}
+use Rattle.std.specs.Prelude.{◌≡◌, ◌+◌, ◌*◌, ◌≤◌, ℕ, Bool, List, [], ◌∷◌, length, map, Option, None, Result, IfOk, IfErr, IsErrOf, All}
 use Rattle.nm_edge.specs.Layouts.{Layout}
 use Rattle.nm_edge.specs.declared.edge.Side.{Side}
 use Rattle.nm_edge.specs.declared.edge.Side.TheVariants.{Left, Right}
@@ -56,26 +37,7 @@ use Rattle.nm_progress.specs.Walked.{ManyWereBusy, NearWasBusy}
 use Rattle.nm_calls.specs.declared.fault.CallFault.{CallFault}
 use Rattle.nm_calls.specs.declared.fault.CallFault.TheVariants as fault
 use Rattle.nm_tree.specs.declared.fault.PinFault.{PinFault}
-use Rattle.nm_tree.specs.Answers.{
-  HasAnswered,
-  HasInserted,
-  HasDeleted,
-  HasFinished,
-  FinishHasMoment,
-  HasTold,
-  InsertTold,
-  DeleteTold,
-  FinishTold,
-  DeleteLacks,
-  FinishLacks,
-  HasPinned,
-  KeepsPlace,
-  links_won,
-  flags_won,
-  DeleteWasLost,
-  FinishWasLost,
-  FailsAlone,
-}
+use Rattle.nm_tree.specs.Answers.{HasAnswered, HasInserted, HasDeleted, HasFinished, FinishHasMoment, HasTold, InsertTold, DeleteTold, FinishTold, DeleteLacks, FinishLacks, HasPinned, KeepsPlace, links_won, flags_won, DeleteWasLost, FinishWasLost, FailsAlone}
 use Rattle.nm_tree.specs.InTurns.{HasAnsweredMany}
 use Rattle.nm_tree.specs.Looked.{HasSeenMore}
 use Rattle.nm_tree.specs.Running.{IsFreedInGrace}

@@ -1,40 +1,5 @@
 -- The close of a tree: what the report says, and what follows from it.
-use Rattle.std.specs.Prelude.{
-  ◌≡◌,
-  ◌<◌,
-  ◌≤◌,
-  ◌↔◌,
-  ◌+◌,
-  ◌-◌,
-  ◌==◌,
-  ◌&&◌,
-  ℕ,
-  suc,
-  true,
-  false,
-  length,
-  filter,
-  sum_by,
-  List,
-  [],
-  ◌∷◌,
-  ◌++◌,
-  map,
-  Bool,
-  Option,
-  None,
-  Some,
-  option_map,
-  unwrap_or,
-  Ok,
-  All,
-  AllPairs,
-  Contains,
-  slice_get,
-  flat_map,
-  IsPermutation,
-  if◌then◌else◌,
-}
+use Rattle.std.specs.Prelude.{◌≡◌, ◌<◌, ◌≤◌, ◌↔◌, ◌+◌, ◌-◌, ◌==◌, ◌&&◌, ℕ, suc, true, false, length, filter, sum_by, List, [], ◌∷◌, ◌++◌, map, Bool, Option, None, Some, option_map, unwrap_or, Ok, All, AllPairs, Contains, slice_get, flat_map, IsPermutation, if◌then◌else◌}
 use Rattle.std.specs.List.{range_with_len}
 use Rattle.nm_edge.specs.Keys.{IsKey}
 use Rattle.nm_edge.specs.Layouts.{Layout}

@@ -1,30 +1,5 @@
 -- The close of a map: the value under each key that is left, and the values that wait.
-use Rattle.std.specs.Prelude.{
-  ◌≡◌,
-  ◌-◌,
-  ◌≤◌,
-  ◌&&◌,
-  ℕ,
-  zero,
-  suc,
-  nat_lt,
-  Bool,
-  true,
-  false,
-  List,
-  [],
-  ◌∷◌,
-  ◌++◌,
-  length,
-  map,
-  slice_get,
-  slice_index,
-  All,
-  Contains,
-  Option,
-  None,
-  Some,
-}
+use Rattle.std.specs.Prelude.{◌≡◌, ◌-◌, ◌≤◌, ◌&&◌, ℕ, zero, suc, nat_lt, Bool, true, false, List, [], ◌∷◌, ◌++◌, length, map, slice_get, slice_index, All, Contains, Option, None, Some}
 use Rattle.nm_edge.specs.Layouts.{Layout}
 use Rattle.nm_edge.specs.Words.{IsSlot, at_edge, word, words as all_words}
 use Rattle.nm_edge.specs.declared.edge.Side.TheVariants.{Left}

@@ -1,23 +1,5 @@
 -- The theorem for each moment of the running threads, and for what each worker has seen.
-use Rattle.std.specs.Prelude.{
-  ◌≡◌,
-  ◌⊎◌,
-  ◌==◌,
-  ◌<◌,
-  ℕ,
-  Bool,
-  true,
-  false,
-  ◌&&◌,
-  List,
-  ◌∷◌,
-  ◌++◌,
-  length,
-  Contains,
-  Some,
-  Result,
-  Ok,
-}
+use Rattle.std.specs.Prelude.{◌≡◌, ◌⊎◌, ◌==◌, ◌<◌, ℕ, Bool, true, false, ◌&&◌, List, ◌∷◌, ◌++◌, length, Contains, Some, Result, Ok}
 use Rattle.std.specs.List.{list_any}
 use mathlib.Core.Option.{some}
 use lib.ListN.{get_elem?}

@@ -1,22 +1,5 @@
 -- What a scan of a range leaves of its worker, by its answer.
-use Rattle.std.specs.Prelude.{
-  ◌≡◌,
-  ◌≢◌,
-  ◌⊎◌,
-  ◌+◌,
-  ◌*◌,
-  ◌≤◌,
-  ℕ,
-  List,
-  length,
-  take,
-  None,
-  Result,
-  IfOk,
-  IfErr,
-  IfSome,
-  IsErrOf,
-}
+use Rattle.std.specs.Prelude.{◌≡◌, ◌≢◌, ◌⊎◌, ◌+◌, ◌*◌, ◌≤◌, ℕ, List, length, take, None, Result, IfOk, IfErr, IfSome, IsErrOf}
 use Rattle.nm_edge.specs.Keys.{IsKey}
 use Rattle.nm_edge.specs.Layouts.{Layout}
 use Rattle.nm_edge.specs.declared.edge.Side.{Side}

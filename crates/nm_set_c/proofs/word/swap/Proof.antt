@@ -4,33 +4,7 @@ use mir.Val.{Val, vint, vptr}
 use base.Fraction.{full_share}
 use base.Logic.{SProp, via}
 use base.Fml.{ftrue, flft}
-use types.Kit.{
-  ‵,
-  raw,
-  ◌⊛◌,
-  mean,
-  at_ret,
-  ◌$◌,
-  ◌∵◌,
-  !,
-  qed,
-  done,
-  move,
-  keep,
-  drop,
-  use1,
-  split,
-  join,
-  fsplit,
-  fsplit3,
-  fjoin,
-  fpick,
-  feq_i,
-  flt_i,
-  suffices,
-  frame,
-  group,
-}
+use types.Kit.{‵, raw, ◌⊛◌, mean, at_ret, ◌$◌, ◌∵◌, !, qed, done, move, keep, drop, use1, split, join, fsplit, fsplit3, fjoin, fpick, feq_i, flt_i, suffices, frame, group}
 use types.Run.{enter, of_opd, addr, lit, stop, no_more, and_then, first, blocks, exec, Calls-last, returns}
 use types.ByLocal.{alloc_all, pass_all, free_all, look_at, get, through, sets, lands_last, env}
 use types.Part.{agg}

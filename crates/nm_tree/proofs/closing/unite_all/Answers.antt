@@ -5,19 +5,7 @@ use Rattle.nm_edge.specs.Layouts.{Layout}
 use Rattle.nm_steps.specs.Steps.{IsOf}
 use Rattle.nm_tree.specs.Closing.{AreAllOf, StandsForAll, all_merged}
 use Rattle.nm_tree.specs.Resigning.{merged}
-use Rattle.nm_tree.proofs.Closed.{
-  GoesOnFromAll,
-  StoresGoOnFromAll,
-  all_before,
-  still_of,
-  alone,
-  stands_for_one_more,
-  goes_on_from_one_more,
-  one_seen,
-  one_more_seen,
-  stores_alone,
-  stores_from_one_more,
-}
+use Rattle.nm_tree.proofs.Closed.{GoesOnFromAll, StoresGoOnFromAll, all_before, still_of, alone, stands_for_one_more, goes_on_from_one_more, one_seen, one_more_seen, stores_alone, stores_from_one_more}
 use Rattle.nm_tree.proofs.closing.unite_all.Goals as goal
 
 pub of-heir-requires-clause-room : goal.of-heir-requires-clause-room

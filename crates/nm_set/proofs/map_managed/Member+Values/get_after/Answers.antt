@@ -6,15 +6,7 @@ use Rattle.nm_tree.specs.Workers.{WorkerView}
 use Rattle.nm_set.specs.declared.managed.Options.{Options}
 use Rattle.nm_set.specs.MapRounds.{GetsIn}
 use Rattle.nm_set.specs.Maps.{ManagesGet}
-use Rattle.nm_set.proofs.MapManaging.{
-  get_failed,
-  gets_at_last,
-  gets_now,
-  gets_once,
-  got_at_once,
-  pending_gets,
-  unless_pending,
-}
+use Rattle.nm_set.proofs.MapManaging.{get_failed, gets_at_last, gets_now, gets_once, got_at_once, pending_gets, unless_pending}
 use Rattle.nm_set.proofs.map_managed.Member+Values.get_after.Goals as goal
 
 pub finish_and_get-requires : goal.finish_and_get-requires

@@ -7,18 +7,7 @@ use Rattle.nm_calls.specs.declared.fault.CallFault.TheVariants.{Pending}
 use Rattle.nm_tree.specs.Workers.{WorkerView}
 use Rattle.nm_set.specs.Managed.{Manages}
 use Rattle.nm_set.specs.Rounds.{AnswersIn, FinishesIn}
-use Rattle.nm_set.proofs.Managing.{
-  finish_err,
-  finished,
-  has_failed,
-  looks_at_once,
-  manages,
-  never_full,
-  never_unfinished,
-  pending_has,
-  pending_manages,
-  prepares_look,
-}
+use Rattle.nm_set.proofs.Managing.{finish_err, finished, has_failed, looks_at_once, manages, never_full, never_unfinished, pending_has, pending_manages, prepares_look}
 use Rattle.nm_set.proofs.member.Member.contains_after.Goals as goal
 
 pub retry-requires : goal.retry-requires

@@ -5,51 +5,8 @@ use base.Fraction.{full_share}
 use base.Logic.{SProp, ent, emp, id⊢}
 use base.Fml.{ftrue, flft}
 use prog.Wp.{WpFn}
-use types.Kit.{
-  ‵,
-  raw,
-  ◌⊛◌,
-  some,
-  later,
-  at_ret,
-  ◌$◌,
-  ◌∵◌,
-  !,
-  qed,
-  by,
-  move,
-  keep,
-  drop,
-  split,
-  split3,
-  join,
-  fsplit,
-  fjoin,
-  pick,
-  suffices,
-  use0,
-  use1,
-  await,
-  rewrite,
-  feq_i,
-}
-use types.Run.{
-  stop,
-  fld,
-  lit,
-  of_opd,
-  bin,
-  no_more,
-  and_then,
-  first,
-  blocks,
-  branches,
-  skips,
-  exec,
-  returns,
-  returns_within,
-  enter,
-}
+use types.Kit.{‵, raw, ◌⊛◌, some, later, at_ret, ◌$◌, ◌∵◌, !, qed, by, move, keep, drop, split, split3, join, fsplit, fjoin, pick, suffices, use0, use1, await, rewrite, feq_i}
+use types.Run.{stop, fld, lit, of_opd, bin, no_more, and_then, first, blocks, branches, skips, exec, returns, returns_within, enter}
 use types.ByLocal.{alloc_all, pass_all, free_all, look_at, get, get_in, sets, lands_last, env}
 use types.Part.{agg, sub, whole}
 use types.Match.{live}
@@ -80,22 +37,7 @@ use Rattle.std_alloc.proofs.ResultValues.{and_tt}
 use Rattle.std_alloc.specs.contracts.boxed.Box.from_raw as callee
 use Rattle.std_alloc.proofs.boxed.Box.from_raw.Met.{met}
 use Rattle.nm_set_c.proofs.Destruct++none.drop.Symbol as no_drop
-use Rattle.nm_set_c.proofs.Places.{
-  R,
-  Z,
-  X,
-  Y,
-  X_laws,
-  Y_laws,
-  Place,
-  Boxed,
-  heap_drop,
-  both,
-  null_good,
-  block_good,
-  place_out,
-  either_held,
-}
+use Rattle.nm_set_c.proofs.Places.{R, Z, X, Y, X_laws, Y_laws, Place, Boxed, heap_drop, both, null_good, block_good, place_out, either_held}
 use Rattle.nm_set_c.specs.contracts.place.Place.into_box.{ended, clauses}
 use Rattle.nm_set_c.specs.contracts.place.Place.into_box.Key.{name as #self}
 use Rattle.nm_set_c.proofs.place.Place.into_box.Statement.{statement}

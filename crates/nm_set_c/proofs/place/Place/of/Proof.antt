@@ -7,34 +7,7 @@ use base.Logic.{SProp, ent, emp, never, id⊢, fst∗}
 use base.Fml.{ftrue, fsep, flft}
 use prog.Wp.{WpFn}
 use types.Logic.{sem}
-use types.Kit.{
-  ‵,
-  raw,
-  ◌⊛◌,
-  some,
-  later,
-  ◌$◌,
-  ◌∵◌,
-  !,
-  qed,
-  by,
-  move,
-  keep,
-  drop,
-  split,
-  split3,
-  join,
-  fsplit,
-  fjoin,
-  fpick,
-  pick,
-  suffices,
-  use0,
-  use1,
-  await,
-  rewrite,
-  feq_l,
-}
+use types.Kit.{‵, raw, ◌⊛◌, some, later, ◌$◌, ◌∵◌, !, qed, by, move, keep, drop, split, split3, join, fsplit, fjoin, fpick, pick, suffices, use0, use1, await, rewrite, feq_l}
 use types.Run.{stop, fld, of_opd, no_more, and_then, returns, enter}
 use types.ByLocal.{alloc_all, pass_all, free_all, look_at, get, get_in, sets, lands_as}
 use types.Part.{agg, sub, whole}
@@ -65,22 +38,7 @@ use Rattle.std_alloc.proofs.BoxSteps.Steps.{box_out, box_in}
 use Rattle.std_alloc.specs.contracts.boxed.Box.into_raw_with_allocator as callee
 use Rattle.std_alloc.proofs.boxed.Box.into_raw_with_allocator.Met.{met}
 use Rattle.nm_set_c.proofs.Destruct++none.drop.Symbol as no_drop
-use Rattle.nm_set_c.proofs.Places.{
-  R,
-  Z,
-  X,
-  Y,
-  X_laws,
-  Y_laws,
-  al,
-  Boxed,
-  heap_drop,
-  owner_drop,
-  owner_glued,
-  both,
-  block_good,
-  place_in,
-}
+use Rattle.nm_set_c.proofs.Places.{R, Z, X, Y, X_laws, Y_laws, al, Boxed, heap_drop, owner_drop, owner_glued, both, block_good, place_in}
 use Rattle.nm_set_c.specs.contracts.place.Place.of.{ended, clauses}
 use Rattle.nm_set_c.specs.contracts.place.Place.of.Key.{name as #self}
 use Rattle.nm_set_c.proofs.place.Place.of.Statement.{statement}

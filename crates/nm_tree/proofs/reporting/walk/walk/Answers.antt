@@ -9,17 +9,7 @@ use Rattle.nm_model.specs.Paths.{Reached}
 use Rattle.nm_tree.specs.Ended.{IsEndOf, end_of}
 use Rattle.nm_tree.proofs.Ends.{layout_is, low_child, few_reached}
 use Rattle.nm_tree.proofs.LeavesFound.{as_many, leaf_more, next_reached, no_leaves, root_reached, taken_reached}
-use Rattle.nm_tree.proofs.Parts.{
-  begun,
-  passed,
-  part_within,
-  gone_on,
-  room_left,
-  all_found,
-  all_visited,
-  popped_fewer,
-  visited_fewer,
-}
+use Rattle.nm_tree.proofs.Parts.{begun, passed, part_within, gone_on, room_left, all_found, all_visited, popped_fewer, visited_fewer}
 use Rattle.nm_tree.proofs.reporting.walk.walk.Goals as goal
 
 pub loop-part-init : goal.loop-part-init
