@@ -10,7 +10,7 @@ use Rattle.nm_tree.specs.declared.closing.Ended.{Ended}
 use Rattle.nm_tree.specs.declared.closing.Report.{Report}
 use Rattle.nm_tree.specs.declared.map_closing.MapReport.{MapReport}
 use Rattle.nm_tree.specs.Closing.{AreAllOf, IsCloseReason, SaysClosed}
-use Rattle.nm_tree.specs.MapReports.{EndsMap, is_bare_in, value_in}
+use Rattle.nm_tree.specs.MapReports.{EndsMap, bare_in, value_in}
 use Rattle.nm_tree.specs.Workers.{WorkerView}
 use Rattle.nm_tree.proofs.ClosedMaps.{map_said}
 use Rattle.nm_set.specs.declared.home.Site.{Site}
@@ -75,7 +75,7 @@ map_ended s site all g e ends =
 -- the report of a map
 pub map_said_ended : (s : SetView) (e : Ended) (r : MapReport) → r.report ≡ e.report
     → r.values.keyed ≡ map (value_in e.words.values) e.leaves.items → r.values.slots ≡ e.words.values
-    → r.values.bare ≡ is_bare_in e.layout e.words.core → EndsMapSet s e → SaysMapEnded s r
+    → r.values.bare ≡ bare_in e.layout e.words.core → EndsMapSet s e → SaysMapEnded s r
 map_said_ended s e r report keyed slots bare ends = record {
   home = ends.home;
   none = ends.none;

@@ -45,8 +45,9 @@ use Rattle.nm_tree.specs.declared.closing.Report.{Report}
 use Rattle.nm_tree.specs.declared.map_closing.MapReport.{MapReport}
 use Rattle.nm_tree.specs.Closing.{AreFrom, IsClosed, StandsForAll, all_merged, given_in}
 use Rattle.nm_tree.specs.Ended.{IsEndOf, end_of}
-use Rattle.nm_tree.specs.MapReports.{AreLeavesOf, EndsMap, IsLeafOf, LeavesValues, SaysMapClosed, Waits, is_bare_in, value_in}
+use Rattle.nm_tree.specs.MapReports.{AreLeavesOf, EndsMap, IsLeafOf, LeavesValues, SaysMapClosed, Waits, bare_in, is_bare_in, value_in}
 use Rattle.nm_tree.specs.Workers.{IsWorker, WorkerView}
+use Rattle.nm_tree.proofs.BareSlots.{bare_there}
 use Rattle.nm_tree.proofs.Closed.{GoesOnFromAll, StoresGoOnFromAll, closed, in_order, stores_from_earlier, turns_are}
 use Rattle.nm_tree.proofs.EndWorkers.{are as logs_shown}
 use Rattle.nm_tree.proofs.Ends.{edge_told}
@@ -97,6 +98,9 @@ leaves_within L m n (k ∷ ks) (x ∷ xs) long are =
     let high = are.0.slot.1 in
     All-cons (λ (y : ℕ). (1 ≤ y) × (y ≤ n)) x xs (omega (arith, low), omega (arith, high, long))
     (leaves_within L m n ks xs long are.1)
+
+none_at : (i k : ℕ) → slice_get [] i ≡ Some k → ⊥
+none_at i k at = cc
 
 as_many_leaves : (L : Layout) (m : Memory) (ks xs : List ℕ) → AreLeavesOf L m ks xs → length xs ≡ length ks
 as_many_leaves L m [] [] are = refl
@@ -159,11 +163,7 @@ module _ (L : Layout) (fits : IsLayout L) (events : List (ℕ × Event)) (all_ke
 
   pub each_in_map : (ks xs : List ℕ) → AreLeavesOf L (words_after L turns) ks xs → (i k v : ℕ)
       → slice_get ks i ≡ Some k → slice_get (map (value_in slots) xs) i ≡ Some v → IsInMap L turns stores k v
-  each_in_map [] xs are i k v at there = absurd (none_some' i k at)
-    where
-      none_some' : (i : ℕ) (k : ℕ) → slice_get [] i ≡ Some k → ⊥
-      none_some' zero k at = none-some k at
-      none_some' (suc i) k at = none-some k at
+  each_in_map [] xs are i k v at there = absurd (none_at i k at)
   each_in_map (k' ∷ ks) [] are i k v at there = absurd are
   each_in_map (k' ∷ ks) (x ∷ xs) are zero k v at there =
       subst (λ (j : ℕ). IsInMap L turns stores j v) (same_Some k' k at)
@@ -180,7 +180,7 @@ module _ (L : Layout) (fits : IsLayout L) (events : List (ℕ × Event)) (all_ke
   -- a node that was cut off with its value waits with it
   waits_as_leaf : (e : Entry) (v : ℕ) → IsPooled L e.node.slot → is_bare_in L core e.node.slot ≡ true
       → value_of stores e.node.slot ≡ v → WasCutWith L turns stores e.node v
-      → Waits L turns stores slots (is_bare_in L core) e
+      → Waits L turns stores slots (bare_in L core) e
   waits_as_leaf e v pooled bare is w =
       let low = pooled.0 in
       let high = pooled.1 in
@@ -196,14 +196,14 @@ module _ (L : Layout) (fits : IsLayout L) (events : List (ℕ × Event)) (all_ke
         are = w.are;
         cuts = w.cuts;
         slot = pooled;
-        leaf = w.leaf ∙ sym bare;
+        leaf = bare_there L core x (omega (arith, low)) high ∙ ap Some (bare ∙ sym w.leaf);
         value = λ yes'. slice_get-get_or slots (x - 1) 0 (omega (arith, low, high, long))
             ∙ ap Some (value_is x (omega (arith, low), omega (arith, high)) ∙ (is ∙ sym (more ∙ w.has_value)));
       }
 
   pub waits : (u : ℕ) (items early later : List Entry) (e : Entry)
       → map (λ (n : Entry). n.node) items ≡ waits_of u turns → items ≡ early ++ e ∷ later → IsPooled L e.node.slot
-      → Waits L turns stores slots (is_bare_in L core) e
+      → Waits L turns stores slots (bare_in L core) e
   waits u items early later e waiting are pooled = by (is_bare_in L core e.node.slot) refl
     where
       there : Contains (waits_of u turns) e.node
@@ -225,7 +225,7 @@ module _ (L : Layout) (fits : IsLayout L) (events : List (ℕ × Event)) (all_ke
           ∙ (kind_by_left L fits events all_keys u e.node c there pooled
           ∙ kind_at_end L fits events all_keys u e.node c there pooled)
 
-      by : (b : Bool) → is_bare_in L core e.node.slot ≡ b → Waits L turns stores slots (is_bare_in L core) e
+      by : (b : Bool) → is_bare_in L core e.node.slot ≡ b → Waits L turns stores slots (bare_in L core) e
       by true bare = waits_as_leaf e (value_of stores e.node.slot) pooled bare refl
           (waits_with_its_value L fits events all_keys u e.node c there pooled (sym kind ∙ bare) stores were all_stores)
       by false not_bare = record {
@@ -235,8 +235,8 @@ module _ (L : Layout) (fits : IsLayout L) (events : List (ℕ × Event)) (all_ke
         are = c.are;
         cuts = c.there;
         slot = pooled;
-        leaf = sym kind;
-        value = λ yes'. absurd (true≢false (sym yes' ∙ not_bare));
+        leaf = (let low = pooled.0 in bare_there L core e.node.slot (omega (arith, low)) pooled.1) ∙ ap Some kind;
+        value = λ yes'. absurd (true≢false (sym yes' ∙ (sym kind ∙ not_bare)));
       }
 
 -- ---- the whole
@@ -302,7 +302,7 @@ module _ (b : TreeView) (w : WorkerView) (home : ℕ) (ws : List WorkerView) (ke
       (held_there (knowledge w.pass.view) w.queues u h is.between.queues at)
       ∙ ap (λ (l : List Entry). map queued l) are) ∙ get_after early e later))
 
-  values : LeavesValues L ws T w.queues kept (map (value_in left.values) leaves) left.values (is_bare_in L left.core)
+  values : LeavesValues L ws T w.queues kept (map (value_in left.values) leaves) left.values (bare_in L left.core)
   values = record {
     stores = v.stores;
     go_on = stores_from_earlier v.stores w.pass.view.stores ws v.extends stores_seen;
@@ -312,8 +312,8 @@ module _ (b : TreeView) (w : WorkerView) (home : ℕ) (ws : List WorkerView) (ke
     as_many = length-map leaves (value_in left.values) ∙ as_many_leaves L (words_after L T) kept leaves leaves_now;
     each = each_in_map L v.ends.fits v.ends.turns v.ends.keys v.stores v.held v.linked v.order left.values left.core
         v.long v.ends.words_are v.are no_hands kept leaves leaves_now;
-    waiting = all_waiting (Waits L T v.stores left.values (is_bare_in L left.core)) w.queues
-        (λ u h at. all_entries (Waits L T v.stores left.values (is_bare_in L left.core)) h.queue.items
+    waiting = all_waiting (Waits L T v.stores left.values (bare_in L left.core)) w.queues
+        (λ u h at. all_entries (Waits L T v.stores left.values (bare_in L left.core)) h.queue.items
         (λ early later e are.
         waits L v.ends.fits v.ends.turns v.ends.keys v.stores v.held v.linked v.order left.values left.core
         v.long v.ends.words_are v.are no_hands u h.queue.items early later e (waiting u h at) are
@@ -328,7 +328,7 @@ module _ (b : TreeView) (w : WorkerView) (home : ℕ) (ws : List WorkerView) (ke
         laid = laid;
         within = leaves_within L (words_after L T) (length left.values) kept leaves v.long leaves_now;
         values = subst (λ (ts : List Turn). LeavesValues L ws ts w.queues kept
-            (map (value_in left.values) leaves) left.values (is_bare_in L left.core)) (sym same) values;
+            (map (value_in left.values) leaves) left.values (bare_in L left.core)) (sym same) values;
       })
 
 -- ---- the report of a map
@@ -336,7 +336,7 @@ module _ (b : TreeView) (w : WorkerView) (home : ℕ) (ws : List WorkerView) (ke
 -- the report that is made of what the end of a map has left
 module _ (b : TreeView) (ws : List WorkerView) (e : Ended) (r : MapReport) (report : r.report ≡ e.report)
     (keyed : r.values.keyed ≡ map (value_in e.words.values) e.leaves.items) (slots : r.values.slots ≡ e.words.values)
-    (bare : r.values.bare ≡ is_bare_in e.layout e.words.core) where
+    (bare : r.values.bare ≡ bare_in e.layout e.words.core) where
   pub map_said : EndsMap b ws e.report.queues.items e.report.keys.items e.leaves.items e.words e.layout e.report.free
       e.report.reached
       → SaysMapClosed b ws r.report.queues.items r.report.keys.items r.values.keyed r.values.slots
@@ -348,7 +348,7 @@ module _ (b : TreeView) (ws : List WorkerView) (e : Ended) (r : MapReport) (repo
       r.values.bare e.report.free e.report.reached in
       let R : List ℕ → Type 0 = λ vs. SaysMapClosed b ws e.report.queues.items e.report.keys.items
       (map (value_in e.words.values) e.leaves.items) vs r.values.bare e.report.free e.report.reached in
-      let S : (ℕ → Bool) → Type 0 = λ f. SaysMapClosed b ws e.report.queues.items e.report.keys.items
+      let S : List Bool → Type 0 = λ f. SaysMapClosed b ws e.report.queues.items e.report.keys.items
       (map (value_in e.words.values) e.leaves.items) e.words.values f e.report.free e.report.reached in
       subst P (sym report) (subst Q (sym keyed) (subst R (sym slots)
       (subst S (sym bare) (record { says = ends.says; values = ends.values }))))

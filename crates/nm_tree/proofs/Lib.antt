@@ -26,7 +26,9 @@ pub mod EndTheorem
 pub mod Settling
 pub mod RunningTurns
 pub mod Closed
+pub mod BareSlots
 pub mod ClosedMaps
+pub mod WaitingValues
 pub mod EndCounts
 pub mod OfClosed
 pub mod EndsOfLeaves

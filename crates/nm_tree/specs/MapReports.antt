@@ -1,10 +1,11 @@
 -- The close of a map: the value under each key that is left, and the values that wait.
-use Rattle.std.specs.Prelude.{◌≡◌, ◌-◌, ◌≤◌, ◌&&◌, ℕ, zero, suc, nat_lt, Bool, true, false, List, [], ◌∷◌, ◌++◌, length, map, slice_get, slice_index, All, Contains, Option, None, Some}
+use Rattle.std.specs.Prelude.{◌≡◌, ◌-◌, ◌≤◌, ℕ, zero, suc, nat_lt, Bool, true, false, List, [], ◌∷◌, ◌++◌, length, map, slice_get, slice_index, unwrap_or, All, Contains, Option, None, Some}
+use Rattle.std.specs.List.{range_with_len}
 use Rattle.nm_edge.specs.Layouts.{Layout}
 use Rattle.nm_edge.specs.Words.{IsSlot, at_edge, word, words as all_words}
 use Rattle.nm_edge.specs.declared.edge.Side.TheVariants.{Left}
 use Rattle.nm_model.specs.declared.trace.Turn.{Turn}
-use Rattle.nm_model.specs.Headline.{nodes_cut_of, words_after}
+use Rattle.nm_model.specs.Headline.{Headline, nodes_cut_of, words_after}
 use Rattle.nm_model.specs.Memory.{Memory, is_leaf, node}
 use Rattle.nm_model.specs.Paths.{Reached}
 use Rattle.nm_steps.specs.declared.view.Stored.{Stored}
@@ -12,6 +13,7 @@ use Rattle.nm_steps.specs.Rules.{ExtendsStores}
 use Rattle.nm_steps.specs.Steps.{EndedWords, TreeView}
 use Rattle.nm_epoch.specs.declared.collecting.Entry.{Entry}
 use Rattle.nm_epoch.specs.declared.collecting.HeldQueue.{HeldQueue}
+use Rattle.nm_calls.specs.HandedBack.{WasCutWith}
 use Rattle.nm_calls.specs.Maps.{HoldsStores, IsInMap, value_at}
 use Rattle.nm_tree.specs.Closing.{SaysClosed}
 use Rattle.nm_tree.specs.Workers.{WorkerView}
@@ -40,28 +42,32 @@ abbrev pub value_at_slot : List ℕ → ℕ → Option ℕ
 value_at_slot values zero = None
 value_at_slot values (suc x) = slice_get values x
 
--- the left edge of a slot leads to no node, by these words of a closed tree
+-- `is_bare_in`, `bare_in`: whether the left edge of a slot leads to no node, by these words of a closed
+-- tree; and that of each slot, from 1 on
 abbrev pub is_bare_in : Layout → List ℕ → ℕ → Bool
 is_bare_in L core x = nat_lt (slice_index core (word L (at_edge x Left))) 4
 
+abbrev pub bare_in : Layout → List ℕ → List Bool
+bare_in L core = map (is_bare_in L core) (range_with_len 1 L.nodes)
+
 -- what clauses see of the values of a closed map: the value under each key, in the order of the
--- keys, the value of each slot, from 1 on, and whether a slot is bare: its left edge leads to no node
+-- keys; and of each slot, from 1 on, its value, and whether its left edge leads to no node
 pub record MapValuesView : Type 0 where
   pub keyed : List ℕ
   pub slots : List ℕ
-  pub bare : ℕ → Bool
+  pub bare : List Bool
 
--- there is such a slot, and it is bare
+-- there is such a slot, and its left edge leads to no node
 abbrev pub is_leaf_at : MapValuesView → ℕ → Bool
 is_leaf_at v zero = false
-is_leaf_at v (suc x) = nat_lt x (length v.slots) && v.bare (suc x)
+is_leaf_at v (suc x) = unwrap_or (slice_get v.bare x) false
 
 -- ---- what a closed map says
 
 -- The node waits: one of these turns cut it off, and its slot is none of the fixed ones. Right before
--- that turn the slot was that of a leaf exactly if it is bare now. If it is, it has the value that was
+-- that turn the slot was that of a leaf exactly if it is bare now. If so, it has the value that was
 -- stored last for it before that turn
-pub record Waits (L : Layout) (turns : List Turn) (stores : List Stored) (slots : List ℕ) (bare : ℕ → Bool)
+pub record Waits (L : Layout) (turns : List Turn) (stores : List Stored) (slots : List ℕ) (bare : List Bool)
     (e : Entry) : Type 0 where
   pub before : List Turn
   pub cut : Turn
@@ -69,8 +75,8 @@ pub record Waits (L : Layout) (turns : List Turn) (stores : List Stored) (slots 
   pub are : turns ≡ before ++ cut ∷ since
   pub cuts : Contains (nodes_cut_of cut.outcome) e.node
   pub slot : (6 ≤ e.node.slot) × (e.node.slot ≤ L.nodes)
-  pub leaf : is_leaf (node (words_after L before) e.node.slot) ≡ bare e.node.slot
-  pub value : bare e.node.slot ≡ true
+  pub leaf : slice_get bare (e.node.slot - 1) ≡ Some (is_leaf (node (words_after L before) e.node.slot))
+  pub value : is_leaf (node (words_after L before) e.node.slot) ≡ true
       → slice_get slots (e.node.slot - 1) ≡ Some (value_at (length before) stores e.node.slot)
 
 -- The values of a closed map, by all stores of its run. These extend what each worker that was given
@@ -78,7 +84,7 @@ pub record Waits (L : Layout) (turns : List Turn) (stores : List Stored) (slots 
 -- value at its place. Each slot has a value. That of a leaf which waits is the one that the leaf had
 -- right before it was cut off. A node that waits is a leaf if its slot is bare
 pub record LeavesValues (L : Layout) (ws : List WorkerView) (turns : List Turn)
-    (queues : List HeldQueue) (kept keyed slots : List ℕ) (bare : ℕ → Bool) : Type 0 where
+    (queues : List HeldQueue) (kept keyed slots : List ℕ) (bare : List Bool) : Type 0 where
   pub stores : List Stored
   pub go_on : All (λ (w : WorkerView). ExtendsStores stores w.pass.view.stores) ws
   pub holds : HoldsStores L turns turns stores
@@ -95,10 +101,25 @@ pub record EndsMap (b : TreeView) (ws : List WorkerView) (queues : List HeldQueu
   pub laid : length words.core ≡ all_words layout
   pub within : All (λ (x : ℕ). (1 ≤ x) × (x ≤ length words.values)) leaves
   pub values : LeavesValues b.layout ws says.turns queues kept (map (value_in words.values) leaves)
-      words.values (is_bare_in layout words.core)
+      words.values (bare_in layout words.core)
 
 -- what a caller learns from a closed map: what it learns from a closed tree, and the values
 pub record SaysMapClosed (b : TreeView) (ws : List WorkerView) (queues : List HeldQueue)
-    (kept keyed slots : List ℕ) (bare : ℕ → Bool) (free reached : ℕ) : Type 0 where
+    (kept keyed slots : List ℕ) (bare : List Bool) (free reached : ℕ) : Type 0 where
   pub says : SaysClosed b ws queues kept free reached
   pub values : LeavesValues b.layout ws says.turns queues kept keyed slots bare
+
+-- ---- what follows for each closed map
+
+-- a path from the root reached each node that waits, right before the node was cut off
+abbrev pub WaitingNodesWereReached : Type 0
+WaitingNodesWereReached = (L : Layout) (turns : List Turn) (stores : List Stored) (slots : List ℕ) (bare : List Bool)
+    (e : Entry) → Headline L turns → (w : Waits L turns stores slots bare e)
+    → Reached (words_after L w.before) e.node.slot
+
+-- each leaf that waits was cut off with the value that its slot has
+abbrev pub WaitingLeavesHaveTheirValues : Type 0
+WaitingLeavesHaveTheirValues = (L : Layout) (turns : List Turn) (stores : List Stored) (slots : List ℕ)
+    (bare : List Bool) (e : Entry) → Headline L turns → HoldsStores L turns turns stores
+    → Waits L turns stores slots bare e → slice_get bare (e.node.slot - 1) ≡ Some true
+    → (v : ℕ) → slice_get slots (e.node.slot - 1) ≡ Some v → WasCutWith L turns stores e.node v

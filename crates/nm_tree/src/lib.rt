@@ -30,7 +30,7 @@ pub use closing::{
     runs_of_closed_trees_are_runs,
 };
 pub use fault::PinFault;
-pub use map_closing::{MapReport, MapValues};
+pub use map_closing::{MapReport, MapValues, waiting_values_are_those_at_the_cut};
 pub use nm_calls::{CallFault, MapEntry, Query, Scanned};
 pub use nm_edge::Fit;
 pub use nm_epoch::{Advance, Behind, Collected, Entry, HandedOut, HeldQueue, Tally};

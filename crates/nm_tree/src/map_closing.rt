@@ -1,7 +1,7 @@
 //! The close of a map, which hands out its values.
 ghost use Rattle.std.specs.Prelude.{◌≡◌, ◌≤◌, ℕ, All, length, map, slice_get};
 ghost use Rattle.nm_edge.specs.Words.{words};
-ghost use Rattle.nm_tree.specs.MapReports.{is_bare_in, is_leaf_at, value_at_slot, value_in};
+ghost use Rattle.nm_tree.specs.MapReports.{WaitingLeavesHaveTheirValues, WaitingNodesWereReached, bare_in, is_leaf_at, value_at_slot, value_in};
 
 use crate::closing::{Ended, Report};
 use nm_edge::{Layout, Side};
@@ -32,14 +32,14 @@ pub struct MapValues {
 impl Model for MapValues {
     ghost use Rattle.std.specs.Prelude.{◌≡◌, ◌≤◌, ℕ, All, length, map};
     ghost use Rattle.nm_edge.specs.Words.{words as all_words};
-    ghost use Rattle.nm_tree.specs.MapReports.{MapValuesView, is_bare_in, value_in};
+    ghost use Rattle.nm_tree.specs.MapReports.{MapValuesView, bare_in, value_in};
 
     ghost Value = { MapValuesView };
 
     ghost view = { λ v. record {
       keyed = map (value_in v.words.values) v.leaves.items;
       slots = v.words.values;
-      bare = is_bare_in v.layout v.words.core;
+      bare = bare_in v.layout v.words.core;
     } };
 
     ghost invariant = { λ v. (v.layout.nodes ≡ length v.words.values)
@@ -93,7 +93,7 @@ impl Ended {
         ensures report { result.report ≡ self.report }
         ensures keyed { result.values.keyed ≡ map (value_in self.words.values) self.leaves.items }
         ensures slots { result.values.slots ≡ self.words.values }
-        ensures bare { result.values.bare ≡ is_bare_in self.layout self.words.core }
+        ensures bare { result.values.bare ≡ bare_in self.layout self.words.core }
     {
         let Self {
             report,
@@ -111,3 +111,10 @@ impl Ended {
         }
     }
 }
+
+/// Law: in every map that was closed, a path from the root reached each node that waits, right before
+/// the node was cut off. Each leaf that waits was cut off with the value that its slot has.
+pub fn waiting_values_are_those_at_the_cut()
+    ensures reached { WaitingNodesWereReached }
+    ensures values { WaitingLeavesHaveTheirValues }
+{}
