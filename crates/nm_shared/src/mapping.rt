@@ -79,14 +79,15 @@ impl SharedSet<Values> {
         }
     }
 
-    /// Looks up the value of each of these keys, and writes the answers into their `found` and `value`:
-    /// `MapMember::get_many_pinned`, between a pin and an unpin. Proved (`says`): each answer was right
-    /// at a moment of the call. One worker looks up all keys. A value may be reclaimed at once.
+    /// Looks up the value of each of these keys, and writes the answers into their `found` and
+    /// `value`: `MapMember::get_many_pinned`, between a pin and an unpin, in the same way. Proved
+    /// (`says`): each answer was right at a moment of the call. One worker looks up all keys. A
+    /// value may be reclaimed at once.
     ///
-    /// Errors: no answer means anything then. `Busy`: the epoch moved on in each try, or the options
-    /// allow none; or a walk had looked at as many nodes as there are, which in a radix tree never
-    /// happens. `Pending`: the worker has not finished a remove; `get` finishes it.
-    /// Cost: that of `get`, and a walk for each further key.
+    /// Errors: no answer means anything then. `Busy`: the epoch moved on in each try, or the
+    /// options allow none; or a walk had looked at as many nodes as there are, which never happens
+    /// in a radix tree. `Pending`: the worker has not finished a remove; `get` finishes it.
+    /// Cost: a pin, a walk for each key, and an unpin.
     pub fn get_many(
         &self,
         caller: Caller<Values>,

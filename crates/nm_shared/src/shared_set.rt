@@ -1,4 +1,4 @@
-//! Calls of any thread, each by a worker that is borrowed for that call.
+//! Calls of a set or a map by any thread, each by a worker that is borrowed for that call.
 ghost use Rattle.std.specs.Prelude.{◌≡◌, ◌++◌, ◌∷◌, [], length, Some, None, IfOk, IfErr, IfSome, IfNone};
 ghost use Rattle.nm_edge.specs.Layouts.{in_radix, spaced};
 ghost use Rattle.nm_lending.specs.Visits.{AreApart, AreInOrder, AreSeated};
@@ -15,7 +15,7 @@ use nm_steps::Note;
 use std::alloc::{AllocError, Global};
 use std::marker::Model;
 
-/// A worker of a shared set, in a block of its own, so that a loan moves one word.
+/// A worker of a shared set or map, in a block of its own, so that a loan moves one word.
 #[derive(Drop)]
 pub(crate) struct Worker<V: Contents> {
     pub member: Box<Member<V>>,
@@ -61,8 +61,8 @@ impl<V: Contents> Model for SharedSet<V> {
     ghost invariant = { λ s. (s.workers.site ≡ s.set) × (0 < s.workers.table.words) };
 }
 
-/// Who calls a shared set: a thread, or a task. It has the number of the worker that it borrowed
-/// last, from which it looks for the next one, and for proofs what it has learned.
+/// Who calls a shared set or map: a thread, or a task. It has the number of the worker that it
+/// borrowed last, from which it looks for the next one, and for proofs what it has learned.
 #[derive(Drop)]
 pub struct Caller<V: Contents = Keys> {
     visits: Visitor<Worker<V>, Set<V>>,
