@@ -7,7 +7,7 @@ ghost use Rattle.nm_set.specs.Managed.{of_insert};
 ghost use Rattle.nm_shared.specs.Sharing.{IsCallerOf, SaysShared, SaysSharedNext, SaysSharedPop, Visited};
 
 use nm_edge::Key;
-use nm_set::{CallFault, Options, Query};
+use nm_set::{CallFault, InsertFault, Keys, Member, Options, Query};
 use nm_shared::{Caller, MapCaller, SharedMap, SharedSet};
 use std::thread::{Threads, join};
 
@@ -44,20 +44,34 @@ pub fn insert_then_find_attached(
 ) -> (Caller, Option<(bool, bool)>)
     requires own { IsCallerOf set.now caller }
     ensures own { IsCallerOf set.now result.0 }
-    ensures visited { IfSome result.1
-        (λ x. Visited (InsertedThenFound set.now options.now key x) set.now caller result.0) }
+    ensures visited { IfSome result.1 (λ x. Visited (InsertedThenFound set.now.set.tree options.now key
+        (Ok x.0) (Ok x.1)) set.now caller result.0) }
 {
     let mut attached = match set.attach(caller) {
         Ok(attached) => attached,
         Err(caller) => return (caller, None),
     };
-    let inserted = attached.member.insert(key, options);
-    let found = attached.member.contains(key, options);
+    let (inserted, found) = insert_then_find_by(&mut attached.member, key, options);
     let caller = set.detach(attached);
     match (inserted, found) {
         (Ok(inserted), Ok(found)) => (caller, Some((inserted, found))),
         _ => (caller, None),
     }
+}
+
+/// Inserts a key, and then looks it up, by this worker.
+fn insert_then_find_by(
+    member: &mut Member<Keys>,
+    key: Key,
+    options: &Options,
+) -> (Result<bool, InsertFault>, Result<bool, CallFault>)
+    ensures tree { member.new.tree ≡ member.old.tree }
+    ensures says { InsertedThenFound member.old.tree options.now key (of_insert result.0) result.1
+        member.old.worker member.new.worker }
+{
+    let inserted = member.insert(key, options);
+    let found = member.contains(key, options);
+    (inserted, found)
 }
 
 /// Looks a key up. `None`: the call had no answer.
