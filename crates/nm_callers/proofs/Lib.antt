@@ -1,3 +1,4 @@
+pub mod Attached
 pub mod GettingOn
 pub mod GotAfterPut
 pub mod Replayed

@@ -1,5 +1,6 @@
 -- What callers of a shared set prove of their answers.
-use Rattle.std.specs.Prelude.{◌≡◌, ◌<◌, ℕ, Bool, true, All, List, ◌++◌, ◌∷◌, [], map, Some}
+use Rattle.std.specs.Prelude.{◌≡◌, ◌<◌, ℕ, Bool, true, All, List, ◌++◌, ◌∷◌, [], map, Result, Some}
+use Rattle.nm_calls.specs.declared.fault.CallFault.{CallFault}
 use Rattle.nm_calls.specs.InTurns.{key_of}
 use Rattle.nm_calls.specs.Maps.{MapGaveUnderPin}
 use Rattle.nm_calls.specs.Moments.{AnswerHasMoment}
@@ -11,15 +12,24 @@ use Rattle.nm_lending.specs.declared.knowing.Look.{Look}
 use Rattle.nm_lending.specs.declared.knowing.Visit.{Visit}
 use Rattle.nm_lending.specs.Views.{FoundAway}
 use Rattle.nm_model.specs.declared.event.Op.TheVariants.{Has, Insert, Delete}
+use Rattle.nm_set.specs.declared.managed.Options.{Options}
+use Rattle.nm_set.specs.Managed.{SaysManaged}
 use Rattle.nm_set.specs.Maps.{TookMeanwhile}
 use Rattle.nm_set.specs.Seats.{MemberView}
 use Rattle.nm_shared.specs.Sharing.{SharedView, CallerView, AnswersApart, AnswersInOrder, HasHeardNote}
-use Rattle.nm_steps.specs.Steps.{HasSeenAllOf, Notice}
+use Rattle.nm_steps.specs.Steps.{HasSeenAllOf, Notice, TreeView}
 use Rattle.nm_tree.specs.Workers.{WorkerView}
 
 -- in each history of all turns that extend what the caller has seen, the insert is before the look-up
 abbrev pub FindsAfterInsert : SharedView → ℕ → CallerView → Bool × Bool → Type 0
 FindsAfterInsert s k c x = (n : Notice) × (c.note ≡ Some n) × AnswersInOrder Insert Has s k k x.0 x.1 n
+
+-- the worker was asked to insert the key, and after that to look it up, with these results
+pub record InsertedThenFound (b : TreeView) (h : Options) (k : ℕ) (inserts finds : Result Bool CallFault)
+    (w z : WorkerView) : Type 0 where
+  pub between : WorkerView
+  pub inserted : SaysManaged Insert b h k w between inserts
+  pub found : SaysManaged Has b h k between z finds
 
 -- each caller made one visit, and in each history of all turns that extend what both left, the removes
 -- are different calls

@@ -2,12 +2,12 @@
 ghost use Rattle.std.specs.Prelude.{◌≡◌, ◌<◌, ◌++◌, ◌∷◌, [], true, Some, Ok, IfNone, IfSome};
 ghost use Rattle.nm_edge.specs.Keys.{IsKey};
 ghost use Rattle.nm_model.specs.declared.event.Op.TheVariants.{Has, Insert, Delete};
-ghost use Rattle.nm_callers.specs.AnyThread.{FindsAfterInsert, FoundNext, FoundTaken, ReadLogIns, RemovesApart, TookDue, TookValue};
+ghost use Rattle.nm_callers.specs.AnyThread.{FindsAfterInsert, FoundNext, FoundTaken, InsertedThenFound, ReadLogIns, RemovesApart, TookDue, TookValue};
 ghost use Rattle.nm_set.specs.Managed.{of_insert};
-ghost use Rattle.nm_shared.specs.Sharing.{IsCallerOf, SaysShared, SaysSharedNext, SaysSharedPop};
+ghost use Rattle.nm_shared.specs.Sharing.{IsCallerOf, SaysShared, SaysSharedNext, SaysSharedPop, Visited};
 
 use nm_edge::Key;
-use nm_set::{CallFault, Options, Query};
+use nm_set::{CallFault, InsertFault, Keys, Member, Options, Query};
 use nm_shared::{Caller, MapCaller, SharedMap, SharedSet};
 use std::thread::{Threads, join};
 
@@ -32,6 +32,46 @@ pub fn insert_then_find_shared(
         return (caller, None);
     };
     (caller, Some((inserted, found)))
+}
+
+/// Inserts a key and looks it up by one worker, which the caller keeps for both calls. `None`: a call
+/// had no answer. Proved: both calls are one visit of the caller, and were made one after the other.
+pub fn insert_then_find_attached(
+    set: &SharedSet,
+    caller: Caller,
+    key: Key,
+    options: &Options,
+) -> (Caller, Option<(bool, bool)>)
+    requires own { IsCallerOf set.now caller }
+    ensures own { IsCallerOf set.now result.0 }
+    ensures visited { IfSome result.1 (λ x. Visited (InsertedThenFound set.now.set.tree options.now key
+        (Ok x.0) (Ok x.1)) set.now caller result.0) }
+{
+    let mut attached = match set.attach(caller) {
+        Ok(attached) => attached,
+        Err(caller) => return (caller, None),
+    };
+    let (inserted, found) = insert_then_find_by(&mut attached.member, key, options);
+    let caller = set.detach(attached);
+    match (inserted, found) {
+        (Ok(inserted), Ok(found)) => (caller, Some((inserted, found))),
+        _ => (caller, None),
+    }
+}
+
+/// Inserts a key, and then looks it up, by this worker.
+fn insert_then_find_by(
+    member: &mut Member<Keys>,
+    key: Key,
+    options: &Options,
+) -> (Result<bool, InsertFault>, Result<bool, CallFault>)
+    ensures tree { member.new.tree ≡ member.old.tree }
+    ensures says { InsertedThenFound member.old.tree options.now key (of_insert result.0) result.1
+        member.old.worker member.new.worker }
+{
+    let inserted = member.insert(key, options);
+    let found = member.contains(key, options);
+    (inserted, found)
 }
 
 /// Looks a key up. `None`: the call had no answer.

@@ -46,6 +46,7 @@ pub use alone::next_alone;
 pub use alone::pop_alone;
 pub use alone::pop_first_alone;
 pub use alone::remove_beside_pending;
+pub use any_thread::insert_then_find_attached;
 pub use any_thread::insert_then_find_shared;
 pub use any_thread::next_shared;
 pub use any_thread::read_log_ins_shared;

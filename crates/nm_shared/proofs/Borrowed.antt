@@ -41,11 +41,11 @@ pub record Keeps (w z : WorkerView) : Type 0 where
   past : HasSeenAllOf z.pass w.pass
   free : w.held ≡ None → z.held ≡ None
 
-kept_itself : (w z : WorkerView) → z ≡ w → Keeps w z
+pub kept_itself : (w z : WorkerView) → z ≡ w → Keeps w z
 kept_itself w z same = subst (λ (y : WorkerView). Keeps w y) (sym same)
     (record { same = refl; past = seen_itself w.pass; free = λ is. is })
 
-keeps_on : (w y z : WorkerView) → Keeps w y → Keeps y z → Keeps w z
+pub keeps_on : (w y z : WorkerView) → Keeps w y → Keeps y z → Keeps w z
 keeps_on w y z one two = record {
   same = same_then w.pass y.pass z.pass one.same two.same;
   past = seen_through w.pass y.pass z.pass one.past two.past;

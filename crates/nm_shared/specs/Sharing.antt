@@ -93,6 +93,11 @@ pub record IsBorrowed (s : SharedView) (c : CallerView) (m : MemberView)
   pub tree : m.tree ≡ was.tree
   pub heard : HasHeardNote was.worker c.note m.worker
 
+-- what clauses see of a worker that its caller keeps: the member, and the loan
+pub record AttachedView : Type 0 where
+  pub member : MemberView
+  pub loan : LoanView MemberView SetView
+
 -- the member may be given back
 pub record MayComeBack (s : SharedView) (l : LoanView MemberView SetView) (n : MemberView) : Type 0 where
   pub table : l.table ≡ s.table

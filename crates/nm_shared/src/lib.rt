@@ -5,6 +5,7 @@
 //! and two calls by one caller are in their order, also by different workers.
 #![tactic(auto)]
 
+mod attaching;
 mod laws;
 mod looking;
 mod mapping;
@@ -12,6 +13,7 @@ mod popping;
 mod regrowing;
 mod shared_set;
 
+pub use attaching::Attached;
 pub use laws::{calls_of_one_caller_are_in_order, shown_calls_are_apart};
 pub use regrowing::{RegrowError, Regrown, regrow};
 pub use shared_set::{Caller, MapCaller, SharedMap, SharedSet};

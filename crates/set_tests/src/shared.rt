@@ -96,6 +96,38 @@ fn a_caller_of_a_map_gets_several_values(rt: HostRuntime) -> Result<(), Fail> {
     Ok(())
 }
 
+/// Gives a worker back that has made no call since it was attached.
+fn attach_and_detach(set: &SharedSet, caller: Caller) -> (Caller, bool)
+    requires own { IsCallerOf set.now caller }
+    ensures own { IsCallerOf set.now result.0 }
+{
+    match set.attach(caller) {
+        Ok(attached) => (set.detach(attached), true),
+        Err(caller) => (caller, false),
+    }
+}
+
+/// A worker that is attached makes several calls, and no other call is made by it. After it was
+/// detached, other calls are.
+#[test]
+fn an_attached_worker_is_not_lent(rt: HostRuntime) -> Result<(), Fail> {
+    let set = SharedSet::<Keys>::new(rt.alloc(), 64, 1)?;
+    let options = Options::default();
+    let (caller, is_attached) = attach_and_detach(&set, set.caller());
+    assert!(rt; is_attached);
+    let (caller, told) = set.insert(caller, key(&rt, 5), &options);
+    assert_eq!(rt; told, Some(Ok(true)));
+    let Ok(mut attached) = set.attach(caller) else {
+        panic!(rt; "the worker is not lent")
+    };
+    assert!(rt; attached.member.pin(64).is_ok());
+    let (_, told) = set.contains(set.caller(), key(&rt, 5), &options);
+    assert_eq!(rt; told, None);
+    assert!(rt; attached.member.unpin().is_ok());
+    assert_eq!(rt; attached.member.contains(key(&rt, 5), &options), Ok(true));
+    Ok(())
+}
+
 /// Inserts a key; returns whether it was absent.
 fn inserts(set: &SharedSet, caller: Caller, key: Key) -> bool
     requires own { IsCallerOf set.now caller }
