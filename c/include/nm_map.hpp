@@ -162,6 +162,7 @@ public:
 
     ~MapPlace() {
         if (is_forked()) return;
+        nm_map_drop_returned(counts_);
         (void)nm_map_drain(&handle_, release, this, longest_ms);
         (void)nm_drop(&handle_);
         nm_map_counts_free(counts_);
@@ -476,10 +477,14 @@ public:
     void close() noexcept {
         if (!is_open()) return;
         (void)ask(nm_map_unpin);
-        (void)counted([&](nm_handle *it, Counted *released) {
-            return nm_map_take_back(it, Counted::release, released, nullptr);
-        });
-        (void)ask(nm_drop);
+        std::uint64_t waiting = 0;
+        (void)ask([&](nm_handle *it) { return nm_map_queue_len(it, &waiting); });
+        if (waiting != 0)
+            (void)counted([&](nm_handle *it, Counted *released) {
+                return nm_map_take_back(it, Counted::release, released, nullptr);
+            });
+        (void)ask([&](nm_handle *it) { return nm_map_return(place_->counts(), it); });
+        (void)ask(nm_drop);  // if it was not returned
         place_.reset();
     }
 
@@ -946,14 +951,16 @@ public:
     // Takes the map in place of its own, which ends.
     Map &operator=(Map &&from) noexcept = default;
 
-    // Attaches a worker to this thread, the least number first. While each worker is attached, or
-    // another thread attaches one, it waits, for `most` at most, and then throws NM_NO_WORKER. If
-    // no time is given, it waits for `timeout_ms` of the options. It also throws NM_NO_MEMORY.
+    // Attaches a worker to this thread: one that was returned, or else the least number. While each
+    // worker is attached, or another thread attaches one, it waits, for `most` at most, and then throws
+    // NM_NO_WORKER. If no time is given, it waits for `timeout_ms` of the options. It also throws
+    // NM_NO_MEMORY. A worker that was returned costs an exchange: so if threads are many, each may take
+    // a worker for one call: `map.attach().insert(5u, "five")`.
     [[nodiscard]] Worker attach(std::chrono::milliseconds most) {
         check_open();
         Worker taken;
-        nm_outcome outcome =
-            nm_map_wait_attach(place_->handle(), &taken.handle_, detail::millis(most));
+        nm_outcome outcome = nm_map_lend(place_->handle(), place_->counts(), &taken.handle_,
+                                         detail::millis(most));
         if (outcome == NM_NO_WORKER)
             detail::fail(outcome, [&] {
                 return "each of the " + std::to_string(workers()) +
