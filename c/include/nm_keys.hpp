@@ -7,14 +7,14 @@
 //     nm::MapOf<nm::ShortString<8>, double> prices(4096);    // a map
 //     prices.attach().insert("tea", 2.5);
 //
-// `nm::Set` is the set of std::uint64_t. A name of C++ is either a class or a template, so this one
-// is `nm::SetOf`. `nm::KeyOf<T>` maps the values of a type to keys and back, and keeps their order.
-// It is there for integers, float, double, enums, std::chrono durations and time points, `nm::Bits`,
-// `nm::ShortString`, and for std::pair, std::tuple and std::array of these that have 64 bits together
-// at most. A specialization of `nm::KeyOf` adds a type. Three keys are no keys, 2^64 - 3 and above:
-// so of a type with 64 bits the three greatest values cannot be inserted, such as INT64_MAX - 2:
-// NM_KEY, with the value in the text. No float or double is refused but NaN, which has no place in
-// the order. -0.0 and 0.0 are one key, which comes back as 0.0.
+// `nm::Set` is the set of std::uint64_t. A name of C++ is either a class or a template, so this
+// one is `nm::SetOf`. `nm::KeyOf<T>` maps the values of a type to keys and back, and keeps their
+// order. It is there for integers, float, double, enums, std::chrono durations and time points,
+// `nm::Bits`, `nm::ShortString`, and for std::pair, std::tuple and std::array of these that have
+// 64 bits together at most. A specialization of `nm::KeyOf` adds a type. Three keys are no keys,
+// 2^64 - 3 and above: so of a type with 64 bits the three greatest values cannot be inserted,
+// such as INT64_MAX - 2: NM_KEY, with the value in the text. No float or double is refused but
+// NaN, which has no place in the order. -0.0 and 0.0 are one key, which comes back as 0.0.
 //
 // The mappings are tested by `c/check`, and not proved. At compile time each mapping is checked for
 // some values: they ascend as their keys do, and each comes back.
@@ -151,11 +151,11 @@ public:
 private:
     [[noreturn]] static void refuse(std::string_view bytes) {
         detail::fail(NM_KEY, [=] {
-            return "the string " + detail::quoted(bytes) + " is no key: " +
-                   (bytes.size() > most_ ? "it has " + std::to_string(bytes.size()) +
-                                               " bytes, and the type has room for " +
-                                               std::to_string(most_)
-                                         : std::string("its last byte is zero, which would be lost"));
+            std::string why = "its last byte is zero, which would be lost";
+            if (bytes.size() > most_)
+                why = "it has " + std::to_string(bytes.size()) +
+                      " bytes, and the type has room for " + std::to_string(most_);
+            return "the string " + detail::quoted(bytes) + " is no key: " + why;
         });
     }
 
@@ -680,8 +680,8 @@ public:
     }
 
     // Reads the entries of the least keys that are not below `from`, at most `room`: see
-    // nm::Set::scan. `next` is a key that there was, so that it is one of the type: a scan reads one
-    // key more than `room`.
+    // nm::Set::scan. `next` is a key that there was, so that it is one of the type: a scan reads
+    // one key more than `room`.
     [[nodiscard]] Scanned<value_type, T> scan(const T &from, std::size_t room) const {
         Scanned<value_type, T> read{{}, std::nullopt};
         auto found = of_.scan(detail::bound_of(from), room + (room < SIZE_MAX ? 1 : 0)).entries;

@@ -14,15 +14,15 @@ use std::marker::PhantomData;
 use std::ops::{Bound, RangeBounds};
 use std::time::Duration;
 
-/// A type whose values a [`SetOf`] or a [`MapOf`](crate::MapOf) has as keys: it maps them to keys and
-/// back, and keeps their order.
+/// A type whose values a [`SetOf`] or a [`MapOf`](crate::MapOf) has as keys: it maps them to keys
+/// and back, and keeps their order.
 ///
 /// It is implemented for the integers of at most 64 bits, `char`, `f32`, `f64`, strings of bytes
-/// (`[u8; N]` of 1 to 8 bytes, all of which count, also zero bytes at the end), and for tuples of two to
-/// four of these that have 64 bits together at most. 2^64 - 3 and greater numbers are no keys
-/// ([`MOST_KEY`]): so of a type with 64 bits the three greatest values return [`Fault::Value`], with
-/// the value in its text. NaN returns [`Fault::Unordered`]. -0.0 and 0.0 are one key, which comes back
-/// as 0.0.
+/// (`[u8; N]` of 1 to 8 bytes, all of which count, also zero bytes at the end), and for tuples of
+/// two to four of these that have 64 bits together at most. 2^64 - 3 and greater numbers are no
+/// keys ([`MOST_KEY`]): so of a type with 64 bits the three greatest values return
+/// [`Fault::Value`], with the value in its text. NaN returns [`Fault::Unordered`]. -0.0 and 0.0
+/// are one key, which comes back as 0.0.
 ///
 /// A type of the program's own, here the time of a task and its number:
 ///
@@ -77,8 +77,8 @@ pub trait Key: Copy + PartialOrd {
         true
     }
 
-    /// Writes the value for the text of [`Fault::Value`]. If a type does not say how, this writes the
-    /// number of its key.
+    /// Writes the value for the text of [`Fault::Value`]. If a type does not say how, this writes
+    /// the number of its key.
     fn write_to(self, to: &mut dyn fmt::Write) -> fmt::Result {
         write!(to, "with the key {}", self.to_key())
     }
@@ -273,8 +273,8 @@ impl<K: Key, V> Entry<K> for (u64, V) {
     }
 }
 
-/// Returns the key of a bound, which may be no key, or `Unordered` if it has no place in the order. A
-/// mapping whose bits do not fit does not compile.
+/// Returns the key of a bound, which may be no key, or `Unordered` if it has no place in the
+/// order. A mapping whose bits do not fit does not compile.
 pub(crate) fn bound_of<K: Key>(value: K) -> Result<u64, Fault> {
     let _ = K::BITS;
     if !value.is_ordered() {
@@ -292,8 +292,8 @@ pub(crate) fn key_of<K: Key>(value: K) -> Result<u64, Fault> {
     Ok(key)
 }
 
-/// Returns what a scan from a value on returns: it reads one key more than `room`, so that `next` is
-/// a value that there was.
+/// Returns what a scan from a value on returns: it reads one key more than `room`, so that `next`
+/// is a value that there was.
 pub(crate) fn scan_of<K: Key, E: Entry<K>>(
     from: K,
     room: usize,
@@ -565,7 +565,8 @@ impl<K: Key> SetOf<K> {
     ///
     /// # Panics
     ///
-    /// It panics if the start of the range is after its end, or if a bound is NaN: see [`Set::range`].
+    /// It panics if the start of the range is after its end, or if a bound is NaN: see
+    /// [`Set::range`].
     #[track_caller]
     pub fn count(&self, bounds: impl RangeBounds<K>) -> Result<u64, Fault> {
         self.set.count(bounds_of(bounds))
@@ -575,7 +576,8 @@ impl<K: Key> SetOf<K> {
     ///
     /// # Panics
     ///
-    /// It panics if the start of the range is after its end, or if a bound is NaN: see [`Set::range`].
+    /// It panics if the start of the range is after its end, or if a bound is NaN: see
+    /// [`Set::range`].
     #[track_caller]
     pub fn range(&self, bounds: impl RangeBounds<K>) -> Values<K, Range<&Set>> {
         Values::of(self.set.range(bounds_of(bounds)))

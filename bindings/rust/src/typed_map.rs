@@ -13,9 +13,9 @@ use std::marker::PhantomData;
 use std::ops::RangeBounds;
 use std::time::Duration;
 
-/// A [`Map`] whose keys are values of a type: see [`Key`]. Each call makes the call of the same name
-/// of the map, its worker or its guard, with its waits and faults. Besides, a value that is no key
-/// returns [`Fault::Value`], and NaN [`Fault::Unordered`].
+/// A [`Map`] whose keys are values of a type: see [`Key`]. Each call makes the call of the same
+/// name of the map, its worker or its guard, with its waits and faults. Besides, a value that is
+/// no key returns [`Fault::Value`], and NaN [`Fault::Unordered`].
 ///
 /// ```
 /// # fn main() -> Result<(), Box<dyn std::error::Error>> {
@@ -481,8 +481,8 @@ impl<K: fmt::Debug> fmt::Debug for Keys<K> {
 }
 
 impl<K: Key + fmt::Debug, V> fmt::Debug for MapOf<K, V> {
-    /// Writes the first ten keys, and two dots if there are more. It shows no value, because a value
-    /// may lack `Debug`. It never waits for a worker: if each is attached, it writes that.
+    /// Writes the first ten keys, and two dots if there are more. It shows no value, because a
+    /// value may lack `Debug`. It never waits for a worker: if each is attached, it writes that.
     fn fmt(&self, f: &mut fmt::Formatter<'_>) -> fmt::Result {
         let worker = self.attach_timeout(Duration::ZERO);
         let keys = worker.and_then(|mut worker| worker.iter().take(SHOWN + 1).collect());
