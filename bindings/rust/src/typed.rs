@@ -364,12 +364,12 @@ pub(crate) fn panic_by(fault: Fault) -> ! {
 /// let set = nm_set::SetOf::<(u64, u8)>::new().unwrap();
 /// set.insert((1, 2)).unwrap();
 /// ```
-pub struct SetOf<K> {
+pub struct SetOf<K: Key> {
     set: Set,
     of: PhantomData<fn(K) -> K>,
 }
 
-impl<K> Clone for SetOf<K> {
+impl<K: Key> Clone for SetOf<K> {
     fn clone(&self) -> SetOf<K> {
         SetOf {
             set: self.set.clone(),
@@ -378,7 +378,7 @@ impl<K> Clone for SetOf<K> {
     }
 }
 
-impl<K> From<Set> for SetOf<K> {
+impl<K: Key> From<Set> for SetOf<K> {
     /// Returns the set of values of a set of keys.
     fn from(set: Set) -> SetOf<K> {
         SetOf {
@@ -689,12 +689,12 @@ impl<K: Key + fmt::Debug> fmt::Debug for SetOf<K> {
 }
 
 /// A [`Worker`] of a [`SetOf`].
-pub struct WorkerOf<K> {
+pub struct WorkerOf<K: Key> {
     worker: Worker,
     of: PhantomData<fn(K) -> K>,
 }
 
-impl<K> From<Worker> for WorkerOf<K> {
+impl<K: Key> From<Worker> for WorkerOf<K> {
     /// Returns the worker for values of a worker for keys.
     fn from(worker: Worker) -> WorkerOf<K> {
         WorkerOf {
@@ -741,7 +741,7 @@ impl<K: Key> WorkerOf<K> {
     }
 }
 
-impl<K> fmt::Debug for WorkerOf<K> {
+impl<K: Key> fmt::Debug for WorkerOf<K> {
     fn fmt(&self, f: &mut fmt::Formatter<'_>) -> fmt::Result {
         write!(f, "WorkerOf({:?})", self.worker)
     }

@@ -31,26 +31,26 @@ use std::time::Duration;
 /// # Ok(())
 /// # }
 /// ```
-pub struct MapOf<K, V> {
+pub struct MapOf<K: Key, V> {
     map: Map<V>,
     of: PhantomData<fn(K) -> K>,
 }
 
 /// A [`MapWorker`] of a [`MapOf`].
-pub struct MapWorkerOf<'a, K, V> {
+pub struct MapWorkerOf<'a, K: Key, V> {
     worker: MapWorker<'a, V>,
     of: PhantomData<fn(K) -> K>,
 }
 
 /// A [`Guard`] of a [`MapOf`].
 #[must_use = "the pin ends when its guard is dropped"]
-pub struct GuardOf<'w, 'a, K, V> {
+pub struct GuardOf<'w, 'a, K: Key, V> {
     guard: Guard<'w, 'a, V>,
     of: PhantomData<fn(K) -> K>,
 }
 
 /// A [`GuardedWorker`] of a [`MapOf`].
-pub struct GuardedWorkerOf<'w, 'a, 'g, K, V> {
+pub struct GuardedWorkerOf<'w, 'a, 'g, K: Key, V> {
     worker: GuardedWorker<'w, 'a, 'g, V>,
     of: PhantomData<fn(K) -> K>,
 }
@@ -410,7 +410,7 @@ impl<'w, 'a, 'g, K: Key, V> GuardedWorkerOf<'w, 'a, 'g, K, V> {
     }
 }
 
-impl<K, V> From<Map<V>> for MapOf<K, V> {
+impl<K: Key, V> From<Map<V>> for MapOf<K, V> {
     /// Returns the map with values as keys of a map of keys.
     fn from(map: Map<V>) -> MapOf<K, V> {
         let of = PhantomData;
@@ -418,7 +418,7 @@ impl<K, V> From<Map<V>> for MapOf<K, V> {
     }
 }
 
-impl<'a, K, V> From<MapWorker<'a, V>> for MapWorkerOf<'a, K, V> {
+impl<'a, K: Key, V> From<MapWorker<'a, V>> for MapWorkerOf<'a, K, V> {
     /// Returns the worker with values as keys of a worker of keys.
     fn from(worker: MapWorker<'a, V>) -> MapWorkerOf<'a, K, V> {
         let of = PhantomData;
@@ -493,19 +493,19 @@ impl<K: Key + fmt::Debug, V> fmt::Debug for MapOf<K, V> {
     }
 }
 
-impl<K, V> fmt::Debug for MapWorkerOf<'_, K, V> {
+impl<K: Key, V> fmt::Debug for MapWorkerOf<'_, K, V> {
     fn fmt(&self, f: &mut fmt::Formatter<'_>) -> fmt::Result {
         write!(f, "MapWorkerOf({:?})", self.worker)
     }
 }
 
-impl<K, V> fmt::Debug for GuardOf<'_, '_, K, V> {
+impl<K: Key, V> fmt::Debug for GuardOf<'_, '_, K, V> {
     fn fmt(&self, f: &mut fmt::Formatter<'_>) -> fmt::Result {
         write!(f, "GuardOf({:?})", self.guard)
     }
 }
 
-impl<K, V> fmt::Debug for GuardedWorkerOf<'_, '_, '_, K, V> {
+impl<K: Key, V> fmt::Debug for GuardedWorkerOf<'_, '_, '_, K, V> {
     fn fmt(&self, f: &mut fmt::Formatter<'_>) -> fmt::Result {
         write!(f, "GuardedWorkerOf({:?})", self.worker)
     }

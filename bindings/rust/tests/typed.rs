@@ -218,7 +218,8 @@ fn a_range_from_nan_panics() {
 #[test]
 #[should_panic(expected = "the start of the range is after its end")]
 fn a_range_whose_start_is_after_its_end_panics() {
-    let _ = SetOf::from([-5, 7]).range(7..=-5);
+    let (start, end) = (7, -5);
+    let _ = SetOf::from([end, start]).range(start..=end);
 }
 
 #[test]

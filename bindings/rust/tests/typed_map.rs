@@ -205,8 +205,9 @@ fn keys_that_are_none_are_refused_with_their_values() {
 #[test]
 #[should_panic(expected = "the start of the range is after its end")]
 fn a_range_whose_start_is_after_its_end_panics() {
-    let map = MapOf::from([(-5, 'a')]);
-    let _ = map.attach().unwrap().keys(5..-5);
+    let (start, end) = (5, -5);
+    let map = MapOf::from([(end, 'a')]);
+    let _ = map.attach().unwrap().keys(start..end);
 }
 
 #[test]
