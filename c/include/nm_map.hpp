@@ -60,10 +60,11 @@ struct Reclaimed {
     std::optional<std::uint32_t> behind;  // a worker for which others wait, or nothing
 };
 
-// A key of a map with its value: a copy of a value in place, or a pointer to an object.
-template <typename Value>
+// A key of a map with its value: a copy of a value in place, or a pointer to an object. The type of
+// the key is another one in nm_keys.hpp.
+template <typename Value, typename K = std::uint64_t>
 struct MapEntry {
-    std::uint64_t key;  // the key
+    K key;  // the key
     Value value;  // its value, or a pointer to its object
 };
 
@@ -208,13 +209,31 @@ inline bool answered_by_map(nm_outcome outcome, std::uint64_t key = 0) {
     return outcome != NM_NO;
 }
 
-[[noreturn]] inline void fail_unfinished(std::uint64_t key) {
-    fail(NM_UNFINISHED, [=] {
-        return "the key " + std::to_string(key) +
-               " will be removed by this call and no other, but its value is not known, because "
-               "other threads interfered with each try of each round: the key is found until the "
-               "next call by this worker";
-    });
+// The fault of a pop that returns values and is unfinished, with its key.
+class UnfinishedPop : public Fault {
+public:
+    UnfinishedPop(std::uint64_t key, const std::string &shown)
+        : Fault(NM_UNFINISHED,
+                "the key " + shown +
+                    " will be removed by this call and no other, but its value is not known, "
+                    "because other threads interfered with each try of each round: the key is found "
+                    "until the next call by this worker"),
+          key_(key) {}
+
+    [[nodiscard]] std::uint64_t key() const noexcept { return key_; }
+
+private:
+    std::uint64_t key_;
+};
+
+// Throws the fault of an unfinished pop, with its key as the function writes it.
+template <typename Shown>
+[[noreturn]] void fail_unfinished(std::uint64_t key, Shown shown) {
+    try {
+        throw UnfinishedPop(key, shown(key));
+    } catch (const std::bad_alloc &) {
+        throw Fault(NM_UNFINISHED, words(NM_UNFINISHED));
+    }
 }
 
 }  // namespace detail
@@ -223,6 +242,8 @@ template <typename T>
 class MapWorker;
 template <typename T>
 class GuardedWorker;
+template <typename K, typename V>
+class MapWorkerOf;
 
 // A pin of a worker, until its end. What `get` returns exists until then: no other thread's remove
 // frees it. Meanwhile the worker makes no other call (NM_PINNED), and the map frees no object whose
@@ -430,7 +451,8 @@ private:
             return call(it, bound, options, &taken.key, &taken.value);
         });
         if (outcome != NM_UNFINISHED) return entry_if(detail::answered_by_map(outcome), taken);
-        if constexpr (has_values) detail::fail_unfinished(taken.key);
+        if constexpr (has_values)
+            detail::fail_unfinished(taken.key, [](std::uint64_t key) { return std::to_string(key); });
         return entry_of(taken);
     }
 };
@@ -544,13 +566,7 @@ public:
     // (`std::make_move_iterator`). If it throws a fault, the pairs before that one are inserted.
     template <typename Input, typename = typename std::iterator_traits<Input>::iterator_category>
     std::uint64_t insert(Input first, Input last) {
-        std::uint64_t inserted = 0;
-        for (; first != last; ++first) {
-            auto &&pair = *first;
-            inserted += insert_value(Key(std::get<0>(pair)),
-                                     std::get<1>(std::forward<decltype(pair)>(pair)));
-        }
-        return inserted;
+        return insert_each(first, last, [](const auto &key) { return Key(key); });
     }
 
     // Removes a key; returns whether it was present. Its object is freed later, when no guard can
@@ -686,6 +702,8 @@ private:
     friend class Map;
     template <typename, typename>
     friend class MapCalls;
+    template <typename, typename>
+    friend class MapWorkerOf;
     friend class MapGuard<T>;
     friend class GuardedWorker<T>;
 
@@ -782,6 +800,18 @@ private:
         if (outcome == NM_FULL) fail_full();
         bool inserted = detail::answered_by_map(outcome, key);
         nm_map_count_insert(place_->counts(), number_, outcome);
+        return inserted;
+    }
+
+    // Inserts pairs, whose keys a function returns.
+    template <typename Input, typename Keyed>
+    std::uint64_t insert_each(Input first, Input last, Keyed key_of) {
+        std::uint64_t inserted = 0;
+        for (; first != last; ++first) {
+            auto &&pair = *first;
+            inserted += insert_value(key_of(std::get<0>(pair)),
+                                     std::get<1>(std::forward<decltype(pair)>(pair)));
+        }
         return inserted;
     }
 

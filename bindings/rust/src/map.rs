@@ -278,6 +278,22 @@ pub(crate) fn managed(outcome: Outcome) -> Result<bool, Fault> {
     }
 }
 
+/// Inserts entries by a call for one; returns how many keys were absent.
+pub(crate) fn extend_by<K, V>(
+    entries: impl IntoIterator<Item = (K, V)>,
+    mut insert: impl FnMut(K, V) -> Result<(), InsertError<V>>,
+) -> Result<usize, InsertError<V>> {
+    let mut added = 0;
+    for (key, value) in entries {
+        match insert(key, value) {
+            Ok(()) => added += 1,
+            Err(InsertError::Present(_)) => {}
+            Err(error) => return Err(error),
+        }
+    }
+    Ok(added)
+}
+
 impl<'a, V> MapWorker<'a, V> {
     /// Inserts a key with a value. If the map has the key, it keeps its value, and the error has
     /// the new one.
@@ -318,15 +334,7 @@ impl<'a, V> MapWorker<'a, V> {
         &mut self,
         entries: impl IntoIterator<Item = (u64, V)>,
     ) -> Result<usize, InsertError<V>> {
-        let mut added = 0;
-        for (key, value) in entries {
-            match self.insert(key, value) {
-                Ok(()) => added += 1,
-                Err(InsertError::Present(_)) => {}
-                Err(error) => return Err(error),
-            }
-        }
-        Ok(added)
+        extend_by(entries, |key, value| self.insert(key, value))
     }
 
     /// Removes a key; returns true if it was present. Its value is dropped later, when no guard is
