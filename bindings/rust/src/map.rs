@@ -203,9 +203,10 @@ impl<V> Map<V> {
         }
     }
 
-    /// Attaches a worker to this thread, the least number first. While each worker is attached, or
-    /// another thread attaches one, it waits, for the [`timeout_ms`](Options::timeout_ms) of the
-    /// options at most.
+    /// Attaches a worker to this thread: one that was dropped, or else the least number. While each
+    /// worker is attached, or another thread attaches one, it waits, for the
+    /// [`timeout_ms`](Options::timeout_ms) of the options at most. A worker that was dropped costs an
+    /// exchange: so if threads are many, each may take a worker for one call.
     ///
     /// Errors: `NoWorker`, `NoMemory`.
     pub fn attach(&self) -> Result<MapWorker<'_, V>, Fault> {
