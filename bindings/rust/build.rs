@@ -188,7 +188,23 @@ fn library() -> Result<PathBuf, Box<dyn Error>> {
     Ok(out)
 }
 
+/// Returns whether the compiler takes `diagnostic::on_unimplemented`, which 1.78 and later do.
+fn says_what_to_do() -> bool {
+    let compiler = env::var_os("RUSTC").unwrap_or("rustc".into());
+    let told = Command::new(compiler).arg("--version").output();
+    let text = told.map_or(String::new(), |it| {
+        String::from_utf8_lossy(&it.stdout).into_owned()
+    });
+    let number = text.split_whitespace().nth(1).unwrap_or_default();
+    let mut parts = number.split('.').map(|part| part.parse().unwrap_or(0));
+    (parts.next(), parts.next()) >= (Some(1), Some(78))
+}
+
 fn main() {
+    println!("cargo:rustc-check-cfg=cfg(says_what_to_do)");
+    if says_what_to_do() {
+        println!("cargo:rustc-cfg=says_what_to_do");
+    }
     println!("cargo:rerun-if-env-changed=NM_SET_LIB_DIR");
     println!("cargo:rerun-if-changed=build.rs");
     match library() {

@@ -36,7 +36,8 @@
 extern "C" {
 #endif
 
-/* How many keys each worker of a map has inserted and not removed: see nm_map_counts_new. */
+/* How many keys each worker of a map has inserted and not removed, and the workers that were returned:
+ * see nm_map_counts_new and nm_map_return. */
 typedef struct nm_map_counts nm_map_counts;
 
 /* Takes a value that was reclaimed. */
@@ -54,6 +55,21 @@ uint32_t nm_map_collect_after(uint32_t nodes, uint32_t workers);
  * worker was attached, or other threads had the handle. NM_CLOSED, NM_KIND, NM_OPEN, NM_CLOSING,
  * NM_NO_MEMORY. */
 nm_outcome nm_map_wait_attach(nm_handle *map, nm_handle *worker, uint32_t timeout_ms);
+
+/* Lends a worker for some calls, to a thread that keeps none: one that was returned, or else one
+ * that it attaches like nm_map_wait_attach, with the same errors. A worker that was returned costs an
+ * exchange. */
+nm_outcome nm_map_lend(nm_handle *map, nm_map_counts *counts, nm_handle *worker,
+                       uint32_t timeout_ms);
+
+/* Returns a worker that is not pinned, in place of nm_drop: then the handle is closed, and
+ * nm_map_lend lends the worker again. It stays attached. What waits with it is reclaimed by its
+ * next user, and by each nm_map_put that finds the map full. Returns NM_DONE. Errors, after which the
+ * handle owns the worker as before: NM_CLOSED, NM_KIND, NM_IN_USE. */
+nm_outcome nm_map_return(nm_map_counts *counts, nm_handle *worker);
+
+/* Drops each worker that was returned, such as before nm_map_drain. */
+void nm_map_drop_returned(nm_map_counts *counts);
 
 /* Pins the worker like nm_map_pin, but finishes a remove that is pending first, and repeats a pin
  * that lost each of its tries, at most `rounds` times. Returns NM_DONE and writes the epoch.
@@ -78,8 +94,8 @@ nm_outcome nm_map_tend(nm_handle *worker, const nm_options *options, nm_map_rele
  * again once, and does not sleep.
  *
  * Nodes that wait with another worker are freed by that worker alone. So if `map` is not NULL, the
- * first repetition also reclaims what waits with each worker that is not attached. For this it
- * attaches these workers, one after the other.
+ * first repetition also reclaims what waits with each worker that is not attached, and with each
+ * that was returned to `counts`. For this it attaches the former, one after the other.
  *
  * Returns NM_YES, or NM_NO if the map has the key, which keeps its value. Errors: NM_FULL: no nodes
  * became free in that time; or, at once, the keys take all nodes and none waits. It knows the
@@ -87,7 +103,7 @@ nm_outcome nm_map_tend(nm_handle *worker, const nm_options *options, nm_map_rele
  * waits in that case too. The others are those of nm_map_insert. After NM_NO and an error the map
  * does not have the value. */
 nm_outcome nm_map_put(nm_handle *map, nm_handle *worker, uint64_t key, uint64_t value,
-                      const nm_options *options, const nm_map_counts *counts,
+                      const nm_options *options, nm_map_counts *counts,
                       nm_map_release release, void *context, uint32_t timeout_ms);
 
 /* ---- calls that read, and are repeated ----

@@ -29,8 +29,8 @@
 // the end of a guard before the object is freed.
 //
 // The core, which is the functions of nm_set.h, is proved. What this header and nm_map.h add to it
-// is tested by c/tests/map_objects.cpp, c/tests/map_order.cpp, c/tests/map_soak.cpp and
-// c/tests/refused_map.cpp, and not proved. In a forked child each call throws NM_FORKED, and the ends
+// is tested by c/tests/map_objects.cpp, c/tests/map_order.cpp, c/tests/map_soak.cpp,
+// c/tests/map_threads.cpp and c/tests/refused_map.cpp, and not proved. In a forked child each call throws NM_FORKED, and the ends
 // of a map, a worker and a guard do nothing: so no object of the parent is freed there.
 #ifndef NM_MAP_HPP
 #define NM_MAP_HPP
@@ -60,10 +60,11 @@ struct Reclaimed {
     std::optional<std::uint32_t> behind;  // a worker for which others wait, or nothing
 };
 
-// A key of a map with its value: a copy of a value in place, or a pointer to an object.
-template <typename Value>
+// A key of a map with its value: a copy of a value in place, or a pointer to an object. The type of
+// the key is another one in nm_keys.hpp.
+template <typename Value, typename K = std::uint64_t>
 struct MapEntry {
-    std::uint64_t key;  // the key
+    K key;  // the key
     Value value;  // its value, or a pointer to its object
 };
 
@@ -162,6 +163,7 @@ public:
 
     ~MapPlace() {
         if (is_forked()) return;
+        nm_map_drop_returned(counts_);
         (void)nm_map_drain(&handle_, release, this, longest_ms);
         (void)nm_drop(&handle_);
         nm_map_counts_free(counts_);
@@ -207,13 +209,31 @@ inline bool answered_by_map(nm_outcome outcome, std::uint64_t key = 0) {
     return outcome != NM_NO;
 }
 
-[[noreturn]] inline void fail_unfinished(std::uint64_t key) {
-    fail(NM_UNFINISHED, [=] {
-        return "the key " + std::to_string(key) +
-               " will be removed by this call and no other, but its value is not known, because "
-               "other threads interfered with each try of each round: the key is found until the "
-               "next call by this worker";
-    });
+// The fault of a pop that returns values and is unfinished, with its key.
+class UnfinishedPop : public Fault {
+public:
+    UnfinishedPop(std::uint64_t key, const std::string &shown)
+        : Fault(NM_UNFINISHED,
+                "the key " + shown +
+                    " will be removed by this call and no other, but its value is not known, "
+                    "because other threads interfered with each try of each round: the key is found "
+                    "until the next call by this worker"),
+          key_(key) {}
+
+    [[nodiscard]] std::uint64_t key() const noexcept { return key_; }
+
+private:
+    std::uint64_t key_;
+};
+
+// Throws the fault of an unfinished pop, with its key as the function writes it.
+template <typename Shown>
+[[noreturn]] void fail_unfinished(std::uint64_t key, Shown shown) {
+    try {
+        throw UnfinishedPop(key, shown(key));
+    } catch (const std::bad_alloc &) {
+        throw Fault(NM_UNFINISHED, words(NM_UNFINISHED));
+    }
 }
 
 }  // namespace detail
@@ -222,6 +242,8 @@ template <typename T>
 class MapWorker;
 template <typename T>
 class GuardedWorker;
+template <typename K, typename V>
+class MapWorkerOf;
 
 // A pin of a worker, until its end. What `get` returns exists until then: no other thread's remove
 // frees it. Meanwhile the worker makes no other call (NM_PINNED), and the map frees no object whose
@@ -429,7 +451,8 @@ private:
             return call(it, bound, options, &taken.key, &taken.value);
         });
         if (outcome != NM_UNFINISHED) return entry_if(detail::answered_by_map(outcome), taken);
-        if constexpr (has_values) detail::fail_unfinished(taken.key);
+        if constexpr (has_values)
+            detail::fail_unfinished(taken.key, [](std::uint64_t key) { return std::to_string(key); });
         return entry_of(taken);
     }
 };
@@ -476,10 +499,14 @@ public:
     void close() noexcept {
         if (!is_open()) return;
         (void)ask(nm_map_unpin);
-        (void)counted([&](nm_handle *it, Counted *released) {
-            return nm_map_take_back(it, Counted::release, released, nullptr);
-        });
-        (void)ask(nm_drop);
+        std::uint64_t waiting = 0;
+        (void)ask([&](nm_handle *it) { return nm_map_queue_len(it, &waiting); });
+        if (waiting != 0)
+            (void)counted([&](nm_handle *it, Counted *released) {
+                return nm_map_take_back(it, Counted::release, released, nullptr);
+            });
+        (void)ask([&](nm_handle *it) { return nm_map_return(place_->counts(), it); });
+        (void)ask(nm_drop);  // if it was not returned
         place_.reset();
     }
 
@@ -539,13 +566,7 @@ public:
     // (`std::make_move_iterator`). If it throws a fault, the pairs before that one are inserted.
     template <typename Input, typename = typename std::iterator_traits<Input>::iterator_category>
     std::uint64_t insert(Input first, Input last) {
-        std::uint64_t inserted = 0;
-        for (; first != last; ++first) {
-            auto &&pair = *first;
-            inserted += insert_value(Key(std::get<0>(pair)),
-                                     std::get<1>(std::forward<decltype(pair)>(pair)));
-        }
-        return inserted;
+        return insert_each(first, last, [](const auto &key) { return Key(key); });
     }
 
     // Removes a key; returns whether it was present. Its object is freed later, when no guard can
@@ -681,6 +702,8 @@ private:
     friend class Map;
     template <typename, typename>
     friend class MapCalls;
+    template <typename, typename>
+    friend class MapWorkerOf;
     friend class MapGuard<T>;
     friend class GuardedWorker<T>;
 
@@ -777,6 +800,18 @@ private:
         if (outcome == NM_FULL) fail_full();
         bool inserted = detail::answered_by_map(outcome, key);
         nm_map_count_insert(place_->counts(), number_, outcome);
+        return inserted;
+    }
+
+    // Inserts pairs, whose keys a function returns.
+    template <typename Input, typename Keyed>
+    std::uint64_t insert_each(Input first, Input last, Keyed key_of) {
+        std::uint64_t inserted = 0;
+        for (; first != last; ++first) {
+            auto &&pair = *first;
+            inserted += insert_value(key_of(std::get<0>(pair)),
+                                     std::get<1>(std::forward<decltype(pair)>(pair)));
+        }
         return inserted;
     }
 
@@ -946,14 +981,16 @@ public:
     // Takes the map in place of its own, which ends.
     Map &operator=(Map &&from) noexcept = default;
 
-    // Attaches a worker to this thread, the least number first. While each worker is attached, or
-    // another thread attaches one, it waits, for `most` at most, and then throws NM_NO_WORKER. If
-    // no time is given, it waits for `timeout_ms` of the options. It also throws NM_NO_MEMORY.
+    // Attaches a worker to this thread: one that was returned, or else the least number. While each
+    // worker is attached, or another thread attaches one, it waits, for `most` at most, and then throws
+    // NM_NO_WORKER. If no time is given, it waits for `timeout_ms` of the options. It also throws
+    // NM_NO_MEMORY. A worker that was returned costs an exchange: so if threads are many, each may take
+    // a worker for one call: `map.attach().insert(5u, "five")`.
     [[nodiscard]] Worker attach(std::chrono::milliseconds most) {
         check_open();
         Worker taken;
-        nm_outcome outcome =
-            nm_map_wait_attach(place_->handle(), &taken.handle_, detail::millis(most));
+        nm_outcome outcome = nm_map_lend(place_->handle(), place_->counts(), &taken.handle_,
+                                         detail::millis(most));
         if (outcome == NM_NO_WORKER)
             detail::fail(outcome, [&] {
                 return "each of the " + std::to_string(workers()) +

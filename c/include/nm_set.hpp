@@ -498,7 +498,9 @@ public:
     [[nodiscard]] reverse_iterator rend() const noexcept { return {}; }
 
     // Returns the range of the keys that are not below `from` and are below `below`. Without
-    // `below` it has all keys from `from` on, because each key is below UINT64_MAX.
+    // `below` it has all keys from `from` on, because each key is below UINT64_MAX. If `from` is not
+    // below `below`, the range is empty. That is no error, because std::set has no such call whose
+    // error this could follow.
     [[nodiscard]] Range<Of, Entry> range(Key from, Key below = UINT64_MAX) const {
         return Range<Of, Entry>(self(), from, below);
     }

@@ -1,4 +1,5 @@
 /* The calls of nm_map.h, which are made of the proved functions of nm_set.h. */
+#define _GNU_SOURCE
 #include "nm_map.h"
 #include "nm_wait.h"
 
@@ -216,16 +217,19 @@ __attribute__((visibility("hidden"))) nm_outcome nm_host_wait(atomic_uint *words
                                                               look_for look, void *of,
                                                               uint32_t timeout_ms);
 
-/* What a worker has done. */
+/* What a worker has done, and the worker itself while it is returned. */
 struct tally {
     alignas(LINE) _Atomic uint64_t keys; /* the keys that it has inserted, less those removed */
     _Atomic uint64_t values; /* the removed keys, less the values that came back by it */
+    atomic_bool is_returned;
+    nm_handle worker; /* of the thread whose exchange has found is_returned, or of nobody */
 };
 
 struct nm_map_counts {
     alignas(LINE) uint32_t nodes, workers;
     unsigned long forks;
     void *block; /* what malloc returned */
+    atomic_uint returned; /* above the number of each worker that was ever returned */
     alignas(LINE) atomic_uint waits[3]; /* of calls that wait for a key */
     struct tally of[];
 };
@@ -340,6 +344,65 @@ const char *nm_map_full_words(const nm_fullness *fullness, char *text, size_t si
     return text;
 }
 
+/* ---- workers that are lent and returned ---- */
+
+/* Takes the worker of a number, if it is returned. */
+static bool take_returned(nm_map_counts *counts, uint32_t number, nm_handle *worker) {
+    struct tally *of = &counts->of[number];
+    if (!atomic_load(&of->is_returned) || !atomic_exchange(&of->is_returned, false)) return false;
+    *worker = of->worker;
+    of->worker = (nm_handle)NM_CLOSED_HANDLE;
+    return true;
+}
+
+static void put_returned(nm_map_counts *counts, uint32_t number, nm_handle *worker) {
+    counts->of[number].worker = *worker;
+    *worker = (nm_handle)NM_CLOSED_HANDLE;
+    atomic_store(&counts->of[number].is_returned, true);
+}
+
+/* Takes a worker that is returned, if there is one. A thread begins with that of its processor, so
+ * that threads seldom meet. */
+static bool take_any_returned(nm_map_counts *counts, nm_handle *worker) {
+    uint32_t count = atomic_load(&counts->returned);
+    if (count == 0) return false;
+    int processor = sched_getcpu();
+    uint32_t first = processor < 0 ? 0 : (uint32_t)processor % count;
+    for (uint32_t at = 0; at < count; at++)
+        if (take_returned(counts, (first + at) % count, worker)) return true;
+    return false;
+}
+
+nm_outcome nm_map_lend(nm_handle *map, nm_map_counts *counts, nm_handle *worker,
+                       uint32_t timeout_ms) {
+    nm_wait wait = {0, 0};
+    nm_outcome outcome;
+    do {
+        if (take_any_returned(counts, worker)) return NM_DONE;
+        outcome = attach_soon(map, worker, NM_ANY);
+        if (outcome == NM_IN_USE) outcome = NM_NO_WORKER;
+    } while (outcome == NM_NO_WORKER && nm_wait_on(&wait, timeout_ms));
+    return outcome;
+}
+
+nm_outcome nm_map_return(nm_map_counts *counts, nm_handle *worker) {
+    uint32_t number = 0;
+    nm_outcome outcome = nm_map_number(worker, &number);
+    if (outcome < 0) return outcome;
+    if (number >= counts->workers) return NM_NUMBER;
+    put_returned(counts, number, worker);
+    unsigned before = atomic_load(&counts->returned);
+    while (before <= number && !atomic_compare_exchange_weak(&counts->returned, &before, number + 1))
+        ;
+    return NM_DONE;
+}
+
+void nm_map_drop_returned(nm_map_counts *counts) {
+    nm_handle worker = NM_CLOSED_HANDLE;
+    for (uint32_t number = 0; number < counts->workers; number++)
+        if (take_returned(counts, number, &worker)) (void)nm_drop(&worker);
+}
+
 /* ---- values that come back ---- */
 
 /* Takes back at most ROOM values, and writes how many. */
@@ -371,10 +434,15 @@ nm_outcome nm_map_tend(nm_handle *worker, const nm_options *options, nm_map_rele
     return nm_map_take_back(worker, release, context, NULL);
 }
 
-/* Takes back what waits with the worker of a number. */
-static nm_outcome take_back_of(nm_handle *map, uint32_t number, nm_map_release release,
-                               void *context) {
+/* Takes back what waits with the worker of a number, if it is returned or not attached. */
+static nm_outcome take_back_of(nm_handle *map, nm_map_counts *counts, uint32_t number,
+                               nm_map_release release, void *context) {
     nm_handle worker = NM_CLOSED_HANDLE;
+    if (counts != NULL && number < counts->workers && take_returned(counts, number, &worker)) {
+        (void)nm_map_take_back(&worker, release, context, NULL);
+        put_returned(counts, number, &worker);
+        return NM_DONE;
+    }
     nm_outcome outcome = attach_soon(map, &worker, number);
     if (outcome < 0) return outcome;
     outcome = nm_map_take_back(&worker, release, context, NULL);
@@ -382,12 +450,13 @@ static nm_outcome take_back_of(nm_handle *map, uint32_t number, nm_map_release r
     return outcome;
 }
 
-/* Takes back what waits with each worker that is not attached. Returns false if another call had
- * the handle of the map: then it has not asked all workers. */
-static bool has_asked_all(nm_handle *map, nm_map_release release, void *context) {
+/* Takes back what waits with each worker that is returned or not attached. Returns false if another
+ * call had the handle of the map: then it has not asked all workers. */
+static bool has_asked_all(nm_handle *map, nm_map_counts *counts, nm_map_release release,
+                          void *context) {
     nm_outcome outcome = NM_DONE;
     for (uint32_t number = 0; outcome >= 0 || outcome == NM_ATTACHED; number++)
-        outcome = take_back_of(map, number, release, context);
+        outcome = take_back_of(map, counts, number, release, context);
     return outcome != NM_IN_USE;
 }
 
@@ -396,7 +465,7 @@ static bool is_brimful(const nm_map_counts *counts) {
 }
 
 nm_outcome nm_map_put(nm_handle *map, nm_handle *worker, uint64_t key, uint64_t value,
-                      const nm_options *options, const nm_map_counts *counts,
+                      const nm_options *options, nm_map_counts *counts,
                       nm_map_release release, void *context, uint32_t timeout_ms) {
     nm_wait wait = {0, 0};
     nm_outcome outcome = nm_map_tend(worker, options, release, context);
@@ -405,7 +474,7 @@ nm_outcome nm_map_put(nm_handle *map, nm_handle *worker, uint64_t key, uint64_t 
     if (outcome != NM_FULL) return outcome;
     bool is_full = is_brimful(counts), was_full, is_asked = map == NULL;
     do {
-        if (!is_asked && !is_full) is_asked = has_asked_all(map, release, context);
+        if (!is_asked && !is_full) is_asked = has_asked_all(map, counts, release, context);
         (void)nm_map_take_back(worker, release, context, NULL);
         outcome = nm_map_insert(worker, key, value, options);
         was_full = is_full;

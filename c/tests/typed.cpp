@@ -4,12 +4,20 @@
 
 #include "nm_keys.hpp"
 
+#include <cmath>
 #include <cstdio>
 #include <set>
+#include <sstream>
+
+#ifdef __cpp_lib_ranges
+static_assert(std::ranges::input_range<nm::SetOf<int>> && !std::ranges::sized_range<nm::SetOf<int>>);
+static_assert(std::ranges::input_range<nm::SetOf<int>::RangeOf>);
+#endif
 
 namespace {
 
 enum class Level : std::int8_t { low = -1, middle = 0, high = 1 };
+enum class Answer : std::uint8_t { no, yes };
 
 struct Release {
     std::uint16_t major, minor;
@@ -70,7 +78,6 @@ void scans_like(const Of &of, const std::set<T> &peer) {
     CHECK(of.scan(*peer.begin(), SIZE_MAX).entries.size() == peer.size());
 }
 
-// A set of values, and a worker of it, answer like a set of the standard library.
 // The calls for several values, those up to a bound, and those that throw nothing. They leave the set
 // as it was.
 template <typename T>
@@ -162,6 +169,91 @@ void refused_values_are_named() {
     is_refused(std::pair<std::int32_t, nm::Bits<32>>(INT32_MAX, UINT32_MAX),
                "(2147483647, 4294967295)");
     is_refused(Id{UINT64_MAX}, "with the key 18446744073709551615");
+    is_refused(nm::ShortString<>("\xff\xff\xff\xff\xff\xff\xff\xfe"),
+               R"("\xff\xff\xff\xff\xff\xff\xff\xfe")");
+    is_refused(std::array<std::uint32_t, 2>{UINT32_MAX, UINT32_MAX}, "(4294967295, 4294967295)");
+    is_refused(std::tuple<std::uint8_t, nm::ShortString<3>, std::uint32_t>(
+                   255, "\xff\xff\xff", UINT32_MAX - 1),
+               R"((255, "\xff\xff\xff", 4294967294))");
+}
+
+// A value that has no place in the order is refused by each call that takes a key or a bound.
+template <typename T>
+void has_no_place(const T &none, const T &some, const std::string &shown) {
+    const std::string text = "the value " + shown + " is no key: it has no place in the order";
+    constexpr std::chrono::milliseconds soon(1);
+    nm::SetOf<T> set(64, nm::keys, {some});
+    CHECK(!set.contains(none) && set.count(none) == 0 && set.find(none) == set.end());
+    CHECK(set.try_insert(none) == NM_KEY && set.try_contains(none) == NM_KEY);
+    CHECK(fault_of([&] { set.insert(none); }).text == text);
+    CHECK(fault_of([&] { (void)set.range(none, some); }).text == text);
+    CHECK(fault_of([&] { (void)set.count(some, none); }).text == text);
+    CHECK(fault_of([&] { (void)set.lower_bound(none); }).text == text);
+    CHECK(fault_of([&] { (void)set.at_most(none); }).text == text);
+    CHECK(fault_of([&] { set.pop_first(none); }).text == text && set.size() == 1);
+    CHECK(fault_of([&] { (void)set.wait_first(none, soon); }).text == text);
+    nm::MapOf<T, int> map(64, {{some, 5}});
+    auto worker = map.attach();
+    CHECK(fault_of([&] { worker.insert(none, 5); }).text == text && !worker.contains(none));
+    CHECK(fault_of([&] { (void)worker.get(none); }).text == text);
+    CHECK(fault_of([&] { (void)worker.keys(none); }).text == text && worker.count(none) == 0);
+    CHECK(fault_of([&] { (void)worker.pin().contains(none); }).outcome == NM_DONE);
+}
+
+void numbers_that_are_none() {
+    constexpr double none = std::numeric_limits<double>::quiet_NaN();
+    has_no_place<double>(none, 1.5, "nan");
+    has_no_place<double>(-none, 1.5, "nan");
+    has_no_place<float>(static_cast<float>(none), 1.5f, "nan");
+    has_no_place<std::pair<float, std::uint32_t>>({static_cast<float>(none), 0u}, {1, 0u}, "(nan, 0)");
+    has_no_place<std::pair<std::uint8_t, float>>({7, static_cast<float>(none)}, {7, 0.5f}, "(7, nan)");
+    has_no_place<std::chrono::duration<double>>(std::chrono::duration<double>(none),
+                                                std::chrono::duration<double>(1), "nan");
+    CHECK(nm::detail::shown(std::pair(0.1f, -2.5f)) == "(0.1, -2.5)" &&
+          nm::detail::shown(1e300 / 3) == "3.3333333333333335e+299");
+}
+
+// 0.0 and -0.0 are equal, and one key.
+template <typename T>
+void zeros_are_one_key() {
+    nm::SetOf<T> set;
+    CHECK(set.insert(T(-0.0)) && !set.insert(T(0)) && set.contains(T(-0.0)));
+    CHECK(!std::signbit(*set.first()) && set.remove(T(0)) && set.empty());
+}
+
+void strings_are_bytes() {
+    using Four = nm::ShortString<4>;
+    nm::SetOf<Four> set(nm::keys, {"tea", "", "salt", std::string("a\0b", 3), "\x80"});
+    const std::vector<std::string> wanted{"", std::string("a\0b", 3), "salt", "tea", "\x80"};
+    std::vector<std::string> all;
+    for (const Four &each : set) all.emplace_back(each.view());
+    CHECK(all == wanted && set.contains("tea") && set.first()->size() == 0);
+    Thrown longer = fault_of([] { Four text("sugar"); });
+    CHECK(longer.outcome == NM_KEY && longer.text == "the string \"sugar\" is no key: it has 5 bytes, "
+                                                     "and the type has room for 4");
+    CHECK(fault_of([] { Four text(std::string("a\0", 2)); }).text ==
+          R"(the string "a\x00" is no key: its last byte is zero, which would be lost)");
+    CHECK(fault_of([] { Four text(std::string(99, 'a')); }).text.find("aaa\".. is no key") < 99);
+    // A std::array has all its bytes, also zero bytes at its end.
+    nm::SetOf<std::array<char, 3>> arrays(nm::keys, {{'a'}, {'a', 'b'}});
+    CHECK(arrays.contains({'a', '\0', '\0'}) && *arrays.first() == (std::array<char, 3>{'a'}));
+}
+
+template <typename T>
+std::string written(const T &value) {
+    std::ostringstream text;
+    text << value;
+    return text.str();
+}
+
+void sets_are_written() {
+    nm::SetOf<int> set(nm::keys, {5, -7});
+    CHECK(written(set) == "{-7, 5}" && written(set.attach()) == "{-7, 5}");
+    for (int more = 10; more < 20; more++) set.insert(more);
+    CHECK(written(set) == "{-7, 5, 10, 11, 12, 13, 14, 15, 16, 17, ..}");
+    nm::MapOf<nm::ShortString<>, double> map(64, {{"tea", 2.5}, {"salt", 0.5}});
+    CHECK(written(map.attach()) == R"({"salt", "tea"})");
+    CHECK(written(map.attach().first()->key) == "salt" && written(nm::SetOf<double>()) == "{}");
 }
 
 void sets_are_made_of_values() {
@@ -207,6 +299,17 @@ int main() {
     answers_like<Clock::time_point>(
         {at, at + Seconds(1), at - Seconds(5), at - Seconds(500), at + Seconds(9)});
     answers_like<Release>({{1, 2}, {1, 0}, {0, 9}, {7, 0}, {1, 1}});
+    answers_like<double>({1.5, -2.5, 0, HUGE_VAL, -HUGE_VAL, 5e-324, -5e-324, 1e300});
+    answers_like<nm::ShortString<3>>({"tea", "te", "\xff\xff\xff", "\x80", "b", ""});
+    answers_like<std::array<char, 8>>({{'t', 'e'}, {}, {'t'}, {'\xff', 'a'}, {'t', 'e', '\1'}});
+    answers_like<std::tuple<std::pair<std::int8_t, nm::ShortString<2>>, char, Answer>>(
+        {{{-1, "a"}, 'x', Answer::no}, {{-1, "a"}, 'x', Answer::yes}, {{-1, ""}, 'y', Answer::no},
+         {{5, "b"}, 'x', Answer::no}});
+    zeros_are_one_key<float>();
+    zeros_are_one_key<double>();
+    numbers_that_are_none();
+    strings_are_bytes();
+    sets_are_written();
     values_that_are_no_keys();
     sets_are_made_of_values();
     refused_values_are_named();

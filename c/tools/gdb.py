@@ -1,6 +1,6 @@
 """Printers of gdb for what a program has of the library: `print set` shows whether an nm::Set is
 open, its keys, its nodes and its workers. There are printers for nm::Set, nm::Worker, nm::Pin,
-nm::SetOf, nm::WorkerOf, nm::Map with its workers and guards, nm_pool * and nm_handle.
+nm::SetOf, nm::WorkerOf, nm::Map and nm::MapOf with their workers and guards, nm_pool * and nm_handle.
 
 c/install puts this file beside the shared library, as libnm_set.so.VERSION-gdb.py. gdb loads it
 from there if `add-auto-load-safe-path` names the folder. For the static library, `source` it.
@@ -84,10 +84,15 @@ def of_worker(value):
     return "open", [("number", number)]
 
 
+def plain_name(kind):
+    """Returns the name of a type without the types in angle brackets."""
+    return str(gdb.types.get_basic_type(kind).name).split("<")[0]
+
+
 def of_values(value):
-    """A set or a worker of typed keys: as what it is made of."""
+    """A set, a map or their like of typed keys: as what it is made of."""
     made_of = value["of_"]
-    return PRINTED[made_of.type.strip_typedefs().name](made_of)
+    return PRINTED[plain_name(made_of.type)](made_of)
 
 
 def of_pin(value):
@@ -146,6 +151,9 @@ PRINTED = {
     "nm::Map": of_map,
     "nm::MapWorker": of_map_worker,
     "nm::MapGuard": of_pin,
+    "nm::MapOf": of_values,
+    "nm::MapWorkerOf": of_values,
+    "nm::MapGuardOf": of_values,
     "nm_handle": of_handle,
 }
 
@@ -173,9 +181,8 @@ def nm_set(value):
     if kind.code == gdb.TYPE_CODE_PTR:
         is_pool = kind.target().strip_typedefs().name == "nm_pool"
         return Printer("nm_pool", lambda it: of_pool(int(it)), value) if is_pool else None
-    name = str(kind.name)
-    seen = PRINTED.get(name.split("<")[0])
-    return Printer(name, seen, value) if seen is not None else None
+    seen = PRINTED.get(plain_name(kind))
+    return Printer(str(kind.name), seen, value) if seen is not None else None
 
 
 gdb.printing.register_pretty_printer(gdb.current_objfile(), nm_set, replace=True)

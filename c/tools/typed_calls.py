@@ -1,14 +1,14 @@
 #!/usr/bin/env python3
-"""c/tools/typed_calls.py cpp|rust: compares the calls of a set of keys with those of a set of values.
-Prints each call that the second one lacks, except those that are listed here with a reason. The tests of
-Python compare its classes."""
+"""c/tools/typed_calls.py cpp|rust: compares the calls of a set and of a map of keys with those of a set and of a
+map of values. Prints each call that the latter lack, except those that are listed here with a reason. The tests
+of Python compare its classes."""
 import os
 import re
 import sys
 
 os.chdir(os.path.join(os.path.dirname(os.path.realpath(__file__)), "../.."))
 
-# Calls that a set of values does without.
+# Calls that a set or a map of values does without.
 WITHOUT = {
     "cpp": {
         "try_attach": "it attaches into a worker of keys: keys()",
@@ -16,14 +16,35 @@ WITHOUT = {
     },
     "rust": {},
 }
-CPP = r"^    (?=\S)(?:template .*\n    )?(?:\[\[nodiscard\]\] |static |explicit )*[\w:<>, &]+? [&*]?(\w+)\([^;{]*?[{]"
+CPP = r"^    (?=\S)(?:template .*\n    )?(?:\[\[nodiscard\]\] |static |explicit )*[\w:<>, &]+?(?: |\n    )[&*]?(\w+)\([^;{]*?[{]"
+
+# What is compared: the least number of calls, where those for keys are, and where those for values are.
+SET, MAP, KEYS = "c/include/nm_set.hpp", "c/include/nm_map.hpp", "c/include/nm_keys.hpp"
+RUST = "bindings/rust/src/"
+COMPARED = {
+    "cpp": [
+        (30, [(SET, "InOrder", "Keys", "Set")], [(KEYS, "OrderedOf", "ValuesOf", "SetOf")]),
+        (7, [(MAP, "Map")], [(KEYS, "MapOf")]),
+        (30, [(SET, "InOrder"), (MAP, "MapCalls", "MapWorker")], [(KEYS, "OrderedOf", "EntriesOf", "MapWorkerOf")]),
+        (15, [(SET, "InOrder"), (MAP, "MapCalls", "GuardedWorker")],
+         [(KEYS, "OrderedOf", "EntriesOf", "GuardedWorkerOf")]),
+        (5, [(MAP, "MapGuard")], [(KEYS, "MapGuardOf")]),
+    ],
+    "rust": [
+        (30, [("set.rs", "Set")], [("typed.rs", "SetOf")]),
+        (9, [("map.rs", "Map")], [("typed_map.rs", "MapOf")]),
+        (25, [("map.rs", "MapWorker"), ("map_order.rs", "MapWorker")], [("typed_map.rs", "MapWorkerOf")]),
+        (12, [("map_order.rs", "GuardedWorker")], [("typed_map.rs", "GuardedWorkerOf")]),
+        (3, [("map.rs", "Guard")], [("typed_map.rs", "GuardOf")]),
+    ],
+}
 
 
 def body(path, begin):
     """The body of a class or an impl, whose end is a bracket at the left."""
     with open(path, encoding="utf-8") as file:
         text = file.read()
-    return text[text.index(begin):].split("\n}", 1)[0]
+    return text[re.search(begin, text).start():].split("\n}", 1)[0]
 
 
 def public(text):
@@ -33,26 +54,30 @@ def public(text):
 
 
 def cpp(path, *names):
-    bodies = (public(body("c/include/" + path, f"\nclass {name} ")) for name in names)
+    bodies = (public(body(path, rf"\nclass (\[\[nodiscard\]\] )?{name} ")) for name in names)
     return {name for each in bodies for name in re.findall(CPP, each, flags=re.M)} - {*names}
 
 
-def rust(path, begin):
-    return set(re.findall(r"^    pub fn (\w+)", body("bindings/rust/src/" + path, begin), flags=re.M))
+def rust(path, name):
+    return set(re.findall(r"^    pub fn (\w+)", body(RUST + path, rf"\nimpl(<[^{{]*>)? {name}(<[^{{]*>)? {{"), flags=re.M))
 
 
-def calls(language):
-    """The calls of a set of keys, and those of a set of values."""
-    if language == "cpp":
-        return cpp("nm_set.hpp", "InOrder", "Keys", "Set"), cpp("nm_keys.hpp", "ValuesOf", "SetOf")
-    return rust("set.rs", "\nimpl Set {"), rust("typed.rs", "\nimpl<K: Key> SetOf<K> {")
+def calls(language, places):
+    """The calls of some types."""
+    return set().union(*({"cpp": cpp, "rust": rust}[language](*place) for place in places))
 
 
 def main():
-    keys, values = calls(sys.argv[1])
-    lacks = sorted(keys - values - WITHOUT[sys.argv[1]].keys())
-    print("\n".join(lacks))
-    return 1 if lacks or len(keys) < 30 else 0
+    language, is_wrong = sys.argv[1], False
+    for least, keys, values in COMPARED[language]:
+        wanted = calls(language, keys)
+        lacks = sorted(wanted - calls(language, values) - WITHOUT[language].keys())
+        if len(wanted) < least:
+            lacks.append(f"only {len(wanted)} calls are found")
+        for each in lacks:
+            print(f"{values[-1][-1]}: {each}")
+        is_wrong = is_wrong or bool(lacks)
+    return 1 if is_wrong else 0
 
 
 if __name__ == "__main__":

@@ -33,7 +33,7 @@ from ._faults import (
 from ._map import Map
 from ._report import Report, Waiting
 from ._set import Options, Set, SetStats, Stamp, Stats, Worker
-from ._typed import Mapping, SetOf, WorkerOf, pairs, signed, unsigned
+from ._typed import Mapping, MapOf, SetOf, WorkerOf, floats, pairs, short_bytes, signed, unsigned
 
 __all__ = [
     "MOST_KEY",
@@ -45,6 +45,7 @@ __all__ = [
     "Full",
     "InUse",
     "Map",
+    "MapOf",
     "Mapping",
     "NoMemory",
     "NoWorker",
@@ -62,8 +63,10 @@ __all__ = [
     "Worker",
     "WorkerOf",
     "__version__",
+    "floats",
     "is_native",
     "pairs",
+    "short_bytes",
     "signed",
     "unsigned",
 ]

@@ -170,12 +170,21 @@ def key_fault(key: int) -> Fault:
     return fault(c.KEY, f"the key {shown(key)} is not 0 to {MOST_KEY:,} (2^64 - 4)")
 
 
+_WHOLE = reprlib.Repr()
+_WHOLE.maxother = _WHOLE.maxstring = _WHOLE.maxlong = 100  # so that no value that is a key is shortened
+
+
+def shown_value(value: object) -> str:
+    """Returns a value as a text has it. What is much longer than a key is shortened."""
+    return _WHOLE.repr(value)
+
+
 def value_fault(value: object, key: int) -> Fault:
     """Returns the exception of a value of another type that has this number in place of a key."""
     text = "of 64 bits the three greatest values are none"
     if not MOST_KEY < key < 2**64:
         text = f"its mapping returns {shown(key)}, and keys are 0 to {MOST_KEY:,} (2^64 - 4)"
-    return fault(c.KEY, f"the value {reprlib.repr(value)} is no key: {text}")
+    return fault(c.KEY, f"the value {shown_value(value)} is no key: {text}")
 
 
 def closed() -> Fault:

@@ -280,7 +280,8 @@ class Keys(MutableSet):  # type: ignore[type-arg]
         reverse: bool = False,
     ) -> Iterator[int]:
         """Returns an iterator over the keys from `minimum` to `maximum`, in the way of `__iter__`:
-        ascending, or descending if `reverse`."""
+        ascending, or descending if `reverse`. If `minimum` is above `maximum` there are none, as with
+        `range(9, 5)`."""
         first, below = ends_of(minimum, maximum, inclusive)
         # The iterator refers to the set, which would close if nothing did.
         return each_scanned(lambda *read: self._calls.scan(*read), first, below, reverse)

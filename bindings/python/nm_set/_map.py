@@ -50,7 +50,7 @@ T = TypeVar("T")
 _ROOM = 64  # how many values one call reclaims, and how many keys it looks up
 _NODES = 65_536  # the nodes of a map for which no number is given, or four for each of its keys
 _LONGEST = 10.0  # seconds: how long a close waits for calls in progress
-_MISSING: Any = object()
+MISSING: Any = object()
 
 
 class _Worker:
@@ -144,6 +144,7 @@ class Map(MutableMapping, Generic[V]):  # type: ignore[type-arg]
             after = int(c.quick.nm_map_collect_after(self._nodes, self._workers))
         self._after = after
         self._words = c.OptionsWords(options.tries, options.rounds, after)
+        self._shown: Callable[[int], str] = str  # how a text shows a key
         self._tokens = itertools.count()
         self._read: dict[int, V] = {}
         self._left: dict[int, V] = {}
@@ -259,7 +260,7 @@ class Map(MutableMapping, Generic[V]):  # type: ignore[type-arg]
     # ---- one key ----
 
     def _found(self, worker: _Worker, key: int) -> Any:
-        """Returns the object of a key, or `_MISSING`, under a pin of the worker."""
+        """Returns the object of a key, or `MISSING`, under a pin of the worker."""
         token, epoch = c_uint64(), c_uint64()
         try:
             outcome = c.quick.nm_map_hold(worker.handle, self._words, epoch)
@@ -267,7 +268,7 @@ class Map(MutableMapping, Generic[V]):  # type: ignore[type-arg]
                 outcome = c.quick.nm_map_get_pinned(worker.handle, key, token)
             if outcome < 0:
                 raise self._fault(outcome)
-            return self._read[token.value] if outcome == c.YES else _MISSING
+            return self._read[token.value] if outcome == c.YES else MISSING
         finally:
             c.quick.nm_map_unpin(worker.handle)
 
@@ -275,19 +276,19 @@ class Map(MutableMapping, Generic[V]):  # type: ignore[type-arg]
         number = number_of(key)
         if number is None:
             self._check_open()
-            return _MISSING
+            return MISSING
         return self._with_worker(lambda worker: self._found(worker, number))
 
     def __getitem__(self, key: object) -> V:
         """Returns the object of a key. Raises KeyError if the map does not have the key."""
         found = self._get(key)
-        if found is _MISSING:
+        if found is MISSING:
             raise KeyError(key)
         return found  # type: ignore[no-any-return]
 
     def __contains__(self, key: object) -> bool:
         """Returns whether the map has a key. A value that is no key is in no map."""
-        return self._get(key) is not _MISSING
+        return self._get(key) is not MISSING
 
     @overload
     def get(self, key: object) -> Optional[V]: ...
@@ -296,7 +297,7 @@ class Map(MutableMapping, Generic[V]):  # type: ignore[type-arg]
     def get(self, key: object, default: Any = None) -> Any:
         """Returns the object of a key, or the default."""
         found = self._get(key)
-        return default if found is _MISSING else found
+        return default if found is MISSING else found
 
     @overload
     def get_many(self, keys: Iterable[SupportsIndex]) -> list[Optional[V]]: ...
@@ -312,7 +313,7 @@ class Map(MutableMapping, Generic[V]):  # type: ignore[type-arg]
         found: list[Any] = []
         for block in blocks:
             found += self._with_worker(partial(self._found_many, block))
-        return [default if each is _MISSING else each for each in found]
+        return [default if each is MISSING else each for each in found]
 
     def _found_many(self, keys: memoryview, worker: _Worker) -> list[Any]:
         """Returns the objects of at most `_ROOM` keys, under a pin of the worker."""
@@ -323,7 +324,7 @@ class Map(MutableMapping, Generic[V]):  # type: ignore[type-arg]
                 outcome = c.quick.nm_map_get_many_pinned(worker.handle, lookups, len(keys))
             if outcome < 0:
                 raise self._fault(outcome)
-            return [self._read[each.value] if each.found else _MISSING for each in lookups]
+            return [self._read[each.value] if each.found else MISSING for each in lookups]
         finally:
             c.quick.nm_map_unpin(worker.handle)
 
@@ -392,7 +393,7 @@ class Map(MutableMapping, Generic[V]):  # type: ignore[type-arg]
         number = _checked(key)
         for _ in range(self._rounds + 1):
             found = self._get(number)
-            if found is not _MISSING:
+            if found is not MISSING:
                 return found
             if self.insert(number, default):
                 return default
@@ -402,7 +403,7 @@ class Map(MutableMapping, Generic[V]):  # type: ignore[type-arg]
         return self._with_worker(lambda worker: self._removed(worker, number))
 
     def _removed(self, worker: _Worker, key: int) -> Any:
-        """Removes a key, and returns its object, or `_MISSING`. It returns the object of a key
+        """Removes a key, and returns its object, or `MISSING`. It returns the object of a key
         whose remove is unfinished too, because this call will remove it and no other call will."""
         token = c_uint64()
         outcome = c.quick.nm_map_remove(worker.handle, key, self._words, token)
@@ -410,7 +411,7 @@ class Map(MutableMapping, Generic[V]):  # type: ignore[type-arg]
             return self._left.pop(token.value)
         if outcome < 0:
             raise self._fault(outcome)
-        return _MISSING
+        return MISSING
 
     def __delitem__(self, key: object) -> None:
         """Removes a key. Raises KeyError if the map does not have it."""
@@ -420,15 +421,15 @@ class Map(MutableMapping, Generic[V]):  # type: ignore[type-arg]
     def pop(self, key: object) -> V: ...
     @overload
     def pop(self, key: object, default: T) -> Union[V, T]: ...
-    def pop(self, key: object, default: Any = _MISSING) -> Any:
+    def pop(self, key: object, default: Any = MISSING) -> Any:
         """Removes a key, and returns the object that it had. No two calls return one object, unless
         it was inserted again in between. If the map does not have the key, it returns the default,
         or raises KeyError if none is given."""
         number = number_of(key)
         found = self._pop(number) if number is not None else self._get(key)
-        if found is not _MISSING:
+        if found is not MISSING:
             return found
-        if default is _MISSING:
+        if default is MISSING:
             raise KeyError(key)
         return default
 
@@ -465,7 +466,7 @@ class Map(MutableMapping, Generic[V]):  # type: ignore[type-arg]
         if outcome == c.UNFINISHED:
             text = "will be removed by this call and no other, but its object is not known: the"
             text += " key is found until the next call by its worker"
-            raise fault(outcome, f"the key {key.value} {text}")
+            raise fault(outcome, f"the key {self._shown(key.value)} {text}")
         if outcome < 0:
             raise self._fault(outcome)
         return (key.value, self._left.pop(token.value)) if outcome == c.YES else None
@@ -497,8 +498,8 @@ class Map(MutableMapping, Generic[V]):  # type: ignore[type-arg]
                 raise self._fault(outcome)
             if outcome == c.NO:
                 return None
-            found = self._read.get(token.value, _MISSING)
-            if found is not _MISSING:
+            found = self._read.get(token.value, MISSING)
+            if found is not MISSING:
                 return key.value, found
         raise Contention("other threads removed the key in each round: call again")
 
@@ -577,10 +578,10 @@ class Map(MutableMapping, Generic[V]):  # type: ignore[type-arg]
             raise self._fault(outcome)
         items = []
         for entry in entries[: count.value]:
-            found = self._read.get(entry.value, _MISSING)
-            if found is _MISSING:
+            found = self._read.get(entry.value, MISSING)
+            if found is MISSING:
                 found = self._found(worker, entry.key)
-            if found is not _MISSING:
+            if found is not MISSING:
                 items.append((entry.key, found))
         return items, rest.value if outcome == c.YES else None
 
@@ -622,7 +623,8 @@ class Map(MutableMapping, Generic[V]):  # type: ignore[type-arg]
     ) -> Iterator[int]:
         """Returns an iterator over the keys from `minimum` to `maximum`, ascending or descending.
         It reads keys ahead, in blocks of 8, 16 and so on to 512. A key that is in the map during the whole
-        iteration is returned, and a key that is absent during all of it is not."""
+        iteration is returned, and a key that is absent during all of it is not. If `minimum` is above
+        `maximum` there are none, as with `range(9, 5)`."""
         self._check_open()
         return self._each(self._scan, ends_of(minimum, maximum, inclusive), reverse)
 
@@ -667,11 +669,11 @@ class Map(MutableMapping, Generic[V]):  # type: ignore[type-arg]
 
     def items(self) -> ItemsView[int, V]:
         """Returns a view of the keys with their objects: see `items_range`."""
-        return _Items(self)
+        return Items(self)
 
     def values(self) -> ValuesView[V]:
         """Returns a view of the objects, in the order of their keys."""
-        return _Values(self)
+        return Values(self)
 
     # ---- of itself ----
 
@@ -708,13 +710,10 @@ class Map(MutableMapping, Generic[V]):  # type: ignore[type-arg]
 
     def __repr__(self) -> str:
         """Shows the first ten keys with their objects, and how many there are."""
-        if not self._is_open or self._process != os.getpid():
-            return "Map(closed)"
-        shown = list(itertools.islice(self.items(), SHOWN + 1))
-        text = ", ".join(f"{key}: {value!r}" for key, value in shown[:SHOWN])
-        if len(shown) <= SHOWN:
-            return f"Map({{{text}}})"
-        return f"Map({{{text}, ...}}, {len(self)} keys)"
+        return text_of(self, self._can_be_read())
+
+    def _can_be_read(self) -> bool:
+        return self._is_open and self._process == os.getpid()
 
     __hash__ = None  # type: ignore[assignment]
 
@@ -787,7 +786,19 @@ class Map(MutableMapping, Generic[V]):  # type: ignore[type-arg]
             self.close()
 
 
-class _Items(ItemsView):  # type: ignore[type-arg]
+def text_of(entries: MutableMapping[Any, Any], is_open: bool) -> str:
+    """Returns what `repr` of a map returns."""
+    name = type(entries).__name__
+    if not is_open:
+        return f"{name}(closed)"
+    first = list(itertools.islice(entries.items(), SHOWN + 1))
+    text = ", ".join(f"{key!r}: {value!r}" for key, value in first[:SHOWN])
+    if len(first) <= SHOWN:
+        return f"{name}({{{text}}})"
+    return f"{name}({{{text}, ...}}, {len(entries)} keys)"
+
+
+class Items(ItemsView):  # type: ignore[type-arg]
     """The keys of a map with their objects."""
 
     _mapping: Map[Any]
@@ -799,7 +810,7 @@ class _Items(ItemsView):  # type: ignore[type-arg]
         return self._mapping.items_range(reverse=True)
 
 
-class _Values(ValuesView):  # type: ignore[type-arg]
+class Values(ValuesView):  # type: ignore[type-arg]
     """The objects of a map, in the order of their keys."""
 
     _mapping: Map[Any]

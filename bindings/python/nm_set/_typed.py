@@ -1,23 +1,30 @@
-"""Sets whose keys are of another type than the integers 0 to 2^64 - 4.
+"""Sets and maps whose keys are of another type than the integers 0 to 2^64 - 4.
 
 A `Mapping` maps the values of a type to keys and back, and keeps their order. `SetOf` is a set of
-such values, over a `Set`.
+such values, over a `Set`, and `MapOf` a map with such keys, over a `Map`.
 """
 
 from __future__ import annotations
 
+import math
 import operator
-from collections.abc import Callable, Iterable, Iterator, MutableSet
+import struct
+from collections.abc import Callable, ItemsView, Iterable, Iterator, MutableMapping, MutableSet
+from collections.abc import Mapping as AbstractMapping
+from collections.abc import ValuesView
+from contextlib import suppress
 from dataclasses import dataclass
 from itertools import islice
 from types import TracebackType
 from typing import Any, Generic, Optional, SupportsIndex, TypeVar, Union
 
-from ._faults import MOST_KEY, SHOWN, OutOfRange, shortened, shown, value_fault
+from ._faults import MOST_KEY, SHOWN, OutOfRange, shortened, shown, shown_value, value_fault
+from ._map import MISSING, Items, Map, Values, text_of
 from ._report import Report
 from ._set import Set, SetStats, Stamp, Stats, Worker
 
 T = TypeVar("T")
+V = TypeVar("V")
 _V = TypeVar("_V", bound="_Values[Any]")
 
 
@@ -54,6 +61,53 @@ def signed(bits: int = 64) -> Mapping[int]:
     )
 
 
+def floats(bits: int = 64) -> Mapping[float]:
+    """Returns the mapping of the floats of 64 bits, or of 32, in their order: the infinities too. NaN
+    is no key (`OutOfRange`), nor is a number that becomes another one as a float of these bits, such
+    as 2**53 + 1. -0.0 and 0.0 are one key, which comes back as 0.0."""
+    if bits not in (32, 64):
+        raise ValueError(f"a float has 32 or 64 bits, and not {bits}")
+    form, sign, mask = (">d" if bits == 64 else ">f"), 1 << (bits - 1), (1 << bits) - 1
+
+    def to_key(number: float) -> int:
+        with suppress(OverflowError):
+            if math.isnan(number):
+                raise OutOfRange(f"the value {number!r} is no key: it has no place in the order")
+            word = struct.pack(form, number)
+            if struct.unpack(form, word)[0] == number:
+                key = int.from_bytes(word, "big")
+                return sign if key == sign else key ^ (mask if key & sign else sign)
+        value = shown(number) if isinstance(number, int) else repr(number)
+        raise OutOfRange(f"the value {value} is no key: it is no float of {bits} bits")
+
+    def from_key(key: int) -> float:
+        key ^= sign if key & sign else mask
+        found: float = struct.unpack(form, key.to_bytes(bits // 8, "big"))[0]
+        return found
+
+    return Mapping(to_key, from_key, bits)
+
+
+def short_bytes(length: int = 8) -> Mapping[bytes]:
+    """Returns the mapping of `bytes` of at most some length, 8 or less, in their order: b"a" is before
+    b"ab". A zero byte at the end would be lost, so `bytes` that end with one are no keys
+    (`OutOfRange`), nor are longer ones."""
+    if not 1 <= length <= 8:
+        raise ValueError(f"a key has 1 to 8 bytes, and not {length}")
+
+    def to_key(value: bytes) -> int:
+        if not isinstance(value, (bytes, bytearray)):
+            raise TypeError(f"a key is bytes, and not {type(value).__name__}: encode it")
+        why = f"it has {len(value)} bytes, and {length} are the most"
+        if len(value) <= length:
+            if not value.endswith(b"\0"):
+                return int.from_bytes(value.ljust(length, b"\0"), "big")
+            why = "its last byte is zero, which would be lost"
+        raise OutOfRange(f"the value {shown_value(value)} is no key: {why}")
+
+    return Mapping(to_key, lambda key: key.to_bytes(length, "big").rstrip(b"\0"), 8 * length)
+
+
 def pairs(*parts: Union[int, Mapping[Any]]) -> Mapping[tuple[Any, ...]]:
     """Returns the mapping of tuples of these parts, which have 64 bits together at most: the first
     part decides, and then the next one. A number of bits is short for `unsigned(bits)`:
@@ -81,11 +135,24 @@ def pairs(*parts: Union[int, Mapping[Any]]) -> Mapping[tuple[Any, ...]]:
     return Mapping(to_key, from_key, bits)
 
 
-class _Values(MutableSet, Generic[T]):  # type: ignore[type-arg]
-    """The calls of a set and of a worker for values."""
+def _checked_mapping(key: Any) -> Any:
+    """Returns a mapping. Raises TypeError for another object, with what to take in place of it."""
+    if hasattr(key, "to_key") and hasattr(key, "from_key"):
+        return key
+    wanted = {"float": "floats()", "int": "signed()", "bytes": "short_bytes()", "tuple": "pairs(32, 32)"}
+    usual = "unsigned(), signed(), floats(), short_bytes() or pairs(..)"
+    name = wanted.get(getattr(key, "__name__", ""), usual)
+    raise TypeError(f"{key!r} is no mapping of keys: write {name}, or make a Mapping of your own")
 
-    def __init__(self, keys: Union[Set, Worker], mapping: Mapping[T]) -> None:
-        self.keys, self._mapping = keys, mapping
+
+class _Ordered(Generic[T]):
+    """The calls in order that a set, a worker and a map have, for keys of a type."""
+
+    _of: Any
+    """What has the keys: a `Set`, a `Worker` or a `Map`."""
+
+    def __init__(self, mapping: Mapping[T]) -> None:
+        self._mapping: Mapping[T] = _checked_mapping(mapping)
 
     def _key(self, value: T) -> int:
         """Returns the key of a value. Raises `OutOfRange`, with the value in its text, if there is
@@ -95,15 +162,29 @@ class _Values(MutableSet, Generic[T]):  # type: ignore[type-arg]
             raise value_fault(value, key)
         return key
 
-    def _value(self, key: Optional[int]) -> Optional[T]:
-        return None if key is None else self._mapping.from_key(key)
+    def _key_or_none(self, value: object) -> Optional[int]:
+        """Returns the key of a value, or None: a value that has no key is in no set."""
+        try:
+            key = self._mapping.to_key(value)  # type: ignore[arg-type]
+        except (TypeError, ValueError):
+            return None
+        return key if 0 <= key <= MOST_KEY else None
 
     def _end(self, value: Optional[T]) -> Optional[int]:
         """Returns an end of a range, which may be a value that has no key."""
         return None if value is None else self._mapping.to_key(value)
 
-    def __enter__(self: _V) -> _V:
-        return self
+    def _entry(self, found: Any) -> Any:
+        """Returns what a call has found with the value of its key."""
+        return self._mapping.from_key(found)
+
+    def _entry_or_none(self, found: Any) -> Any:
+        return None if found is None else self._entry(found)
+
+    def _key_of(self, entry: Any) -> T:
+        """Returns the key of an entry."""
+        key: T = entry
+        return key
 
     def __exit__(
         self,
@@ -111,24 +192,159 @@ class _Values(MutableSet, Generic[T]):  # type: ignore[type-arg]
         error: Optional[BaseException],
         trace: Optional[TracebackType],
     ) -> None:
-        """Ends the `with` as the set or the worker of keys does."""
-        self.keys.__exit__(kind, error, trace)
+        """Ends the `with` as the set, the worker or the map of keys does."""
+        self._of.__exit__(kind, error, trace)
+
+    def at_least(self, value: T) -> Any:
+        """Returns the least key that is not below this one, or None if there is none. Of a map this
+        and the following calls return the key with its object."""
+        return self._entry_or_none(self._of.at_least(self._key(value)))
+
+    def at_most(self, value: T) -> Any:
+        """Returns the greatest key that is not above this one, or None if there is none."""
+        return self._entry_or_none(self._of.at_most(min(self._mapping.to_key(value), MOST_KEY)))
+
+    def first(self) -> Any:
+        """Returns the least key, or None if there is none."""
+        return self._entry_or_none(self._of.first())
+
+    def last(self) -> Any:
+        """Returns the greatest key, or None if there is none."""
+        return self._entry_or_none(self._of.last())
+
+    def pop_first(self, below: Optional[T] = None) -> Any:
+        """Removes the least key and returns it: of all, or of those below a bound. Raises KeyError
+        if there is none."""
+        return self._entry(self._of.pop_first(self._end(below)))
+
+    def pop_last(self, minimum: Optional[T] = None) -> Any:
+        """Removes the greatest key and returns it: of all, or of those that are not below
+        `minimum`. Raises KeyError if there is none."""
+        return self._entry(self._of.pop_last(self._end(minimum)))
+
+    def wait_first(self, timeout: Optional[float] = None, below: Optional[T] = None) -> Any:
+        """Returns the least key, after a wait for one, and removes nothing: `Set.wait_first`."""
+        return self._entry_or_none(self._of.wait_first(timeout, self._end(below)))
+
+    def irange(
+        self,
+        minimum: Optional[T] = None,
+        maximum: Optional[T] = None,
+        inclusive: tuple[bool, bool] = (True, True),
+        reverse: bool = False,
+    ) -> Iterator[T]:
+        """Returns an iterator over the keys from `minimum` to `maximum`: see `Set.irange`."""
+        least, most = self._end(minimum), self._end(maximum)
+        return map(self._mapping.from_key, self._of.irange(least, most, inclusive, reverse))
+
+    def count_range(
+        self,
+        minimum: Optional[T] = None,
+        maximum: Optional[T] = None,
+        inclusive: tuple[bool, bool] = (True, True),
+    ) -> int:
+        """Returns how many keys there are from `minimum` to `maximum`: see `Set.count_range`."""
+        count: int = self._of.count_range(self._end(minimum), self._end(maximum), inclusive)
+        return count
+
+    def scan(self, minimum: T, count: SupportsIndex) -> tuple[list[Any], Optional[T]]:
+        """Returns at most `count` keys from one on, and where the next scan goes on, or None: see
+        `Set.scan`. That is a key that there was, for which the scan reads one key more."""
+        room = max(operator.index(count), 0)
+        read, _ = self._of.scan(self._mapping.to_key(minimum), room + 1)
+        found = [self._entry(each) for each in read]
+        return found[:room], self._key_of(found[room]) if len(found) > room else None
+
+    def __iter__(self) -> Iterator[T]:
+        return self.irange()
+
+    def __reversed__(self) -> Iterator[T]:
+        return self.irange(reverse=True)
+
+    def __len__(self) -> int:
+        return len(self._of)
+
+    def clear(self) -> None:
+        """Removes all keys. A key that is added meanwhile may remain."""
+        self._of.clear()
+
+    def __copy__(self) -> Any:
+        return self._of.__copy__()
+
+    def __deepcopy__(self, memo: object) -> Any:
+        return self._of.__deepcopy__(memo)
+
+    def __reduce__(self) -> Any:
+        return self._of.__reduce__()
+
+    __hash__ = None  # type: ignore[assignment]
+
+
+class _Numbers:
+    """The numbers of a set or a map."""
+
+    _of: Any
+
+    @property
+    def nodes(self) -> int:
+        """The number of nodes for which it has room."""
+        nodes: int = self._of.nodes
+        return nodes
+
+    @property
+    def capacity(self) -> int:
+        """How many keys it can have if no removed node waits to be freed."""
+        capacity: int = self._of.capacity
+        return capacity
+
+    @property
+    def workers(self) -> int:
+        """How many workers it has."""
+        workers: int = self._of.workers
+        return workers
+
+    def waiting(self) -> int:
+        """Returns how many removed nodes wait to be freed: see `Set.waiting`."""
+        waiting: int = self._of.waiting()
+        return waiting
+
+    def free(self) -> int:
+        """Returns how many nodes are free: see `Set.free`."""
+        free: int = self._of.free()
+        return free
+
+    def collect(self) -> int:
+        """Frees what has waited long enough, and returns how much: see `Set.collect`, and of a map
+        `Map.collect`."""
+        freed: int = self._of.collect()
+        return freed
+
+
+class _Values(_Ordered[T], MutableSet):  # type: ignore[type-arg]
+    """The calls of a set and of a worker for values."""
+
+    _of: Union[Set, Worker]
+
+    @property
+    def keys(self) -> Any:
+        """The set or the worker of the keys."""
+        return self._of
+
+    def __enter__(self: _V) -> _V:
+        return self
 
     def __contains__(self, value: object) -> bool:
         """Returns whether the set has a value. A value that has no key is in no set."""
-        try:
-            key = self._mapping.to_key(value)  # type: ignore[arg-type]
-        except (TypeError, ValueError):
-            return False
-        return key in self.keys
+        key = self._key_or_none(value)
+        return key is not None and key in self._of
 
     def add(self, value: T) -> bool:  # type: ignore[override]
         """Adds a value; returns True if it was absent. See `Set.add`."""
-        return self.keys.add(self._key(value))
+        return self._of.add(self._key(value))
 
     def discard(self, value: T) -> bool:  # type: ignore[override]
         """Removes a value; returns True if it was present."""
-        return value in self and self.keys.discard(self._key(value))
+        return value in self and self._of.discard(self._key(value))
 
     def contains(self, value: object) -> bool:
         """Returns whether the set has a value, like `value in numbers`."""
@@ -141,105 +357,33 @@ class _Values(MutableSet, Generic[T]):  # type: ignore[type-arg]
 
     def contains_many(self, values: Iterable[T]) -> list[bool]:
         """Returns for each of these values, in their order, whether the set has it."""
-        return self.keys.contains_many([self._key(value) for value in values])
+        return self._of.contains_many([self._key(value) for value in values])
 
     def add_many(self, values: Iterable[T]) -> int:
         """Adds these values; returns how many were absent. See `Set.add_many`."""
-        return self.keys.add_many([self._key(value) for value in values])
+        return self._of.add_many([self._key(value) for value in values])
 
     def discard_many(self, values: Iterable[T]) -> int:
         """Removes these values; returns how many were present. See `Set.discard_many`."""
-        return self.keys.discard_many([self._key(value) for value in values])
-
-    def at_least(self, value: T) -> Optional[T]:
-        """Returns the least value that is not below this one, or None if there is none."""
-        return self._value(self.keys.at_least(self._key(value)))
-
-    def at_most(self, value: T) -> Optional[T]:
-        """Returns the greatest value that is not above this one, or None if there is none."""
-        return self._value(self.keys.at_most(min(self._mapping.to_key(value), MOST_KEY)))
-
-    def first(self) -> Optional[T]:
-        """Returns the least value, or None if the set is empty."""
-        return self._value(self.keys.first())
-
-    def last(self) -> Optional[T]:
-        """Returns the greatest value, or None if the set is empty."""
-        return self._value(self.keys.last())
-
-    def pop_first(self, below: Optional[T] = None) -> T:
-        """Removes the least value and returns it: of all, or of those below a bound. Raises KeyError
-        if there is none."""
-        return self._mapping.from_key(self.keys.pop_first(self._end(below)))
-
-    def pop_last(self, minimum: Optional[T] = None) -> T:
-        """Removes the greatest value and returns it: of all, or of those that are not below
-        `minimum`. Raises KeyError if there is none."""
-        return self._mapping.from_key(self.keys.pop_last(self._end(minimum)))
+        return self._of.discard_many([self._key(value) for value in values])
 
     def pop_first_many(self, count: int, below: Optional[T] = None) -> list[T]:
         """Removes the least values, at most `count`, and returns them: see `Set.pop_first_many`."""
-        return list(map(self._mapping.from_key, self.keys.pop_first_many(count, self._end(below))))
+        return list(map(self._mapping.from_key, self._of.pop_first_many(count, self._end(below))))
 
     def wait_pop(self, timeout: Optional[float] = None, below: Optional[T] = None) -> T:
         """Removes the least value and returns it, after a wait for one: see `Set.wait_pop`."""
-        return self._mapping.from_key(self.keys.wait_pop(timeout, self._end(below)))
-
-    def wait_first(
-        self, timeout: Optional[float] = None, below: Optional[T] = None
-    ) -> Optional[T]:
-        """Returns the least value, after a wait for one, and removes nothing: see `Set.wait_first`."""
-        return self._value(self.keys.wait_first(timeout, self._end(below)))
+        return self._mapping.from_key(self._of.wait_pop(timeout, self._end(below)))
 
     def pop(self) -> T:
         """Removes the least value and returns it, like `pop_first`."""
-        return self.pop_first()
-
-    def irange(
-        self,
-        minimum: Optional[T] = None,
-        maximum: Optional[T] = None,
-        inclusive: tuple[bool, bool] = (True, True),
-        reverse: bool = False,
-    ) -> Iterator[T]:
-        """Returns an iterator over the values from `minimum` to `maximum`: see `Set.irange`."""
-        least, most = self._end(minimum), self._end(maximum)
-        return map(self._mapping.from_key, self.keys.irange(least, most, inclusive, reverse))
-
-    def count_range(
-        self,
-        minimum: Optional[T] = None,
-        maximum: Optional[T] = None,
-        inclusive: tuple[bool, bool] = (True, True),
-    ) -> int:
-        """Returns how many values there are from `minimum` to `maximum`: see `Set.count_range`."""
-        return self.keys.count_range(self._end(minimum), self._end(maximum), inclusive)
-
-    def scan(self, minimum: T, count: SupportsIndex) -> tuple[list[T], Optional[T]]:
-        """Returns at most `count` values from one on, and where the next scan goes on, or None: see
-        `Set.scan`. That is a value that the set had, for which the scan reads one key more."""
-        room = max(operator.index(count), 0)
-        read, _ = self.keys.scan(self._mapping.to_key(minimum), room + 1)
-        values = [self._mapping.from_key(key) for key in read]
-        return values[:room], values[room] if len(values) > room else None
-
-    def __iter__(self) -> Iterator[T]:
-        return self.irange()
-
-    def __reversed__(self) -> Iterator[T]:
-        return self.irange(reverse=True)
-
-    def __len__(self) -> int:
-        return len(self.keys)
+        value: T = self.pop_first()
+        return value
 
     def update(self, *others: Iterable[T]) -> None:
         """Adds the values of all others."""
         for other in others:
-            self.keys.add_many([self._key(value) for value in other])
-
-    def clear(self) -> None:
-        """Removes all values. A value that is added meanwhile may remain."""
-        self.keys.clear()
+            self._of.add_many([self._key(value) for value in other])
 
     def copy(self) -> set[T]:
         """Returns the values in a set of Python."""
@@ -292,7 +436,7 @@ class _Values(MutableSet, Generic[T]):  # type: ignore[type-arg]
         return set(it)
 
     def _is_open(self) -> bool:
-        return self.keys.is_open() if isinstance(self.keys, Worker) else not self.keys._is_closed()
+        return self._of.is_open() if isinstance(self._of, Worker) else not self._of._is_closed()
 
     def __repr__(self) -> str:
         """Shows the first ten values, and how many there are."""
@@ -301,16 +445,18 @@ class _Values(MutableSet, Generic[T]):  # type: ignore[type-arg]
         values = list(islice(self, SHOWN + 1))
         return f"{type(self).__name__}({shortened(values, len(self))})"
 
-    __hash__ = None  # type: ignore[assignment]
-
 
 class WorkerOf(_Values[T]):
     """A `Worker` of a `SetOf`. `keys` is the worker of the keys."""
 
+    def __init__(self, keys: Worker, mapping: Mapping[T]) -> None:
+        super().__init__(mapping)
+        self._of = keys
+
     @property
     def _worker(self) -> Worker:
-        assert isinstance(self.keys, Worker)
-        return self.keys
+        assert isinstance(self._of, Worker)
+        return self._of
 
     @property
     def number(self) -> int:
@@ -335,7 +481,8 @@ class WorkerOf(_Values[T]):
 
     def pending(self) -> Optional[T]:
         """Returns the value of an unfinished remove, or None."""
-        return self._value(self._worker.pending())
+        pending: Optional[T] = self._entry_or_none(self._worker.pending())
+        return pending
 
     def queue_len(self) -> int:
         """Returns the number of nodes that wait in its queue."""
@@ -358,56 +505,29 @@ class WorkerOf(_Values[T]):
         self._worker.close()
 
 
-class SetOf(_Values[T]):
-    """A set of the values of a type, by a `Mapping`: `signed()`, `pairs(32, 32)`, or one of the
-    program's own. `keys` is the `Set` of their keys."""
+class SetOf(_Numbers, _Values[T]):
+    """A set of the values of a type, by a `Mapping`: `signed()`, `floats()`, `short_bytes()`,
+    `pairs(32, 32)`, or one of the program's own. `keys` is the `Set` of their keys."""
 
     def __init__(self, key: Mapping[T], iterable: Iterable[T] = (), **options: Any) -> None:
         """Makes the set of these values; `key` maps them to keys and back. The options are those of
         `Set`, such as `nodes`."""
-        self._mapping = key
-        super().__init__(Set(map(self._key, iterable), **options), key)
+        super().__init__(key)
+        self._of = Set(map(self._key, iterable), **options)
 
     @property
     def _set(self) -> Set:
-        assert isinstance(self.keys, Set)
-        return self.keys
-
-    @property
-    def nodes(self) -> int:
-        """The number of nodes for which it has room."""
-        return self._set.nodes
-
-    @property
-    def capacity(self) -> int:
-        """How many values it can have if no removed node waits to be freed."""
-        return self._set.capacity
-
-    @property
-    def workers(self) -> int:
-        """How many workers it has."""
-        return self._set.workers
+        assert isinstance(self._of, Set)
+        return self._of
 
     @property
     def report(self) -> Report:
         """The report that the set was closed with, with the keys of the values."""
         return self._set.report
 
-    def waiting(self) -> int:
-        """Returns how many removed nodes wait to be freed: see `Set.waiting`."""
-        return self._set.waiting()
-
-    def free(self) -> int:
-        """Returns how many nodes are free: see `Set.free`."""
-        return self._set.free()
-
     def stats(self) -> SetStats:
         """Returns how full it is, in one call: see `Set.stats`."""
         return self._set.stats()
-
-    def collect(self) -> int:
-        """Frees what has waited long enough; returns how many nodes: see `Set.collect`."""
-        return self._set.collect()
 
     def reserve(self, values: SupportsIndex) -> None:
         """Makes room for this many values: see `Set.reserve`."""
@@ -428,3 +548,137 @@ class SetOf(_Values[T]):
     def close(self) -> list[T]:
         """Ends the set, and returns the values that it had, ascending: see `Set.close`."""
         return [self._mapping.from_key(key) for key in self._set.close().keys]
+
+
+class MapOf(_Numbers, _Ordered[T], MutableMapping, Generic[T, V]):  # type: ignore[type-arg]
+    """A `Map` whose keys are values of a type, by a `Mapping`, as of a `SetOf`. Each call makes the
+    call of the same name of `Map`. `raw` is the map of the keys."""
+
+    _of: Map[V]
+
+    def __init__(
+        self,
+        key: Mapping[T],
+        entries: Union[AbstractMapping[T, V], Iterable[tuple[T, V]], SupportsIndex] = (),
+        **options: Any,
+    ) -> None:
+        """Makes the map of these keys and objects, or the empty map of a number of nodes; `key` maps
+        the values to keys and back. The options are those of `Map`, such as `nodes`."""
+        super().__init__(key)
+        if isinstance(entries, AbstractMapping):
+            entries = entries.items()
+        if isinstance(entries, Iterable):
+            keyed = [(self._key(value), each) for value, each in entries]
+            self._of = Map(keyed, **options)
+        else:
+            self._of = Map(entries, **options)
+        self._of._shown = lambda number: repr(self._mapping.from_key(number))
+
+    @property
+    def raw(self) -> Map[V]:
+        """The map of the keys."""
+        return self._of
+
+    def _entry(self, found: Any) -> tuple[T, V]:
+        return self._mapping.from_key(found[0]), found[1]
+
+    def _key_of(self, entry: Any) -> T:
+        key: T = entry[0]
+        return key
+
+    def __enter__(self) -> MapOf[T, V]:
+        return self
+
+    # ---- one key ----
+
+    def _get(self, key: object) -> Any:
+        number = self._key_or_none(key)
+        return self._of._get(-1 if number is None else number)
+
+    def __getitem__(self, key: object) -> V:
+        """Returns the object of a key. Raises KeyError if the map does not have the key."""
+        found = self._get(key)
+        if found is MISSING:
+            raise KeyError(key)
+        return found  # type: ignore[no-any-return]
+
+    def __contains__(self, key: object) -> bool:
+        """Returns whether the map has a key. A value that has no key is in no map."""
+        return self._get(key) is not MISSING
+
+    def get(self, key: object, default: Any = None) -> Any:
+        """Returns the object of a key, or the default."""
+        found = self._get(key)
+        return default if found is MISSING else found
+
+    def get_many(self, keys: Iterable[T], default: Any = None) -> list[Any]:
+        """Returns for each of these keys, in their order, its object, or the default: see
+        `Map.get_many`."""
+        found: list[Any] = self._of.get_many([self._key(key) for key in keys], default)
+        return found
+
+    def insert(self, key: T, value: V) -> bool:
+        """Inserts a key with an object; returns True if the key was absent: see `Map.insert`."""
+        return self._of.insert(self._key(key), value)
+
+    def __setitem__(self, key: T, value: V) -> None:
+        """Inserts a key with an object. If the map has the key, this takes two steps: see
+        `Map.__setitem__`."""
+        self._of[self._key(key)] = value
+
+    def setdefault(self, key: T, default: Any = None) -> Any:
+        """Returns the object of a key, after an insert of the default if the key was absent: see
+        `Map.setdefault`."""
+        return self._of.setdefault(self._key(key), default)
+
+    def __delitem__(self, key: object) -> None:
+        """Removes a key. Raises KeyError if the map does not have it."""
+        self.pop(key)
+
+    def pop(self, key: object, default: Any = MISSING) -> Any:
+        """Removes a key, and returns the object that it had: see `Map.pop`. If the map does not have
+        the key, it returns the default, or raises KeyError if none is given."""
+        number = self._key_or_none(key)
+        found = self._get(key) if number is None else self._of._pop(number)
+        if found is not MISSING:
+            return found
+        if default is MISSING:
+            raise KeyError(key)
+        return default
+
+    def popitem(self) -> tuple[T, V]:
+        """Removes the least key and returns it with its object, like `pop_first`."""
+        entry: tuple[T, V] = self.pop_first()
+        return entry
+
+    # ---- several keys ----
+
+    def items_range(
+        self,
+        minimum: Optional[T] = None,
+        maximum: Optional[T] = None,
+        inclusive: tuple[bool, bool] = (True, True),
+        reverse: bool = False,
+    ) -> Iterator[tuple[T, V]]:
+        """Returns an iterator over the keys from `minimum` to `maximum` with their objects: see
+        `Map.items_range`."""
+        least, most = self._end(minimum), self._end(maximum)
+        return map(self._entry, self._of.items_range(least, most, inclusive, reverse))
+
+    def items(self) -> ItemsView[T, V]:
+        """Returns a view of the keys with their objects: see `items_range`."""
+        return Items(self)
+
+    def values(self) -> ValuesView[V]:
+        """Returns a view of the objects, in the order of their keys."""
+        return Values(self)
+
+    # ---- of itself ----
+
+    def __repr__(self) -> str:
+        """Shows the first ten keys with their objects, and how many there are."""
+        return text_of(self, self._of._can_be_read())
+
+    def close(self) -> None:
+        """Ends the map, and its references to all objects: see `Map.close`."""
+        self._of.close()

@@ -225,7 +225,7 @@ class InOrder(unittest.TestCase):
             lost = dict(found._read)
             found._read.clear()
             self.assertRaises(Contention, lambda: found.first())
-            again = ["other", nm_set._map._MISSING, "x"]
+            again = ["other", nm_set._map.MISSING, "x"]
             with mock.patch.object(found, "_found", side_effect=again):
                 self.assertEqual(list(found.items()), [(5, "other"), (7, "x")])
             found._read.update(lost)

@@ -2,13 +2,20 @@
 
 from __future__ import annotations
 
+import copy
+import itertools
+import math
+import re
 import unittest
 from datetime import datetime, timedelta, timezone
+from decimal import Decimal
 from enum import IntEnum
 from typing import Any
+from unittest import mock
 
 import nm_set
-from nm_set import Mapping, SetOf, pairs, signed, unsigned
+from nm_set import MapOf, Mapping, SetOf, floats, pairs, short_bytes, signed, unsigned
+from nm_set import _library as c
 
 
 class Level(IntEnum):
@@ -30,6 +37,14 @@ CASES: list[tuple[Mapping[Any], list[Any]]] = [
     (pairs(signed(16), 8, signed(8)), [(-1, 2, 3), (-1, 2, -3), (3, 0, 0), (-5, 255, 127)]),
     (Mapping(int, Level), [Level.HIGH, Level.LOW]),
     (TIMES, [FIRST + timedelta(days=days) for days in (5, 1, 9_000, 0)]),
+    (floats(), [1.5, -2.5, 0.0, math.inf, -math.inf, 5e-324, -5e-324, 0.1, 1e300]),
+    (floats(32), [1.5, -2.5, 0.0, math.inf, -math.inf, 2.0**-149, -(2.0**127)]),
+    (short_bytes(), [b"tea", b"", b"a longer", b"te", b"te\x01", b"\xff", b"tea!"]),
+    (short_bytes(2), [b"ab", b"a", b"\xff\xff", b"b", b""]),
+    (
+        pairs(signed(8), floats(32), short_bytes(3)),
+        [(-1, 0.5, b"a"), (-1, -0.5, b"b"), (5, math.inf, b""), (-1, 0.5, b"")],
+    ),
 ]
 
 
@@ -92,12 +107,161 @@ class Typed(unittest.TestCase):
                 numbers.clear()
                 self.assertEqual((len(numbers), worker.stats().links > 0), (0, True))
 
+    def test_maps_of_each_type_answer_like_a_dict(self) -> None:
+        for mapping, values in CASES:
+            ordered = sorted(values)
+            plain = {value: str(value) for value in ordered}
+            with MapOf(mapping, ((value, str(value)) for value in values)) as found:
+                self.assertEqual((dict(found), found == plain), (plain, True))
+                self.assertEqual(len(found), len(plain))
+                self.assertEqual(list(reversed(found)), ordered[::-1])
+                self.assertEqual(found.get_many([*values], "none"), [plain[each] for each in values])
+                for value in values:
+                    self.assertFalse(found.insert(value, "again"))
+                    entry = (value, plain[value])
+                    self.assertEqual((found.at_least(value), found.at_most(value)), (entry, entry))
+                    self.assertEqual((found[value], found.get(value)), (entry[1],) * 2)
+                    self.assertIn(value, found)
+                    self.assertEqual(found.count_range(value, value), 1)
+                for one, two in itertools.product(ordered, repeat=2):
+                    inside = [each for each in ordered if one <= each <= two]
+                    self.assertEqual(list(found.irange(one, two)), inside)
+                    items = found.items_range(one, two, reverse=True)
+                    self.assertEqual(list(items), [(each, plain[each]) for each in inside[::-1]])
+                self.check_the_ends(found, list(plain.items()))
+                self.check_what_removes(found, plain)
+
+    def check_the_ends(self, found: MapOf[Any, str], items: list[tuple[Any, str]]) -> None:
+        read, rest = found.scan(items[0][0], len(items) - 1)
+        self.assertEqual((read, rest), (items[:-1], items[-1][0]))
+        self.assertEqual(found.scan(items[0][0], 99), (items, None))
+        self.assertEqual((found.first(), found.last()), (items[0], items[-1]))
+        self.assertEqual((found.wait_first(0), found.wait_first(0, items[0][0])), (items[0], None))
+        self.assertEqual(list(found.items()), items)
+        self.assertEqual(list(found.keys()), [each[0] for each in items])
+        self.assertEqual(list(found.values()), [each[1] for each in items])
+        self.assertEqual(list(reversed(found.items())), items[::-1])
+        self.assertIn(items[0], found.items())
+
+    def check_what_removes(self, found: MapOf[Any, str], plain: dict[Any, str]) -> None:
+        least, most = min(plain), max(plain)
+        self.assertRaises(KeyError, found.pop_first, least)
+        self.assertEqual((found.pop_first(most)[0], found.pop_last(most)[0]), (least, most))
+        self.assertEqual((found.setdefault(least, "new"), found.setdefault(least)), ("new", "new"))
+        found[least] = "newer"
+        self.assertEqual((found.pop(least), found.pop(least, "none")), ("newer", "none"))
+        for call in (found.pop, found.__getitem__, found.__delitem__):
+            with self.assertRaises(KeyError) as raised:
+                call(most)
+            self.assertEqual(raised.exception.args, (most,))
+        found.update({least: "least", most: "most"})
+        del found[most]
+        self.assertEqual((found.popitem(), found.get(most)), ((least, "least"), None))
+        self.assertEqual(len(found), len(plain) - 2)
+        found.clear()
+        self.assertEqual((dict(found), found.collect() >= 0), ({}, True))
+
+    def test_a_map_of_values_has_the_numbers_of_its_map(self) -> None:
+        with MapOf(signed(), {-5: "five"}, nodes=64, workers=2) as found:
+            self.assertEqual((found.nodes, found.capacity, found.workers), (64, 29, 2))
+            self.assertEqual((found.free(), found.waiting()), (57, 0))
+            self.assertEqual(found.raw.first(), (signed().to_key(-5), "five"))
+        self.assertRaises(nm_set.Closed, lambda: -5 in found)
+        self.assertRaises(nm_set.Closed, lambda: "5" in found)
+        self.assertRaises(nm_set.Closed, lambda: found.pop("5", None))
+        with MapOf(floats(), 64) as empty:
+            self.assertEqual((empty.nodes, len(empty)), (64, 0))
+
+    def test_zeros_are_one_key(self) -> None:
+        for mapping in (floats(), floats(32)):
+            with SetOf(mapping, [-0.0]) as numbers:
+                self.assertTrue(0.0 in numbers and -0.0 in numbers and not numbers.add(0))
+                self.assertEqual(math.copysign(1, numbers.pop()), 1)
+
+    def test_nan_is_refused(self) -> None:
+        text = "the value nan is no key: it has no place in the order"
+        with SetOf(floats(), [1.5]) as numbers, MapOf(floats(), {1.5: 0}) as found:
+            self.assertFalse(math.nan in numbers or math.nan in found)
+            calls = (
+                lambda: numbers.add(math.nan),
+                lambda: numbers.at_most(-math.nan),
+                lambda: numbers.irange(math.nan),
+                lambda: numbers.pop_first(math.nan),
+                lambda: found.insert(math.nan, 5),
+                lambda: found.count_range(1.0, math.nan),
+                lambda: MapOf(floats(), {math.nan: 5}),
+            )
+            for call in calls:
+                self.assertRaisesRegex(nm_set.OutOfRange, text, call)
+            self.assertEqual((len(numbers), found.pop(math.nan, "none")), (1, "none"))
+        with SetOf(pairs(floats(32), 32)) as two:
+            self.assertRaisesRegex(nm_set.OutOfRange, text, lambda: two.add((math.nan, 0)))
+            self.assertTrue(two.add((math.inf, 2**32 - 1)))
+
+    def test_numbers_that_are_no_floats_are_refused(self) -> None:
+        with SetOf(floats()) as numbers, SetOf(floats(32)) as small:
+            self.assertTrue(numbers.add(2**53) and numbers.add(Decimal("0.5")))
+            for wrong in (2**53 + 1, 10**400, Decimal("0.1")):
+                text = "is no key: it is no float of 64 bits"
+                with self.assertRaisesRegex(nm_set.OutOfRange, text):
+                    numbers.add(wrong)
+                self.assertNotIn(wrong, numbers)
+            self.assertRaises(TypeError, lambda: numbers.add("5"))
+            for value in (0.1, 1e300, -1e300):
+                text = re.escape(f"{value} is no key: it is no float of 32 bits")
+                with self.assertRaisesRegex(nm_set.OutOfRange, text):
+                    small.add(value)
+        self.assertRaises(ValueError, floats, 16)
+
+    def test_strings_of_bytes_that_are_no_keys_are_refused(self) -> None:
+        with SetOf(short_bytes(), [b"tea"]) as strings:
+            wrong = {
+                b"123456789": "it has 9 bytes, and 8 are the most",
+                b"tea\0": "its last byte is zero, which would be lost",
+                b"\xff" * 8: "of 64 bits the three greatest values are none",
+            }
+            for value, why in wrong.items():
+                with self.assertRaises(nm_set.OutOfRange) as raised:
+                    strings.add(value)
+                self.assertEqual(str(raised.exception), f"the value {value!r} is no key: {why}")
+                self.assertNotIn(value, strings)
+            self.assertRaisesRegex(TypeError, "not str: encode it", lambda: strings.add("tea"))
+            self.assertTrue(strings.add(b"\xff" * 7 + b"\xfc") and strings.add(b"a\0b"))
+            self.assertIsInstance(strings.last(), bytes)
+        self.assertRaises(ValueError, short_bytes, 9)
+
+    def test_what_is_no_mapping_is_refused_with_what_to_take(self) -> None:
+        for kind in (SetOf, MapOf):
+            wanted = ((float, r"floats\(\)"), (bytes, r"short_bytes\(\)"), (str, r"or pairs\("))
+            for wrong, name in wanted:
+                with self.assertRaisesRegex(TypeError, f"is no mapping of keys: write .*{name}"):
+                    kind(wrong)
+            self.assertRaises(TypeError, kind, [5])
+
+    def test_an_unfinished_pop_names_the_value(self) -> None:
+        def unfinished(handle: Any, bound: int, words: Any, key: Any, token: Any) -> int:
+            key.value = floats().to_key(-0.5)
+            return c.UNFINISHED
+
+        with MapOf(floats(), 64) as found:
+            with mock.patch.object(c.quick, "nm_map_pop_first_below", unfinished):
+                with self.assertRaisesRegex(nm_set.Unfinished, "the key -0.5 will be removed"):
+                    found.pop_first()
+
+    def test_a_range_whose_start_is_above_its_end_is_empty(self) -> None:
+        with SetOf(signed(), [5, 7]) as numbers, MapOf(signed(), {5: 0, 7: 0}) as found:
+            self.assertEqual([*numbers.irange(7, 5), *found.irange(7, 5)], [])
+            self.assertEqual([*found.items_range(7, 5)], [])
+            self.assertEqual((numbers.count_range(7, 5), found.count_range(7, 5)), (0, 0))
+
     def test_the_typed_classes_have_each_call(self) -> None:
         def public(kind: type) -> set[str]:
             return {name for name in dir(kind) if not name.startswith("_")}
 
         self.assertEqual(public(nm_set.Set) - public(SetOf), set())
         self.assertEqual(public(nm_set.Worker) - public(nm_set.WorkerOf), set())
+        self.assertEqual(public(nm_set.Map) - public(MapOf), set())
+        self.assertGreater(len(public(nm_set.Map)), 25)
 
     def test_a_set_of_values_has_the_numbers_of_its_set(self) -> None:
         with SetOf(signed(), [-5], nodes=64) as numbers, numbers.worker(3) as worker:
@@ -132,6 +296,13 @@ class Typed(unittest.TestCase):
             shown = ", ".join(map(str, [-7, 5, *range(10, 18)]))
             self.assertEqual(repr(numbers), f"SetOf([{shown}, ...], 12 keys)")
         self.assertEqual(repr(numbers), "SetOf(closed)")
+        with MapOf(floats(), {0.5: "half", -1: "one"}) as found:
+            self.assertEqual(repr(found), "MapOf({-1.0: 'one', 0.5: 'half'})")
+            self.assertRaises(TypeError, copy.copy, found)
+            self.assertRaises(TypeError, copy.deepcopy, found)
+            found.update({number: "x" for number in range(10)})
+            self.assertTrue(repr(found).endswith("7.0: 'x', ...}, 12 keys)"))
+        self.assertEqual(repr(found), "MapOf(closed)")
         with SetOf(TIMES, [FIRST]) as times:
             self.assertEqual(repr(times), f"SetOf([{FIRST!r}])")
 

@@ -6,7 +6,7 @@ use crate::set::Set;
 use std::fmt;
 
 /// The number of keys that `Debug` writes.
-const SHOWN: usize = 10;
+pub(crate) const SHOWN: usize = 10;
 
 /// Returns a set of these keys, which grows.
 fn made_of(keys: &[u64]) -> Result<Set, Fault> {
@@ -91,14 +91,19 @@ pub(crate) fn show<T: fmt::Debug>(
             .collect::<Result<Vec<T>, Fault>>()
     });
     match shown {
-        Ok(values) if values.len() > SHOWN => f
-            .debug_set()
-            .entries(&values[..SHOWN])
-            .entry(&format_args!(".."))
-            .finish(),
-        Ok(values) => f.debug_set().entries(&values).finish(),
+        Ok(values) => show_values(&values, f),
         Err(fault) => write!(f, "{name}({fault})"),
     }
+}
+
+/// Writes ten values, and two dots if there are more.
+pub(crate) fn show_values<T: fmt::Debug>(values: &[T], f: &mut fmt::Formatter<'_>) -> fmt::Result {
+    let mut shown = f.debug_set();
+    shown.entries(values.iter().take(SHOWN));
+    if values.len() > SHOWN {
+        shown.entry(&format_args!(".."));
+    }
+    shown.finish()
 }
 
 impl fmt::Debug for Set {

@@ -12,9 +12,11 @@ use std::fmt;
 pub enum Fault {
     /// This key is above 2^64 - 4 ([`MOST_KEY`](crate::MOST_KEY)).
     Key(u64),
-    /// This value of a [`SetOf`](crate::SetOf) is no key: it is one of the three greatest values of a
-    /// type with 64 bits, or its key is above 2^64 - 4.
+    /// This value of a [`SetOf`](crate::SetOf) or a [`MapOf`](crate::MapOf) is no key: it is one of the
+    /// three greatest values of a type with 64 bits, or its key is above 2^64 - 4.
     Value(Shown),
+    /// This value is no key, because it has no place in the order, like NaN.
+    Unordered(Shown),
     /// This number of nodes is not 7 to 268,435,456.
     Nodes(u64),
     /// This number of workers is not 1 to 64.
@@ -186,6 +188,12 @@ impl fmt::Display for Fault {
                     f,
                     "the value {value} is no key: of a type with 64 bits the three greatest values \
                      are none"
+                )
+            }
+            Fault::Unordered(value) => {
+                return write!(
+                    f,
+                    "the value {value} is no key: it has no place in the order"
                 )
             }
             Fault::Nodes(nodes) => {

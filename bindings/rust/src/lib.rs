@@ -15,6 +15,7 @@ mod report;
 mod set;
 mod shown;
 mod typed;
+mod typed_map;
 mod worker;
 
 pub use fault::{Fault, Full};
@@ -29,6 +30,7 @@ pub use report::Report;
 pub use set::Set;
 pub use shown::Shown;
 pub use typed::{Key, SetOf, Values, WorkerOf};
+pub use typed_map::{GuardOf, GuardedWorkerOf, MapOf, MapWorkerOf};
 pub use worker::{Behind, PinGuard, Stamp, Worker};
 
 /// The greatest key, 2^64 - 4.

@@ -203,9 +203,10 @@ impl<V> Map<V> {
         }
     }
 
-    /// Attaches a worker to this thread, the least number first. While each worker is attached, or
-    /// another thread attaches one, it waits, for the [`timeout_ms`](Options::timeout_ms) of the
-    /// options at most.
+    /// Attaches a worker to this thread: one that was dropped, or else the least number. While each
+    /// worker is attached, or another thread attaches one, it waits, for the
+    /// [`timeout_ms`](Options::timeout_ms) of the options at most. A worker that was dropped costs an
+    /// exchange: so if threads are many, each may take a worker for one call.
     ///
     /// Errors: `NoWorker`, `NoMemory`.
     pub fn attach(&self) -> Result<MapWorker<'_, V>, Fault> {
@@ -278,6 +279,22 @@ pub(crate) fn managed(outcome: Outcome) -> Result<bool, Fault> {
     }
 }
 
+/// Inserts entries by a call for one; returns how many keys were absent.
+pub(crate) fn extend_by<K, V>(
+    entries: impl IntoIterator<Item = (K, V)>,
+    mut insert: impl FnMut(K, V) -> Result<(), InsertError<V>>,
+) -> Result<usize, InsertError<V>> {
+    let mut added = 0;
+    for (key, value) in entries {
+        match insert(key, value) {
+            Ok(()) => added += 1,
+            Err(InsertError::Present(_)) => {}
+            Err(error) => return Err(error),
+        }
+    }
+    Ok(added)
+}
+
 impl<'a, V> MapWorker<'a, V> {
     /// Inserts a key with a value. If the map has the key, it keeps its value, and the error has
     /// the new one.
@@ -318,15 +335,7 @@ impl<'a, V> MapWorker<'a, V> {
         &mut self,
         entries: impl IntoIterator<Item = (u64, V)>,
     ) -> Result<usize, InsertError<V>> {
-        let mut added = 0;
-        for (key, value) in entries {
-            match self.insert(key, value) {
-                Ok(()) => added += 1,
-                Err(InsertError::Present(_)) => {}
-                Err(error) => return Err(error),
-            }
-        }
-        Ok(added)
+        extend_by(entries, |key, value| self.insert(key, value))
     }
 
     /// Removes a key; returns true if it was present. Its value is dropped later, when no guard is

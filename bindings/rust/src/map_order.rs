@@ -187,6 +187,11 @@ impl<'a, V> MapWorker<'a, V> {
 
     /// Returns an iterator over the keys of a range, in both directions, while the map is in use:
     /// see [`Set::range`](crate::Set::range). [`GuardedWorker::range`] returns the values too.
+    ///
+    /// # Panics
+    ///
+    /// It panics if the start of the range is after its end: see [`Set::range`](crate::Set::range).
+    #[track_caller]
     pub fn range(&mut self, bounds: impl RangeBounds<u64>) -> Range<&mut MapWorker<'a, V>> {
         Range::of(self, bounds)
     }
@@ -210,6 +215,11 @@ impl<'a, V> MapWorker<'a, V> {
     /// the whole call is returned.
     ///
     /// Errors: `Contention`, `Pinned`.
+    ///
+    /// # Panics
+    ///
+    /// It panics if the start of the range is after its end: see [`Set::range`](crate::Set::range).
+    #[track_caller]
     pub fn keys(&mut self, bounds: impl RangeBounds<u64>) -> Result<Vec<u64>, Fault> {
         self.range(bounds).collect()
     }
@@ -233,6 +243,11 @@ impl<'a, V> MapWorker<'a, V> {
     /// as it finds it.
     ///
     /// Errors: `Contention`, `Pinned`.
+    ///
+    /// # Panics
+    ///
+    /// It panics if the start of the range is after its end: see [`Set::range`](crate::Set::range).
+    #[track_caller]
     pub fn count(&mut self, bounds: impl RangeBounds<u64>) -> Result<u64, Fault> {
         let Some(ends) = ends_of(bounds) else {
             return Ok(0);
@@ -330,6 +345,11 @@ impl<'w, 'a, 'g, V> GuardedWorker<'w, 'a, 'g, V> {
     /// map had each key with its value at a moment of such a call. A key that is in the map during
     /// the whole iteration is returned, and a key that is absent during all of it is not. Items are
     /// results; the iterator ends after the first fault: `Contention`, `Pinned`.
+    ///
+    /// # Panics
+    ///
+    /// It panics if the start of the range is after its end: see [`Set::range`](crate::Set::range).
+    #[track_caller]
     pub fn range(&mut self, bounds: impl RangeBounds<u64>) -> Range<&mut Self> {
         Range::of(self, bounds)
     }

@@ -111,8 +111,21 @@ pub(crate) fn retain(
     Ok(())
 }
 
-/// Returns the least and the greatest key of these bounds, or None if they have no key.
+/// Returns the least and the greatest key of these bounds, or None if they have no key. Like the
+/// `range` of `BTreeSet`, it panics if the start is after the end, or if both are one key that is
+/// excluded.
+#[track_caller]
 pub(crate) fn ends_of(bounds: impl RangeBounds<u64>) -> Option<(u64, u64)> {
+    match (bounds.start_bound(), bounds.end_bound()) {
+        (Bound::Excluded(start), Bound::Excluded(end)) if start == end => {
+            panic!("the start and the end of the range are one key, which both exclude")
+        }
+        (
+            Bound::Included(start) | Bound::Excluded(start),
+            Bound::Included(end) | Bound::Excluded(end),
+        ) if start > end => panic!("the start of the range is after its end"),
+        _ => {}
+    }
     let low = match bounds.start_bound() {
         Bound::Included(&key) => Some(key),
         Bound::Excluded(&key) => key.checked_add(1),
@@ -143,6 +156,7 @@ pub struct Range<C: Scans> {
 }
 
 impl<C: Scans> Range<C> {
+    #[track_caller]
     pub(crate) fn of(calls: C, bounds: impl RangeBounds<u64>) -> Range<C> {
         Range {
             calls,

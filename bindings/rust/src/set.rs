@@ -296,7 +296,7 @@ impl Set {
     /// Returns an iterator over the keys of a range, while the set is in use. It reads keys ahead,
     /// in blocks of 1, 8, 16 and so on to 512, each by one call. It may return or skip a key that is
     /// inserted or removed meanwhile. It returns no key that was removed before its block was
-    /// read. A range whose start is above its end has no keys; with a `BTreeSet` it panics.
+    /// read.
     ///
     /// ```
     /// # fn main() -> Result<(), nm_set::Fault> {
@@ -308,6 +308,12 @@ impl Set {
     /// # Ok(())
     /// # }
     /// ```
+    ///
+    /// # Panics
+    ///
+    /// Like `BTreeSet::range` it panics if the start of the range is after its end, or if both are one
+    /// key that is excluded.
+    #[track_caller]
     pub fn range(&self, bounds: impl RangeBounds<u64>) -> Range<&Set> {
         Range::of(self, bounds)
     }
@@ -345,6 +351,11 @@ impl Set {
     /// # Ok(())
     /// # }
     /// ```
+    ///
+    /// # Panics
+    ///
+    /// It panics if the start of the range is after its end: see [`Set::range`](crate::Set::range).
+    #[track_caller]
     pub fn count(&self, bounds: impl RangeBounds<u64>) -> Result<u64, Fault> {
         order::ends_of(bounds).map_or(Ok(0), |ends| self.place().count(ends))
     }

@@ -1,4 +1,4 @@
-//! Sets whose keys are of another type than `u64`.
+//! Types whose values are keys, and sets of them.
 
 use crate::convert::show;
 use crate::fault::{Fault, Full};
@@ -14,11 +14,15 @@ use std::marker::PhantomData;
 use std::ops::{Bound, RangeBounds};
 use std::time::Duration;
 
-/// A type whose values a [`SetOf`] has: it maps them to keys and back, and keeps their order.
+/// A type whose values a [`SetOf`] or a [`MapOf`](crate::MapOf) has as keys: it maps them to keys
+/// and back, and keeps their order.
 ///
-/// It is implemented for the integers of at most 64 bits, and for pairs of these that have 64 bits
-/// together at most. 2^64 - 3 and greater numbers are no keys ([`MOST_KEY`]): so of a type with 64
-/// bits the three greatest values return [`Fault::Value`], with the value in its text.
+/// It is implemented for the integers of at most 64 bits, `char`, `f32`, `f64`, strings of bytes
+/// (`[u8; N]` of 1 to 8 bytes, all of which count, also zero bytes at the end), and for tuples of
+/// two to four of these that have 64 bits together at most. 2^64 - 3 and greater numbers are no
+/// keys ([`MOST_KEY`]): so of a type with 64 bits the three greatest values return
+/// [`Fault::Value`], with the value in its text. NaN returns [`Fault::Unordered`]. -0.0 and 0.0
+/// are one key, which comes back as 0.0.
 ///
 /// A type of the program's own, here the time of a task and its number:
 ///
@@ -49,7 +53,16 @@ use std::time::Duration;
 /// # Ok(())
 /// # }
 /// ```
-pub trait Key: Copy + Ord {
+#[cfg_attr(
+    says_what_to_do,
+    diagnostic::on_unimplemented(
+        message = "`{Self}` has no mapping to keys of a set or a map",
+        label = "no `nm_set::Key`",
+        note = "take an integer, `char`, `f64`, `[u8; 8]`, or a tuple of these with at most 64 bits",
+        note = "or implement `nm_set::Key` for a type of your own"
+    )
+)]
+pub trait Key: Copy + PartialOrd {
     /// The number of bits of the keys: each key is below 2^BITS.
     const BITS: u32;
 
@@ -59,8 +72,13 @@ pub trait Key: Copy + Ord {
     /// Returns the value of a key that `to_key` returned.
     fn from_key(key: u64) -> Self;
 
-    /// Writes the value for the text of [`Fault::Value`]. If a type does not say how, this writes the
-    /// number of its key.
+    /// Returns whether the value has a place in the order of its type. NaN has none, and is no key.
+    fn is_ordered(self) -> bool {
+        true
+    }
+
+    /// Writes the value for the text of [`Fault::Value`]. If a type does not say how, this writes
+    /// the number of its key.
     fn write_to(self, to: &mut dyn fmt::Write) -> fmt::Result {
         write!(to, "with the key {}", self.to_key())
     }
@@ -104,64 +122,223 @@ macro_rules! signed {
 unsigned!(u8, u16, u32, u64, usize);
 signed!(i8 as u8, i16 as u16, i32 as u32, i64 as u64, isize as usize);
 
-/// The first value decides, and then the second one. A pair of more than 64 bits does not compile.
-impl<A: Key, B: Key> Key for (A, B) {
-    const BITS: u32 = {
-        assert!(
-            A::BITS + B::BITS <= 64,
-            "the two types of the pair have more than 64 bits together"
-        );
-        A::BITS + B::BITS
-    };
+/// Of a number with a sign all bits are turned, and of another one the sign bit: so the bits ascend
+/// with the numbers.
+macro_rules! float {
+    ($($type:ty as $unsigned:ty),*) => {$(
+        impl Key for $type {
+            const BITS: u32 = <$unsigned>::BITS;
+            fn to_key(self) -> u64 {
+                let bits = (self + 0.0).to_bits(); // -0.0 becomes 0.0
+                let sign = 1 << (<$unsigned>::BITS - 1);
+                (if bits & sign == 0 { bits | sign } else { !bits }) as u64
+            }
+            fn from_key(key: u64) -> $type {
+                let bits = key as $unsigned;
+                let sign = 1 << (<$unsigned>::BITS - 1);
+                <$type>::from_bits(if bits & sign == 0 { !bits } else { bits ^ sign })
+            }
+            fn is_ordered(self) -> bool {
+                !self.is_nan()
+            }
+            fn write_to(self, to: &mut dyn fmt::Write) -> fmt::Result {
+                write!(to, "{self:?}")
+            }
+        }
+    )*};
+}
+
+float!(f32 as u32, f64 as u64);
+
+impl Key for char {
+    const BITS: u32 = u32::BITS;
 
     fn to_key(self) -> u64 {
-        debug_assert!(Self::BITS <= 64);
-        self.0.to_key() << B::BITS | self.1.to_key()
+        self.into()
     }
 
-    fn from_key(key: u64) -> (A, B) {
-        let low = key & (u64::MAX >> (64 - B::BITS));
-        (A::from_key(key >> B::BITS), B::from_key(low))
+    fn from_key(key: u64) -> char {
+        u32::try_from(key)
+            .ok()
+            .and_then(char::from_u32)
+            .expect("to_key returned the key")
     }
 
     fn write_to(self, to: &mut dyn fmt::Write) -> fmt::Result {
-        to.write_char('(')?;
-        self.0.write_to(to)?;
-        to.write_str(", ")?;
-        self.1.write_to(to)?;
-        to.write_char(')')
+        write!(to, "{self:?}")
     }
 }
 
-/// Returns the key of a value, or `Value` if it has none. A mapping whose bits do not fit does not
-/// compile.
-fn key_of<K: Key>(value: K) -> Result<u64, Fault> {
+/// The first byte decides, and then the next one.
+impl<const N: usize> Key for [u8; N] {
+    const BITS: u32 = {
+        assert!(N >= 1 && N <= 8, "a key has 1 to 8 bytes");
+        8 * N as u32
+    };
+
+    fn to_key(self) -> u64 {
+        self.iter().fold(0, |key, &byte| key << 8 | u64::from(byte))
+    }
+
+    fn from_key(key: u64) -> [u8; N] {
+        let bytes = key.to_be_bytes();
+        std::array::from_fn(|at| bytes[8 - N + at])
+    }
+
+    fn write_to(self, to: &mut dyn fmt::Write) -> fmt::Result {
+        write!(to, "b\"{}\"", self.escape_ascii())
+    }
+}
+
+/// The first value decides, and then the next one. A tuple of more than 64 bits does not compile.
+macro_rules! tuple {
+    ($first:ident $first_at:tt $(, $part:ident $at:tt)*) => {
+        impl<$first: Key $(, $part: Key)*> Key for ($first $(, $part)*) {
+            const BITS: u32 = {
+                assert!(
+                    $first::BITS $(+ $part::BITS)* <= 64,
+                    "the types of the tuple have more than 64 bits together"
+                );
+                $first::BITS $(+ $part::BITS)*
+            };
+
+            fn to_key(self) -> u64 {
+                debug_assert!(Self::BITS <= 64);
+                let key = self.$first_at.to_key();
+                $(let key = key << $part::BITS | self.$at.to_key();)*
+                key
+            }
+
+            fn from_key(key: u64) -> Self {
+                let mut above = Self::BITS;
+                let mut part = |bits: u32| {
+                    above -= bits;
+                    key >> above & (u64::MAX >> (64 - bits))
+                };
+                ($first::from_key(part($first::BITS)) $(, $part::from_key(part($part::BITS)))*)
+            }
+
+            fn is_ordered(self) -> bool {
+                self.$first_at.is_ordered() $(&& self.$at.is_ordered())*
+            }
+
+            fn write_to(self, to: &mut dyn fmt::Write) -> fmt::Result {
+                to.write_char('(')?;
+                self.$first_at.write_to(to)?;
+                $(
+                    to.write_str(", ")?;
+                    self.$at.write_to(to)?;
+                )*
+                to.write_char(')')
+            }
+        }
+    };
+}
+
+tuple!(A 0, B 1);
+tuple!(A 0, B 1, C 2);
+tuple!(A 0, B 1, C 2, D 3);
+
+/// What a call returns for a key, which a typed set or map returns with the value of the key.
+pub trait Entry<K> {
+    /// What a typed set or map returns.
+    type Typed;
+    /// Returns the key.
+    fn key(&self) -> u64;
+    /// Returns the entry with the value of its key.
+    fn typed(self) -> Self::Typed;
+}
+
+impl<K: Key> Entry<K> for u64 {
+    type Typed = K;
+
+    fn key(&self) -> u64 {
+        *self
+    }
+
+    fn typed(self) -> K {
+        K::from_key(self)
+    }
+}
+
+impl<K: Key, V> Entry<K> for (u64, V) {
+    type Typed = (K, V);
+
+    fn key(&self) -> u64 {
+        self.0
+    }
+
+    fn typed(self) -> (K, V) {
+        (K::from_key(self.0), self.1)
+    }
+}
+
+/// Returns the key of a bound, which may be no key, or `Unordered` if it has no place in the
+/// order. A mapping whose bits do not fit does not compile.
+pub(crate) fn bound_of<K: Key>(value: K) -> Result<u64, Fault> {
     let _ = K::BITS;
-    let key = value.to_key();
+    if !value.is_ordered() {
+        return Err(Fault::Unordered(Shown::of(|to| value.write_to(to))));
+    }
+    Ok(value.to_key())
+}
+
+/// Returns the key of a value, or the fault if it has none.
+pub(crate) fn key_of<K: Key>(value: K) -> Result<u64, Fault> {
+    let key = bound_of(value)?;
     if key > MOST_KEY {
         return Err(Fault::Value(Shown::of(|to| value.write_to(to))));
     }
     Ok(key)
 }
 
-/// Returns the keys of these values, or `Value` for the first one that has none.
-fn keys_of<K: Key>(values: &[K]) -> Result<Vec<u64>, Fault> {
+/// Returns what a scan from a value on returns: it reads one key more than `room`, so that `next`
+/// is a value that there was.
+pub(crate) fn scan_of<K: Key, E: Entry<K>>(
+    from: K,
+    room: usize,
+    scan: impl FnOnce(u64, usize) -> Result<Scanned<E>, Fault>,
+) -> Result<Scanned<E::Typed, K>, Fault> {
+    let mut entries = scan(bound_of(from)?, room.saturating_add(1))?.entries;
+    let next = if entries.len() > room {
+        entries.pop()
+    } else {
+        None
+    };
+    Ok(Scanned {
+        entries: entries.into_iter().map(E::typed).collect(),
+        next: next.map(|entry| K::from_key(entry.key())),
+    })
+}
+
+/// Returns the keys of these values, or the fault of the first one that has none.
+pub(crate) fn keys_of<K: Key>(values: &[K]) -> Result<Vec<u64>, Fault> {
     values.iter().map(|&value| key_of(value)).collect()
 }
 
 /// Returns the keys of a set of values. A value that has no key is in no set.
-fn set_of<K: Key>(values: &BTreeSet<K>) -> BTreeSet<u64> {
+fn set_of<K: Key + Ord>(values: &BTreeSet<K>) -> BTreeSet<u64> {
     values.iter().map(|&value| value.to_key()).collect()
 }
 
-/// The bounds of the keys of a range of values.
-fn bounds_of<K: Key>(range: impl RangeBounds<K>) -> (Bound<u64>, Bound<u64>) {
-    let key = |bound: Bound<&K>| match bound {
-        Bound::Included(&value) => Bound::Included(value.to_key()),
-        Bound::Excluded(&value) => Bound::Excluded(value.to_key()),
-        Bound::Unbounded => Bound::Unbounded,
-    };
-    (key(range.start_bound()), key(range.end_bound()))
+/// The bounds of the keys of a range of values. It panics if a bound has no place in the order.
+#[track_caller]
+pub(crate) fn bounds_of<K: Key>(range: impl RangeBounds<K>) -> (Bound<u64>, Bound<u64>) {
+    let ends = [range.start_bound(), range.end_bound()].map(|bound| match bound {
+        Bound::Included(&value) => Ok(Bound::Included(bound_of(value)?)),
+        Bound::Excluded(&value) => Ok(Bound::Excluded(bound_of(value)?)),
+        Bound::Unbounded => Ok(Bound::Unbounded),
+    });
+    match ends {
+        [Ok(start), Ok(end)] => (start, end),
+        [Err(fault), _] | [_, Err(fault)] => panic_by(fault),
+    }
+}
+
+/// Panics by a fault, in a call that returns none.
+#[track_caller]
+pub(crate) fn panic_by(fault: Fault) -> ! {
+    panic!("{fault}")
 }
 
 /// A [`Set`] whose keys are values of a type that maps to keys: see [`Key`]. Each call makes the
@@ -187,12 +364,12 @@ fn bounds_of<K: Key>(range: impl RangeBounds<K>) -> (Bound<u64>, Bound<u64>) {
 /// let set = nm_set::SetOf::<(u64, u8)>::new().unwrap();
 /// set.insert((1, 2)).unwrap();
 /// ```
-pub struct SetOf<K> {
+pub struct SetOf<K: Key> {
     set: Set,
     of: PhantomData<fn(K) -> K>,
 }
 
-impl<K> Clone for SetOf<K> {
+impl<K: Key> Clone for SetOf<K> {
     fn clone(&self) -> SetOf<K> {
         SetOf {
             set: self.set.clone(),
@@ -201,7 +378,7 @@ impl<K> Clone for SetOf<K> {
     }
 }
 
-impl<K> From<Set> for SetOf<K> {
+impl<K: Key> From<Set> for SetOf<K> {
     /// Returns the set of values of a set of keys.
     fn from(set: Set) -> SetOf<K> {
         SetOf {
@@ -288,18 +465,27 @@ impl<K: Key> SetOf<K> {
     }
 
     /// Returns whether each value of the set is one of these.
-    pub fn is_subset(&self, other: &BTreeSet<K>) -> Result<bool, Fault> {
+    pub fn is_subset(&self, other: &BTreeSet<K>) -> Result<bool, Fault>
+    where
+        K: Ord,
+    {
         self.set.is_subset(&set_of(other))
     }
 
     /// Returns whether the set has each of these values.
-    pub fn is_superset(&self, other: &BTreeSet<K>) -> Result<bool, Fault> {
+    pub fn is_superset(&self, other: &BTreeSet<K>) -> Result<bool, Fault>
+    where
+        K: Ord,
+    {
         let has_keys = other.iter().all(|value| value.to_key() <= MOST_KEY);
         Ok(has_keys && self.set.is_superset(&set_of(other))?)
     }
 
     /// Returns whether the set has none of these values.
-    pub fn is_disjoint(&self, other: &BTreeSet<K>) -> Result<bool, Fault> {
+    pub fn is_disjoint(&self, other: &BTreeSet<K>) -> Result<bool, Fault>
+    where
+        K: Ord,
+    {
         self.set.is_disjoint(&set_of(other))
     }
 
@@ -310,7 +496,7 @@ impl<K: Key> SetOf<K> {
 
     /// Returns the greatest value that is not above this one, or None if there is none.
     pub fn at_most(&self, value: K) -> Result<Option<K>, Fault> {
-        let key = value.to_key().min(MOST_KEY);
+        let key = bound_of(value)?.min(MOST_KEY);
         Ok(self.set.at_most(key)?.map(K::from_key))
     }
 
@@ -336,18 +522,18 @@ impl<K: Key> SetOf<K> {
 
     /// Removes the least value if it is below a bound, and returns it, or None if none is.
     pub fn pop_first_below(&self, below: K) -> Result<Option<K>, Fault> {
-        Ok(self.set.pop_first_below(below.to_key())?.map(K::from_key))
+        Ok(self.set.pop_first_below(bound_of(below)?)?.map(K::from_key))
     }
 
     /// Removes the greatest value if it is not below a bound, and returns it.
     pub fn pop_last_from(&self, from: K) -> Result<Option<K>, Fault> {
-        Ok(self.set.pop_last_from(from.to_key())?.map(K::from_key))
+        Ok(self.set.pop_last_from(bound_of(from)?)?.map(K::from_key))
     }
 
     /// Removes the least values that are below a bound, at most `room`, and returns them: see
     /// [`Set::pop_first_many`].
     pub fn pop_first_many(&self, below: K, room: usize) -> Result<Vec<K>, Fault> {
-        let keys = self.set.pop_first_many(below.to_key(), room)?;
+        let keys = self.set.pop_first_many(bound_of(below)?, room)?;
         Ok(keys.into_iter().map(K::from_key).collect())
     }
 
@@ -359,7 +545,7 @@ impl<K: Key> SetOf<K> {
 
     /// Does the same with the least value that is below a bound.
     pub fn wait_pop_below(&self, below: K, timeout: Duration) -> Result<Option<K>, Fault> {
-        let key = self.set.wait_pop_below(below.to_key(), timeout)?;
+        let key = self.set.wait_pop_below(bound_of(below)?, timeout)?;
         Ok(key.map(K::from_key))
     }
 
@@ -371,16 +557,28 @@ impl<K: Key> SetOf<K> {
 
     /// Does the same with the least value that is below a bound.
     pub fn wait_first_below(&self, below: K, timeout: Duration) -> Result<Option<K>, Fault> {
-        let key = self.set.wait_first_below(below.to_key(), timeout)?;
+        let key = self.set.wait_first_below(bound_of(below)?, timeout)?;
         Ok(key.map(K::from_key))
     }
 
     /// Returns how many values of a range there are: see [`Set::count`].
+    ///
+    /// # Panics
+    ///
+    /// It panics if the start of the range is after its end, or if a bound is NaN: see
+    /// [`Set::range`].
+    #[track_caller]
     pub fn count(&self, bounds: impl RangeBounds<K>) -> Result<u64, Fault> {
         self.set.count(bounds_of(bounds))
     }
 
     /// Returns an iterator over the values of a range, in both directions: see [`Set::range`].
+    ///
+    /// # Panics
+    ///
+    /// It panics if the start of the range is after its end, or if a bound is NaN: see
+    /// [`Set::range`].
+    #[track_caller]
     pub fn range(&self, bounds: impl RangeBounds<K>) -> Values<K, Range<&Set>> {
         Values::of(self.set.range(bounds_of(bounds)))
     }
@@ -393,15 +591,7 @@ impl<K: Key> SetOf<K> {
     /// Returns at most `room` values from one on, and where to go on: see [`Set::scan`]. That is a
     /// value that the set had, for which the scan reads one key more.
     pub fn scan(&self, from: K, room: usize) -> Result<Scanned<K, K>, Fault> {
-        let mut keys = self
-            .set
-            .scan(from.to_key(), room.saturating_add(1))?
-            .entries;
-        let next = if keys.len() > room { keys.pop() } else { None };
-        Ok(Scanned {
-            entries: keys.into_iter().map(K::from_key).collect(),
-            next: next.map(K::from_key),
-        })
+        scan_of(from, room, |key, room| self.set.scan(key, room))
     }
 
     /// Returns how many values the set has: see [`Set::len`].
@@ -499,12 +689,12 @@ impl<K: Key + fmt::Debug> fmt::Debug for SetOf<K> {
 }
 
 /// A [`Worker`] of a [`SetOf`].
-pub struct WorkerOf<K> {
+pub struct WorkerOf<K: Key> {
     worker: Worker,
     of: PhantomData<fn(K) -> K>,
 }
 
-impl<K> From<Worker> for WorkerOf<K> {
+impl<K: Key> From<Worker> for WorkerOf<K> {
     /// Returns the worker for values of a worker for keys.
     fn from(worker: Worker) -> WorkerOf<K> {
         WorkerOf {
@@ -551,20 +741,20 @@ impl<K: Key> WorkerOf<K> {
     }
 }
 
-impl<K> fmt::Debug for WorkerOf<K> {
+impl<K: Key> fmt::Debug for WorkerOf<K> {
     fn fmt(&self, f: &mut fmt::Formatter<'_>) -> fmt::Result {
         write!(f, "WorkerOf({:?})", self.worker)
     }
 }
 
-/// The values of a range: see [`SetOf::range`].
+/// The values of a range, or of a map the entries: see [`SetOf::range`].
 pub struct Values<K, I> {
     keys: I,
     of: PhantomData<fn(K) -> K>,
 }
 
 impl<K, I> Values<K, I> {
-    fn of(keys: I) -> Values<K, I> {
+    pub(crate) fn of(keys: I) -> Values<K, I> {
         Values {
             keys,
             of: PhantomData,
@@ -578,18 +768,64 @@ impl<K, I> fmt::Debug for Values<K, I> {
     }
 }
 
-impl<K: Key, I: Iterator<Item = Result<u64, Fault>>> Iterator for Values<K, I> {
-    type Item = Result<K, Fault>;
+impl<K: Key, E: Entry<K>, I: Iterator<Item = Result<E, Fault>>> Iterator for Values<K, I> {
+    type Item = Result<E::Typed, Fault>;
 
-    fn next(&mut self) -> Option<Result<K, Fault>> {
-        Some(self.keys.next()?.map(K::from_key))
+    fn next(&mut self) -> Option<Self::Item> {
+        Some(self.keys.next()?.map(E::typed))
     }
 }
 
-impl<K: Key, I: DoubleEndedIterator<Item = Result<u64, Fault>>> DoubleEndedIterator
+impl<K: Key, E: Entry<K>, I: DoubleEndedIterator<Item = Result<E, Fault>>> DoubleEndedIterator
     for Values<K, I>
 {
-    fn next_back(&mut self) -> Option<Result<K, Fault>> {
-        Some(self.keys.next_back()?.map(K::from_key))
+    fn next_back(&mut self) -> Option<Self::Item> {
+        Some(self.keys.next_back()?.map(E::typed))
+    }
+}
+
+impl<'a, K: Key> IntoIterator for &'a SetOf<K> {
+    type Item = Result<K, Fault>;
+    type IntoIter = Values<K, Range<&'a Set>>;
+
+    fn into_iter(self) -> Self::IntoIter {
+        self.iter()
+    }
+}
+
+impl<K: Key> FromIterator<K> for SetOf<K> {
+    /// Returns a set of these values, which grows.
+    ///
+    /// # Panics
+    ///
+    /// It panics if a value is no key, or if memory is refused. [`SetOf::new`] and
+    /// [`SetOf::extend`] return a fault instead.
+    fn from_iter<I: IntoIterator<Item = K>>(values: I) -> SetOf<K> {
+        let key = |value| key_of(value).unwrap_or_else(|fault| panic_by(fault));
+        SetOf::from(values.into_iter().map(key).collect::<Set>())
+    }
+}
+
+impl<K: Key, const N: usize> From<[K; N]> for SetOf<K> {
+    /// Returns a set of these values, which grows: see [`from_iter`](SetOf::from_iter).
+    ///
+    /// # Panics
+    ///
+    /// It panics if a value is no key, or if memory is refused.
+    fn from(values: [K; N]) -> SetOf<K> {
+        values.into_iter().collect()
+    }
+}
+
+impl<K: Key> Extend<K> for SetOf<K> {
+    /// Inserts these values.
+    ///
+    /// # Panics
+    ///
+    /// It panics if the inherent [`SetOf::extend`] returns a fault.
+    fn extend<I: IntoIterator<Item = K>>(&mut self, values: I) {
+        if let Err(fault) = SetOf::extend(self, values) {
+            panic_by(fault)
+        }
     }
 }

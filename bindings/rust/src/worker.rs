@@ -236,6 +236,11 @@ impl Worker {
     }
 
     /// Returns an iterator over the keys of a range, in both directions: see [`Set::range`].
+    ///
+    /// # Panics
+    ///
+    /// It panics if the start of the range is after its end: see [`Set::range`](crate::Set::range).
+    #[track_caller]
     pub fn range(&mut self, bounds: impl RangeBounds<u64>) -> Range<&mut Worker> {
         Range::of(self, bounds)
     }
@@ -251,6 +256,11 @@ impl Worker {
     }
 
     /// Returns how many keys of a range the set has: see [`Set::count`].
+    ///
+    /// # Panics
+    ///
+    /// It panics if the start of the range is after its end: see [`Set::range`](crate::Set::range).
+    #[track_caller]
     pub fn count(&mut self, bounds: impl RangeBounds<u64>) -> Result<u64, Fault> {
         order::ends_of(bounds).map_or(Ok(0), |ends| self.place().count(ends))
     }

@@ -419,3 +419,39 @@ fn no_reader_gets_a_value_that_was_dropped() {
     assert_eq!(counts.alive(), 0);
     assert!(counts.dropped.load(SeqCst) > threads * calls / 10);
 }
+
+/// Many more threads than workers call a map: each takes a worker for a call, and returns it.
+#[test]
+fn many_threads_take_a_worker_for_a_call() {
+    const TURNS: u64 = 50;
+    let options = Options {
+        workers: 8,
+        timeout_ms: 60_000,
+        ..Options::default()
+    };
+    let map: Map<u64> = Map::with_options(65_536, options).unwrap();
+    std::thread::scope(|scope| {
+        for thread in 0..200 {
+            let map = &map;
+            scope.spawn(move || {
+                for key in thread * TURNS..(thread + 1) * TURNS {
+                    map.attach().unwrap().insert(key, key).unwrap();
+                    let mut reader = map.attach().unwrap();
+                    assert_eq!(reader.pin().unwrap().get(key).unwrap(), Some(&key));
+                    drop(reader);
+                    if key % 2 == 0 {
+                        assert!(map.attach().unwrap().remove(key).unwrap());
+                    }
+                }
+            });
+        }
+    });
+    assert_eq!(map.len().unwrap() as u64, 200 * TURNS / 2);
+    assert!(map
+        .attach()
+        .unwrap()
+        .keys(..)
+        .unwrap()
+        .iter()
+        .all(|key| key % 2 == 1));
+}

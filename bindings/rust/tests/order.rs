@@ -107,8 +107,6 @@ fn ranges_of_all_kinds_are_those_of_a_btree_set() {
         (Included(u64::MAX), Included(u64::MAX)),
         (Excluded(u64::MAX), Unbounded)
     );
-    let (five, three) = (5, 3);
-    assert_eq!(all(set.range(five..three)), []);
 }
 
 #[test]
@@ -344,4 +342,38 @@ fn a_walk_beside_changes_tells_what_stands() {
         }
         is_done.store(true, Ordering::Relaxed);
     });
+}
+
+/// What a call panics with, or None.
+fn panic_of(call: impl FnOnce() + std::panic::UnwindSafe) -> Option<String> {
+    let caught = std::panic::catch_unwind(call).err()?;
+    let text = caught.downcast_ref::<&str>().map(|text| text.to_string());
+    Some(
+        text.or_else(|| caught.downcast_ref::<String>().cloned())
+            .unwrap(),
+    )
+}
+
+#[test]
+fn ranges_panic_where_those_of_a_tree_do() {
+    use std::collections::BTreeSet;
+    use std::ops::Bound::{self, Excluded, Included, Unbounded};
+    let each = [5_u64, 6, u64::MAX]
+        .iter()
+        .flat_map(|&key| [Included(key), Excluded(key)]);
+    let each: Vec<Bound<u64>> = each.chain([Unbounded]).collect();
+    let mut panics = 0;
+    for &start in &each {
+        for &end in &each {
+            let of_tree = panic_of(move || drop(BTreeSet::from([5_u64]).range((start, end))));
+            let of_set = panic_of(move || drop(Set::from([5_u64]).range((start, end))));
+            assert_eq!(of_tree.is_some(), of_set.is_some(), "{start:?} {end:?}");
+            let of_count = panic_of(move || {
+                let _ = Set::from([5_u64]).attach().unwrap().count((start, end));
+            });
+            assert_eq!(of_set, of_count);
+            panics += usize::from(of_set.is_some());
+        }
+    }
+    assert!(panics > 10);
 }

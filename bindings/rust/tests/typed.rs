@@ -6,7 +6,7 @@ use std::fmt::Debug;
 use std::time::Duration;
 
 /// Makes calls on a set of values and on a `BTreeSet`, and compares the answers.
-fn answers_like<K: Key + Debug>(values: &[K]) {
+fn answers_like<K: Key + Ord + Debug>(values: &[K]) {
     let set = SetOf::<K>::new().unwrap();
     let mut peer = BTreeSet::new();
     let mut worker = set.attach().unwrap();
@@ -60,7 +60,7 @@ fn answers_like<K: Key + Debug>(values: &[K]) {
 }
 
 /// The calls for several values, and those up to a bound. They leave the set as it was.
-fn answers_for_many_like<K: Key + Debug>(set: &SetOf<K>, peer: &BTreeSet<K>) {
+fn answers_for_many_like<K: Key + Ord + Debug>(set: &SetOf<K>, peer: &BTreeSet<K>) {
     let all: Vec<K> = peer.iter().copied().collect();
     let &[least, .., most] = &all[..] else { return };
     let (mut removed, mut inserted) = (Vec::new(), Vec::new());
@@ -122,6 +122,113 @@ fn sets_of_each_type_answer_like_a_tree() {
 }
 
 #[test]
+fn sets_of_strings_and_longer_tuples_answer_like_a_tree() {
+    answers_like(&[*b"tea", *b"te\0", [255; 3], *b"\0\0\0", *b"tf\x80"]);
+    answers_like(&[
+        *b"eight by",
+        [0; 8],
+        *b"eight b\0",
+        [255, 255, 0, 0, 0, 0, 0, 1],
+    ]);
+    answers_like(&['a', '\0', char::MAX, 'ä', '\u{e000}']);
+    answers_like(&[
+        (-1_i8, 'x', *b"ab"),
+        (-1, 'w', *b"ab"),
+        (-1, 'x', *b"aa"),
+        (5, '\0', [0; 2]),
+    ]);
+    answers_like(&[
+        (1_u8, -2_i16, 3_u8, 4_u32),
+        (1, -2, 2, 9),
+        (0, i16::MAX, 255, 1),
+        (1, -3, 0, 0),
+    ]);
+}
+
+/// Floats, with the least and the greatest ones, have the order of their keys.
+#[test]
+fn floats_answer_like_a_sorted_list() {
+    let values = [
+        f64::NEG_INFINITY,
+        f64::MIN,
+        -1.5,
+        -5e-324,
+        0.0,
+        5e-324,
+        f64::MIN_POSITIVE,
+        0.1,
+        f64::MAX,
+        f64::INFINITY,
+    ];
+    let set: SetOf<f64> = values.iter().rev().copied().collect();
+    let all: Result<Vec<f64>, Fault> = (&set).into_iter().collect();
+    assert_eq!(all, Ok(values.to_vec()));
+    let small = values.map(|value| value as f32);
+    let keys = small.map(Key::to_key);
+    assert!(keys.windows(2).all(|two| two[0] <= two[1]));
+    assert_eq!(keys.map(f32::from_key), small);
+    let some: Result<Vec<f64>, Fault> = set.range(-1.5..0.1).rev().collect();
+    let mut wanted = values[2..7].to_vec();
+    wanted.reverse();
+    assert_eq!((some, set.count(..=0.0)), (Ok(wanted), Ok(5)));
+    assert_eq!(set.at_least(0.2), Ok(Some(f64::MAX)));
+    assert_eq!(set.pop_first_below(-1e9), Ok(Some(f64::NEG_INFINITY)));
+}
+
+#[test]
+fn zeros_are_one_key() {
+    let set = SetOf::from([-0.0_f64]);
+    assert_eq!((set.insert(0.0), set.contains(-0.0)), (Ok(false), Ok(true)));
+    assert!(set.first().unwrap().is_some_and(f64::is_sign_positive));
+    let pairs = SetOf::from([(-0.0_f32, 5_u32)]);
+    assert_eq!((pairs.contains((0.0, 5)), pairs.len()), (Ok(true), Ok(1)));
+}
+
+#[test]
+fn nan_is_refused() {
+    let set = SetOf::from([1.5_f64]);
+    let refused = set.insert(f64::NAN).unwrap_err();
+    let text = "the value NaN is no key: it has no place in the order";
+    assert_eq!(refused.to_string(), text);
+    assert!(matches!(refused, Fault::Unordered(value) if value.as_str() == "NaN"));
+    assert_eq!(
+        set.contains(-f64::NAN).map_err(|it| it.to_string()),
+        Err(text.to_owned())
+    );
+    assert_eq!(set.at_most(f64::NAN), Err(refused));
+    assert_eq!(set.scan(f64::NAN, 5).map(|_| ()), Err(refused));
+    assert_eq!(set.pop_first_below(f64::NAN), Err(refused));
+    assert_eq!(set.pop_first_many(f64::NAN, 5), Err(refused));
+    assert_eq!(set.wait_first_below(f64::NAN, Duration::ZERO), Err(refused));
+    let pairs = SetOf::<(f32, u32)>::new().unwrap();
+    let refused = pairs.insert((f32::NAN, 0)).unwrap_err().to_string();
+    assert!(
+        refused.starts_with("the value (NaN, 0) is no key"),
+        "{refused}"
+    );
+    assert_eq!(pairs.insert((f32::INFINITY, u32::MAX)), Ok(true));
+}
+
+#[test]
+#[should_panic(expected = "the value NaN is no key: it has no place in the order")]
+fn a_range_from_nan_panics() {
+    let _ = SetOf::from([1.5_f64]).range(f64::NAN..);
+}
+
+#[test]
+#[should_panic(expected = "the start of the range is after its end")]
+fn a_range_whose_start_is_after_its_end_panics() {
+    let (start, end) = (7, -5);
+    let _ = SetOf::from([end, start]).range(start..=end);
+}
+
+#[test]
+#[should_panic(expected = "the value 9223372036854775807 is no key")]
+fn a_set_of_no_keys_panics() {
+    let _: SetOf<i64> = [i64::MAX].into();
+}
+
+#[test]
 fn each_value_of_a_small_type_keeps_its_order() {
     let keys: Vec<u64> = (i16::MIN..=i16::MAX).map(Key::to_key).collect();
     assert!(keys.windows(2).all(|two| two[0] < two[1]));
@@ -158,6 +265,12 @@ fn values_are_shown_as_the_program_wrote_them() {
     assert_eq!(format!("{set:?}"), text);
     set.close().unwrap();
     assert_eq!(format!("{set:?}"), "SetOf(the set is closed)");
+    let mut strings = SetOf::from([*b"tea"]);
+    Extend::extend(&mut strings, [*b"coc"]);
+    assert_eq!(
+        format!("{strings:?}"),
+        format!("{{{:?}, {:?}}}", b"coc", b"tea")
+    );
     let own = SetOf::<Own>::new().unwrap();
     own.insert(Own(7)).unwrap();
     assert_eq!(format!("{own:?}"), "{Own(7)}");
@@ -184,6 +297,12 @@ fn values_that_are_no_keys_are_refused() {
     assert!(refused
         .to_string()
         .starts_with("the value (2147483647, 4294967294) is no key"));
+    let strings = SetOf::<[u8; 8]>::new().unwrap();
+    let refused = strings.insert(*b"\xff\xff\xff\xff\xff\xff\xff\xfe");
+    assert!(refused
+        .unwrap_err()
+        .to_string()
+        .starts_with(r#"the value b"\xff\xff\xff\xff\xff\xff\xff\xfe" is no key"#));
     assert_eq!(set.at_most(i64::MAX), Ok(Some(i64::MAX - 3)));
     assert_eq!(set.range(-5..=i64::MAX).count(), 2);
     assert_eq!(

@@ -37,11 +37,15 @@ int main() {
     nm::Map<Text>::Worker of_map = map.attach(), reader = map.attach(), none;
     of_map.insert(5u, std::make_unique<Text>());
     auto guard = reader.pin();
+    nm::MapOf<int, Text> typed(64, 2);
+    nm::MapOf<int, Text>::Worker of_typed = typed.attach();
+    nm::MapOf<int, Text>::Guard typed_guard = of_typed.pin();
     const nm::Set &again = set;
     alignas(nm_pool *) static unsigned char bytes[512] = {1};
     nm_pool *unmade = reinterpret_cast<nm_pool *>(bytes), *lost = reinterpret_cast<nm_pool *>(8);
     nm_handle handle = NM_CLOSED_HANDLE;
     look();
     (void)again, (void)lost, (void)unmade, (void)handle, (void)pin, (void)guard, (void)none;
+    (void)typed_guard;
     nm_pool_free(pool);
 }

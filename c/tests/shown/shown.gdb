@@ -19,6 +19,9 @@ print gone
 print of_map
 print none
 print guard
+print typed
+print of_typed
+print typed_guard
 print again
 print handle
 print unmade

@@ -170,7 +170,14 @@ extern "C" {
     fn nm_map_number(worker: *mut Word, number: *mut u32) -> c_int;
     fn nm_map_queue_len(worker: *mut Word, nodes: *mut u64) -> c_int;
     fn nm_map_collect_after(nodes: u32, workers: u32) -> u32;
-    fn nm_map_wait_attach(map: *mut Word, worker: *mut Word, timeout_ms: u32) -> c_int;
+    fn nm_map_lend(
+        map: *mut Word,
+        counts: *mut RawCounts,
+        worker: *mut Word,
+        timeout_ms: u32,
+    ) -> c_int;
+    fn nm_map_return(counts: *mut RawCounts, worker: *mut Word) -> c_int;
+    fn nm_map_drop_returned(counts: *mut RawCounts);
     fn nm_map_hold(worker: *mut Word, options: *const CallOptions, epoch: *mut u64) -> c_int;
     fn nm_map_take_back(
         worker: *mut Word,
@@ -190,7 +197,7 @@ extern "C" {
         key: u64,
         value: u64,
         options: *const CallOptions,
-        counts: *const RawCounts,
+        counts: *mut RawCounts,
         release: Release,
         context: *mut c_void,
         timeout_ms: u32,
@@ -383,7 +390,7 @@ impl<V> MapHandle<V> {
         Ok(self.counts.waiting())
     }
 
-    /// Attaches a worker, or returns the outcome of an error.
+    /// Attaches a worker, one that was returned if there is one, or returns the outcome of an error.
     pub(crate) fn attach(&self, timeout_ms: u32) -> Result<WorkerHandle<'_, V>, Outcome> {
         let mut worker = WorkerHandle {
             map: self,
@@ -392,8 +399,9 @@ impl<V> MapHandle<V> {
         };
         // SAFETY: the worker's handle is closed, and no other call has it. That of the map may be
         // used by several calls at the same time.
+        let counts = self.counts.0.as_ptr();
         let outcome = worker
-            .by(|handle, _| unsafe { nm_map_wait_attach(self.handle.get(), handle, timeout_ms) });
+            .by(|handle, _| unsafe { nm_map_lend(self.handle.get(), counts, handle, timeout_ms) });
         if outcome < 0 {
             return Err(outcome);
         }
@@ -414,6 +422,7 @@ impl<V> Drop for MapHandle<V> {
         let mut taken = Taken::default();
         // SAFETY: the handle is borrowed for these calls. `release` gets boxes of this `V`.
         taken.by(|context| unsafe {
+            nm_map_drop_returned(self.counts.0.as_ptr());
             nm_map_drain(self.handle.get(), release::<V>, context, LONGEST);
             nm_drop(self.handle.get())
         });
@@ -664,11 +673,16 @@ impl<V> Drop for WorkerHandle<'_, V> {
         taken.by(|context| {
             self.by(|worker, _| unsafe {
                 nm_map_unpin(worker);
-                nm_map_take_back(worker, release::<V>, context, null_mut());
-                self.map
-                    .counts
-                    .released(self.number, (*context.cast::<Taken>()).values);
-                nm_drop(worker)
+                let mut waiting = 0;
+                nm_map_queue_len(worker, &mut waiting);
+                if waiting != 0 {
+                    nm_map_take_back(worker, release::<V>, context, null_mut());
+                    self.map
+                        .counts
+                        .released(self.number, (*context.cast::<Taken>()).values);
+                }
+                nm_map_return(self.map.counts.0.as_ptr(), worker);
+                nm_drop(worker) // if it was not returned
             })
         });
         taken.resume();
