@@ -287,7 +287,7 @@ struct KeyOf<T, std::enable_if_t<detail::is_number<T> && std::is_signed_v<T>>> {
 #ifdef __has_builtin
 #if __has_builtin(__builtin_bit_cast)
 // Of a number with a sign all bits are turned, and of another one the sign bit: so the bits ascend
-// with the numbers. It looks at bits alone, so that it is right with -ffast-math too.
+// with the numbers. It looks at bits alone, because -ffast-math takes out a comparison with NaN.
 template <typename T>
 struct KeyOf<T, std::enable_if_t<detail::is_float<T>>> {
     using Number = std::conditional_t<sizeof(T) == 4, std::uint32_t, std::uint64_t>;
