@@ -287,7 +287,7 @@ struct KeyOf<T, std::enable_if_t<detail::is_number<T> && std::is_signed_v<T>>> {
 #ifdef __has_builtin
 #if __has_builtin(__builtin_bit_cast)
 // Of a number with a sign all bits are turned, and of another one the sign bit: so the bits ascend
-// with the numbers. It looks at bits alone, so that it is right with -ffast-math too.
+// with the numbers. It looks at bits alone, because -ffast-math takes out a comparison with NaN.
 template <typename T>
 struct KeyOf<T, std::enable_if_t<detail::is_float<T>>> {
     using Number = std::conditional_t<sizeof(T) == 4, std::uint32_t, std::uint64_t>;
@@ -796,6 +796,15 @@ public:
     bool remove(const T &value) { return of_.remove(detail::checked_key(value)); }
     // Removes the value; returns 1 if it was present, and else 0.
     std::size_t erase(const T &value) { return remove(value) ? 1 : 0; }
+    // Removes the values that are not below `from` and are below `below`; returns how many.
+    std::uint64_t erase(const T &from, const T &below) {
+        return of_.erase(detail::bound_of(from), detail::bound_of(below));
+    }
+    // Removes each value for which `test` returns true; returns how many.
+    template <typename Test>
+    std::uint64_t erase_if(Test test) {
+        return of_.erase_if([&](std::uint64_t key) { return test(ValuesOf::typed(key)); });
+    }
     // Returns whether the set has the value; a value whose key is none it never has.
     [[nodiscard]] bool contains(const T &value) const { return this->count(value) == 1; }
 
@@ -1070,6 +1079,15 @@ public:
     bool remove(const K &key) { return of_.remove(detail::checked_key(key)); }
     // Removes a key; returns 1 if it was present, and else 0.
     std::size_t erase(const K &key) { return remove(key) ? 1 : 0; }
+    // Removes the keys that are not below `from` and are below `below`; returns how many.
+    std::uint64_t erase(const K &from, const K &below) {
+        return of_.erase(detail::bound_of(from), detail::bound_of(below));
+    }
+    // Removes each key for whose entry `test` returns true; returns how many.
+    template <typename Test>
+    std::uint64_t erase_if(Test test) {
+        return of_.erase_if([&](const auto &entry) { return test(MapWorkerOf::typed(entry)); });
+    }
     // Removes all keys. A key that is inserted meanwhile may remain.
     void clear() { of_.clear(); }
 

@@ -594,10 +594,22 @@ public:
         return detail::found<T>(is_taken, word);
     }
 
-    // Removes all keys. A key that is inserted meanwhile may remain.
-    void clear() {
-        for (const auto &entry : *this) remove(detail::key_of(entry));
+    // Removes the keys that are not below `from` and are below `below`, one by one; returns how many
+    // it removed. A key that is inserted meanwhile may remain. It throws what `remove` throws; then
+    // the keys before that one are removed.
+    std::uint64_t erase(Key from, Key below) {
+        return detail::erase_each(*this, this->range(from, below), [](const auto &) { return true; });
     }
+
+    // Removes in the same way each key for whose entry `test` returns true, like std::erase_if: for
+    // the key with a copy of its value in place, or for the key of an object.
+    template <typename Test>
+    std::uint64_t erase_if(Test test) {
+        return detail::erase_each(*this, *this, test);
+    }
+
+    // Removes all keys. A key that is inserted meanwhile may remain.
+    void clear() { erase(0u, UINT64_MAX); }
 
     // Returns whether the map has a key.
     [[nodiscard]] bool contains(Key key) const {

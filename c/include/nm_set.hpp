@@ -316,6 +316,15 @@ std::optional<std::uint64_t> key_of(const std::optional<Entry> &entry) noexcept 
     return entry ? std::optional<std::uint64_t>(key_of(*entry)) : std::nullopt;
 }
 
+// Removes the keys of those entries for which `test` returns true; returns how many it removed.
+template <typename Of, typename Entries, typename Test>
+std::uint64_t erase_each(Of &of, const Entries &entries, Test test) {
+    std::uint64_t removed = 0;
+    for (const auto &entry : entries)
+        if (test(entry)) removed += of.remove(key_of(entry));
+    return removed;
+}
+
 // How an iterator refers to what it goes over: by its address, except where a type says otherwise.
 template <typename Of>
 class Kept {
@@ -742,10 +751,21 @@ public:
         return inserted;
     }
 
-    // Removes all keys. A key that is inserted meanwhile may remain.
-    void clear() {
-        for (std::uint64_t key : *this) remove(key);
+    // Removes the keys that are not below `from` and are below `below`, one by one; returns how many
+    // it removed. A key that is inserted meanwhile may remain. It throws what `remove` throws; then
+    // the keys before that one are removed.
+    std::uint64_t erase(Key from, Key below) {
+        return detail::erase_each(self(), this->range(from, below), [](std::uint64_t) { return true; });
     }
+
+    // Removes each key for which `test` returns true, in the same way, like std::erase_if.
+    template <typename Test>
+    std::uint64_t erase_if(Test test) {
+        return detail::erase_each(self(), self(), test);
+    }
+
+    // Removes all keys. A key that is inserted meanwhile may remain.
+    void clear() { erase(0u, UINT64_MAX); }
 
 protected:
     Keys() = default;
@@ -764,6 +784,7 @@ private:
     friend class InOrder<Of, std::uint64_t>;
 
     const Of &self() const noexcept { return static_cast<const Of &>(*this); }
+    Of &self() noexcept { return static_cast<Of &>(*this); }
 
     // Makes a call of the pool; returns whether its answer is not NM_NO.
     template <typename Call>

@@ -102,6 +102,10 @@ void for_many_like(nm::SetOf<T> &set, const std::set<T> &peer) {
     CHECK(set.nodes() == set.stats().nodes && set.waiting() == set.stats().waiting);
     CHECK(set.free() == set.stats().free && set.workers() == 64 && set.is_open());
     (void)set.collect();
+    CHECK(set.erase(least, most) == all.size() - 1 && set.erase(most, least) == 0);
+    CHECK(set.erase_if([&](const T &value) { return value < most; }) == 0 && set.first() == most);
+    CHECK(set.erase_if([&](const T &value) { return value == most; }) == 1 && set.empty());
+    CHECK(set.insert_range(all) == all.size());
     nm::WorkerOf<T> worker = set.worker(5);
     CHECK(worker.is_open() && worker.contains_many(all) == each);
 }

@@ -76,6 +76,10 @@ void map_removes_like(nm::MapOf<T, std::uint32_t> &map, nm::MapWorkerOf<T, std::
     CHECK(worker.waiting() == map.waiting() && map.free() < map.nodes());
     (void)worker.reclaim();
     worker.clear();
+    CHECK(worker.insert(plain.begin(), plain.end()) == plain.size());
+    CHECK(worker.erase(least, most) == plain.size() - 1 && worker.erase(most, least) == 0);
+    CHECK(worker.erase_if([&](const auto &entry) { return entry.key < most; }) == 0);
+    CHECK(worker.erase_if([&](const auto &entry) { return entry.value < plain.size() * 7; }) == 1);
     CHECK(worker.empty() && worker.number() < map.workers() && map.capacity() == 2045);
     worker.close();
     CHECK(!worker.is_open() && map.attach(std::chrono::milliseconds(1)).is_open());

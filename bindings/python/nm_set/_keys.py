@@ -393,6 +393,16 @@ class Keys(MutableSet):  # type: ignore[type-arg]
         """Returns the keys in a set of Python."""
         return set(self)
 
+    def discard_range(
+        self,
+        minimum: Optional[SupportsIndex] = None,
+        maximum: Optional[SupportsIndex] = None,
+        inclusive: tuple[bool, bool] = (True, True),
+    ) -> int:
+        """Removes the keys from `minimum` to `maximum`, one by one; returns how many it removed. A key
+        that is added meanwhile may remain."""
+        return sum(self.discard(key) for key in self.irange(minimum, maximum, inclusive))
+
     def clear(self) -> None:
         """Removes all keys. A key that is added meanwhile may remain."""
         for key in self:

@@ -475,6 +475,17 @@ class Map(MutableMapping, Generic[V]):  # type: ignore[type-arg]
         """Removes the least key and returns it with its object, like `pop_first`."""
         return self.pop_first()
 
+    def discard_range(
+        self,
+        minimum: Optional[SupportsIndex] = None,
+        maximum: Optional[SupportsIndex] = None,
+        inclusive: tuple[bool, bool] = (True, True),
+    ) -> int:
+        """Removes the keys from `minimum` to `maximum`, one by one; returns how many it removed. A key
+        that is inserted meanwhile may remain."""
+        keys = self.irange(minimum, maximum, inclusive)
+        return sum(self._pop(key) is not MISSING for key in keys)
+
     def clear(self) -> None:
         """Removes all keys, one by one. A key that is inserted meanwhile may remain."""
         for key in self:

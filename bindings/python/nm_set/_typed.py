@@ -264,6 +264,17 @@ class _Ordered(Generic[T]):
     def __len__(self) -> int:
         return len(self._of)
 
+    def discard_range(
+        self,
+        minimum: Optional[T] = None,
+        maximum: Optional[T] = None,
+        inclusive: tuple[bool, bool] = (True, True),
+    ) -> int:
+        """Removes the keys from `minimum` to `maximum`; returns how many: see `Set.discard_range`."""
+        ends = self._end(minimum), self._end(maximum)
+        removed: int = self._of.discard_range(*ends, inclusive)
+        return removed
+
     def clear(self) -> None:
         """Removes all keys. A key that is added meanwhile may remain."""
         self._of.clear()

@@ -83,6 +83,9 @@ class Typed(unittest.TestCase):
             with SetOf(mapping, values) as numbers, numbers.attach() as worker:
                 self.assertEqual(worker.contains_many(ordered), [True] * len(ordered))
                 self.assertEqual(numbers.count_range(least, most, (True, False)), len(ordered) - 1)
+                self.assertEqual(worker.discard_range(least, most, (True, False)), len(ordered) - 1)
+                self.assertEqual((numbers.first(), numbers.discard_range(maximum=least)), (most, 0))
+                numbers.update(ordered)
                 self.assertEqual(numbers.discard_many(ordered), len(ordered))
                 self.assertEqual((worker.add_many(ordered), numbers.copy()), (len(ordered), plain))
                 self.assertIsNone(numbers.wait_first(0, below=least))
@@ -158,6 +161,10 @@ class Typed(unittest.TestCase):
         del found[most]
         self.assertEqual((found.popitem(), found.get(most)), ((least, "least"), None))
         self.assertEqual(len(found), len(plain) - 2)
+        self.assertEqual(found.discard_range(least, most, (False, False)), len(plain) - 2)
+        self.assertEqual((len(found), found.discard_range(most, least)), (0, 0))
+        found[most] = "again"
+        self.assertEqual(found.discard_range(most), 1)
         found.clear()
         self.assertEqual((dict(found), found.collect() >= 0), ({}, True))
 

@@ -68,11 +68,12 @@ macro_rules! calls_of {
 
 calls_of!(&Set, &mut Worker);
 
-/// Removes a key. If the remove is unfinished, this call will remove the key, and no other will.
-fn take(calls: &mut impl Calls, key: u64) -> Result<(), Fault> {
+/// Removes a key; returns whether it was present. If the remove is unfinished, this call will remove
+/// the key, and no other will.
+fn take(calls: &mut impl Calls, key: u64) -> Result<bool, Fault> {
     match calls.take(key) {
-        Ok(_) | Err(Fault::Unfinished) => Ok(()),
-        Err(fault) => Err(fault),
+        Err(Fault::Unfinished) => Ok(true),
+        taken => taken,
     }
 }
 
@@ -94,21 +95,34 @@ pub(crate) fn scan<C: Scans>(
 }
 
 /// Removes each key for which `stays` returns false.
-pub(crate) fn retain(
+pub(crate) fn retain(calls: impl Calls, mut stays: impl FnMut(u64) -> bool) -> Result<(), Fault> {
+    remove_each(calls, (0, MOST_KEY), |key| !stays(key)).map(|_| ())
+}
+
+/// Removes the keys of a range; returns how many it removed.
+#[track_caller]
+pub(crate) fn remove_range(calls: impl Calls, bounds: impl RangeBounds<u64>) -> Result<u64, Fault> {
+    ends_of(bounds).map_or(Ok(0), |ends| remove_each(calls, ends, |_| true))
+}
+
+/// Removes each key from the first one of two to the second one for which `goes` returns true;
+/// returns how many it removed.
+fn remove_each(
     mut calls: impl Calls,
-    mut stays: impl FnMut(u64) -> bool,
-) -> Result<(), Fault> {
-    let mut rest = Some(0);
+    (first, last): (u64, u64),
+    mut goes: impl FnMut(u64) -> bool,
+) -> Result<u64, Fault> {
+    let (mut rest, mut removed) = (Some(first), 0);
     while let Some(from) = rest {
-        let block = calls.scan((from, MOST_KEY), MOST_ROOM)?;
+        let block = calls.scan((from, last), MOST_ROOM)?;
         for key in block.entries {
-            if !stays(key) {
-                take(&mut calls, key)?;
+            if goes(key) {
+                removed += u64::from(take(&mut calls, key)?);
             }
         }
-        rest = block.next.filter(|&next| next <= MOST_KEY);
+        rest = block.next.filter(|&next| next <= last);
     }
-    Ok(())
+    Ok(removed)
 }
 
 /// Returns the least and the greatest key of these bounds, or None if they have no key. Like the

@@ -402,6 +402,17 @@ impl Set {
         self.place().change_many(Change::Remove, keys, answers)
     }
 
+    /// Removes the keys of a range, one by one; returns how many it removed. A key that is inserted
+    /// meanwhile may remain. If it returns a fault, the keys before it are removed.
+    ///
+    /// # Panics
+    ///
+    /// It panics if the start of the range is after its end: see [`Set::range`](crate::Set::range).
+    #[track_caller]
+    pub fn remove_range(&self, bounds: impl RangeBounds<u64>) -> Result<u64, Fault> {
+        order::remove_range(self, bounds)
+    }
+
     /// Removes each key for which `stays` returns false. A key that is inserted meanwhile may
     /// remain. After a fault a part of the keys is removed.
     pub fn retain(&self, stays: impl FnMut(u64) -> bool) -> Result<(), Fault> {

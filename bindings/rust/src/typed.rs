@@ -454,6 +454,16 @@ impl<K: Key> SetOf<K> {
         self.set.remove_many(&keys_of(values)?, answers)
     }
 
+    /// Removes the values of a range, one by one; returns how many: see [`Set::remove_range`].
+    ///
+    /// # Panics
+    ///
+    /// It panics if the start of the range is after its end, or if a bound is NaN.
+    #[track_caller]
+    pub fn remove_range(&self, bounds: impl RangeBounds<K>) -> Result<u64, Fault> {
+        self.set.remove_range(bounds_of(bounds))
+    }
+
     /// Removes each value for which the function returns false: see [`Set::retain`].
     pub fn retain(&self, mut stays: impl FnMut(K) -> bool) -> Result<(), Fault> {
         self.set.retain(|key| stays(K::from_key(key)))

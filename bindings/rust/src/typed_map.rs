@@ -297,6 +297,16 @@ impl<'a, K: Key, V> MapWorkerOf<'a, K, V> {
         self.range(bounds).collect()
     }
 
+    /// Removes the keys of a range, one by one; returns how many: see [`MapWorker::remove_range`].
+    ///
+    /// # Panics
+    ///
+    /// It panics if the start of the range is after its end, or if a bound is NaN.
+    #[track_caller]
+    pub fn remove_range(&mut self, bounds: impl RangeBounds<K>) -> Result<u64, Fault> {
+        self.worker.remove_range(bounds_of(bounds))
+    }
+
     /// Removes each key for which `stays` returns false: see [`MapWorker::retain`].
     pub fn retain(&mut self, mut stays: impl FnMut(K) -> bool) -> Result<(), Fault> {
         self.worker.retain(|key| stays(K::from_key(key)))

@@ -286,6 +286,17 @@ impl Worker {
         Ok(added)
     }
 
+    /// Removes the keys of a range, one by one; returns how many it removed. A key that is inserted
+    /// meanwhile may remain. If it returns a fault, the keys before it are removed.
+    ///
+    /// # Panics
+    ///
+    /// It panics if the start of the range is after its end: see [`Set::range`](crate::Set::range).
+    #[track_caller]
+    pub fn remove_range(&mut self, bounds: impl RangeBounds<u64>) -> Result<u64, Fault> {
+        order::remove_range(self, bounds)
+    }
+
     /// Removes each key for which `stays` returns false: see [`Set::retain`].
     pub fn retain(&mut self, stays: impl FnMut(u64) -> bool) -> Result<(), Fault> {
         order::retain(self, stays)

@@ -88,6 +88,12 @@ fn answers_for_many_like<K: Key + Ord + Debug>(set: &SetOf<K>, peer: &BTreeSet<K
         Ok(&all[..all.len() - 1])
     );
     assert_eq!(set.extend(all.iter().copied()), Ok(all.len() - 1));
+    assert_eq!(set.remove_range(least..most), Ok(all.len() as u64 - 1));
+    assert_eq!(
+        (set.first(), set.remove_range(..=least)),
+        (Ok(Some(most)), Ok(0))
+    );
+    assert_eq!(set.extend(all.iter().copied()), Ok(all.len() - 1));
     assert_eq!(set.retain(|value| peer.contains(&value)), Ok(()));
     assert_eq!(set.reserve(30_000), Ok(()));
     assert_eq!(

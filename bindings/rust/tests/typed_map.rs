@@ -130,6 +130,8 @@ fn removes_like<K: Key + Ord + Debug>(map: &MapOf<K, String>, peer: BTreeMap<K, 
         (Ok(false), Ok(peer.len() - 1))
     );
     assert!(map.waiting().unwrap() >= worker.waiting() && worker.reclaim().is_ok());
+    assert_eq!(worker.remove_range(..most), Ok(peer.len() as u64 - 2));
+    assert_eq!(worker.remove_range(..), Ok(1));
     assert_eq!((worker.clear(), worker.is_empty()), (Ok(()), Ok(true)));
     assert_eq!(
         (map.nodes(), map.capacity(), map.workers()),
