@@ -2,7 +2,7 @@
  *
  * proved: nm_set_c and all crates that it depends on
  * kit: rattle-kit-13f logic dac8208d650f15bf
- * sources: sha256 25efbce4d98f7703fc39621fba3e17eb46071af79721bae384f0f85a0e6b11e0
+ * sources: sha256 a81dff499ff15c45b5bcf6cf6d5eca366d7f1af54c2983d96b352a3873561d74
  *
  * dist/README.md says how this file is made, checked and used, and what is trusted.
  */
