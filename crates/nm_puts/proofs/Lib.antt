@@ -5,3 +5,4 @@ pub mod Retiring
 pub mod LaterValues
 pub mod ReplacedValues
 pub mod TriedSwaps
+pub mod TriedPuts

@@ -92,6 +92,7 @@ pub(crate) fn try_swap(
     ensures was { (m : PassView) (v : ℕ) → ValueWas m pass.old key end.now.seek_record.edge.slot v
         → IfOk result (λ old. old ≡ v) }
     ensures lost { IfErr result (λ e. HasNotSwapped pass.old pass.new key end.now new.now e) }
+    ensures untouched { IfErr result (λ _. held.new ≡ held.old) }
     ensures on { GoesOn pass.old pass.new }
     ensures kept { HoldsCuts pass.new held.new }
     ensures fills { FillsUp held.old.queue held.new.queue }

@@ -16,7 +16,7 @@ use Rattle.nm_puts.proofs.LaterValues.{value_later}
 use Rattle.nm_puts.proofs.ReplacedValues.{has_replaced, has_swapped_leaf, replaced_then}
 use Rattle.nm_puts.proofs.Retiring.{holds_then}
 use Rattle.nm_puts.proofs.SwapSteps.{took_out}
-use Rattle.nm_puts.proofs.TriedSwaps.{has_not_swapped, has_swapped, is_swapping, just_stored, kept_so, then_by_value, under_swap}
+use Rattle.nm_puts.proofs.TriedSwaps.{has_swapped, is_swapping, just_stored, kept_so, then_by_value, under_swap}
 use Rattle.nm_puts.proofs.UnderPins.{leaf_is_high, under_then}
 use Rattle.nm_puts.proofs.swapping.try_swap.Goals as goal
 
