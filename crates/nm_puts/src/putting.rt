@@ -21,7 +21,7 @@ ghost use Rattle.nm_puts.specs.Replaced.{HasReplaced};
 ghost use Rattle.nm_puts.specs.Swaps.{ValueWas};
 
 use crate::helping::{help, make_room, make_room_for};
-use crate::leaves::{claim, give_back};
+use crate::leaves::{claim, give_leaf_back};
 use crate::leaving::conclude;
 use crate::swapping::try_swap;
 use nm_calls::{CallFault, leave};
@@ -30,7 +30,7 @@ use nm_epoch::{HeldQueue, pin_for};
 use nm_model::Op;
 use nm_steps::{Pass, Shared};
 use nm_walks::{
-    ChainEdges, Stop, WalkEnd, Workspace, claim_new_nodes, give_back as give_both_back, grow, seek,
+    ChainEdges, Stop, WalkEnd, Workspace, claim_new_nodes, give_back, grow, seek,
 };
 
 /// What must be so for a put to change the map.
@@ -125,7 +125,7 @@ fn replace_at(
     match try_swap(shared, pass, held, key, value, end, &new) {
         Ok(old) => Attempt::Done(PutOutcome::Replaced(old)),
         Err(found) => {
-            give_back(shared, pass, &mut workspace.placement, &new);
+            give_leaf_back(shared, pass, &mut workspace.placement, &new);
             help(shared, pass, workspace, held, end, found);
             Attempt::Lost
         }
@@ -169,6 +169,41 @@ fn replace_if(
     replace_at(shared, pass, workspace, held, key, value, end)
 }
 
+/// Tries to replace the value of the leaf at which a walk of the call has ended, by the condition.
+#[inline(always)]
+fn replace_when(
+    shared: &Shared,
+    pass: &mut Pass,
+    workspace: &mut Workspace,
+    held: &mut HeldQueue,
+    key: u64,
+    value: u64,
+    condition: Condition,
+    end: &WalkEnd,
+) -> Attempt
+    requires pinned { IsPinnedIn shared.now pass.old }
+    requires values { HasValues shared.now }
+    requires may { MayReplace pass.old key end.now workspace.old.chain.items }
+    requires same { end.now.key ≡ key }
+    requires room { cut_bound ≤ held.old.queue.spare }
+    requires kept { HoldsCuts pass.old held.old }
+    ensures part { TriesAt workspace.old.placement shared.now.layout condition
+        key end.now workspace.old.chain.items pass.old.view.log pass.new.view.log result }
+    ensures does { TryDoes condition key value pass.old pass.new result }
+    ensures shows { ShowsTry key pass.old pass.new result }
+    ensures on { GoesOn pass.old pass.new }
+    ensures only { OnlyPuts pass.old pass.new }
+    ensures private { HasNewNodes pass.old pass.new None }
+    ensures kept { HoldsCuts pass.new held.new }
+    ensures fills { FillsUp held.old.queue held.new.queue }
+    ensures fit { workspace.new.placement ≡ workspace.old.placement }
+{
+    if let Condition::IfItIs(expected) = condition {
+        return replace_if(shared, pass, workspace, held, key, value, expected, end);
+    }
+    replace_at(shared, pass, workspace, held, key, value, end)
+}
+
 /// Tries once to replace the value of the key, if the condition holds: a walk, and a swap if the leaf
 /// has the key.
 fn try_replace(
@@ -206,12 +241,7 @@ fn try_replace(
     if end.key != sought {
         return Attempt::Done(PutOutcome::Absent);
     }
-    match condition {
-        Condition::IfItIs(expected) => {
-            replace_if(shared, pass, workspace, held, sought, value, expected, &end)
-        }
-        _ => replace_at(shared, pass, workspace, held, sought, value, &end),
-    }
+    replace_when(shared, pass, workspace, held, sought, value, condition, &end)
 }
 
 /// Tries once to give the key the value: a walk, and a swap if the leaf has the key, or else a link.
@@ -259,7 +289,7 @@ fn try_put(
             Attempt::Done(PutOutcome::Inserted)
         }
         Err(found) => {
-            give_both_back(shared, pass, &mut workspace.placement, &Some(made));
+            give_back(shared, pass, &mut workspace.placement, &Some(made));
             help(shared, pass, workspace, held, &end, found);
             Attempt::Lost
         }

@@ -98,30 +98,30 @@ returns-in-Ok-clause-fills c = c.try_swap.ensures.fills
 
 -- ---- the swap was lost
 
-pub give_back-requires-clause-own : goal.give_back-requires-clause-own
-give_back-requires-clause-own c =
+pub give_leaf_back-requires-clause-own : goal.give_leaf_back-requires-clause-own
+give_leaf_back-requires-clause-own c =
     own_still c.args.shared.now c.args.pass.now c.try_swap.new.pass c.requires.pinned.own
     (goes_then c.args.pass.now c.claim.new.pass c.try_swap.new.pass c.claim.ensures.on c.try_swap.ensures.on).same
 
-pub give_back-requires-clause-birth : goal.give_back-requires-clause-birth
-give_back-requires-clause-birth c = c.in-Err.ensures.lost.new_birth
+pub give_leaf_back-requires-clause-birth : goal.give_leaf_back-requires-clause-birth
+give_leaf_back-requires-clause-birth c = c.in-Err.ensures.lost.new_birth
 
 pub help-requires-clause-pinned : goal.help-requires-clause-pinned
 help-requires-clause-pinned c =
     let p = c.args.pass.now in
     let q = c.claim.new.pass in
     let s = c.try_swap.new.pass in
-    let b = c.give_back.new.pass in
+    let b = c.give_leaf_back.new.pass in
     pinned_in_still c.args.shared.now p b
-    (goes_then p q b c.claim.ensures.on (goes_then q s b c.try_swap.ensures.on c.give_back.ensures.on)) c.requires.pinned
+    (goes_then p q b c.claim.ensures.on (goes_then q s b c.try_swap.ensures.on c.give_leaf_back.ensures.on)) c.requires.pinned
 
 pub help-requires-clause-at : goal.help-requires-clause-at
 help-requires-clause-at c =
     let p = c.args.pass.now in
     let q = c.claim.new.pass in
     let s = c.try_swap.new.pass in
-    let b = c.give_back.new.pass in
-    let on = goes_then p q b c.claim.ensures.on (goes_then q s b c.try_swap.ensures.on c.give_back.ensures.on) in
+    let b = c.give_leaf_back.new.pass in
+    let on = goes_then p q b c.claim.ensures.on (goes_then q s b c.try_swap.ensures.on c.give_leaf_back.ensures.on) in
     at_kept (Tells p) (Tells b) (λ fact holds. on.keeps fact holds) c.args.end.now.seek_record c.args.workspace.now.chain.items c.requires.may.at
 
 pub help-requires-clause-few : goal.help-requires-clause-few
@@ -132,8 +132,8 @@ help-requires-clause-room c = rw c.in-Err.ensures.untouched c.requires.room
 
 pub help-requires-clause-kept : goal.help-requires-clause-kept
 help-requires-clause-kept c =
-    holds_on c.try_swap.new.pass c.give_back.new.pass c.try_swap.new.held c.give_back.ensures.on.same c.give_back.ensures.only.ledgers
-    (adds_these _ c.try_swap.new.pass.view.log c.give_back.new.pass.view.log c.give_back.ensures.part) c.try_swap.ensures.kept
+    holds_on c.try_swap.new.pass c.give_leaf_back.new.pass c.try_swap.new.held c.give_leaf_back.ensures.on.same c.give_leaf_back.ensures.only.ledgers
+    (adds_these _ c.try_swap.new.pass.view.log c.give_leaf_back.new.pass.view.log c.give_leaf_back.ensures.part) c.try_swap.ensures.kept
 
 pub returns-in-Err-clause-part : goal.returns-in-Err-clause-part
 returns-in-Err-clause-part c =
@@ -144,10 +144,10 @@ returns-in-Err-clause-part c =
       c.in-Err.found,
       c.claim.new.pass.view.log,
       c.try_swap.new.pass.view.log,
-      c.give_back.new.pass.view.log,
+      c.give_leaf_back.new.pass.view.log,
       c.in-Some.ensures.part,
       lost.part,
-      c.give_back.ensures.part,
+      c.give_leaf_back.ensures.part,
       c.help.ensures.part,
     )
 
@@ -156,40 +156,40 @@ returns-in-Err-clause-on c =
     let p = c.args.pass.now in
     let q = c.claim.new.pass in
     let s = c.try_swap.new.pass in
-    let b = c.give_back.new.pass in
+    let b = c.give_leaf_back.new.pass in
     let h = c.help.new.pass in
-    goes_then p q h c.claim.ensures.on (goes_then q s h c.try_swap.ensures.on (goes_then s b h c.give_back.ensures.on c.help.ensures.on))
+    goes_then p q h c.claim.ensures.on (goes_then q s h c.try_swap.ensures.on (goes_then s b h c.give_leaf_back.ensures.on c.help.ensures.on))
 
 pub returns-in-Err-clause-shows : goal.returns-in-Err-clause-shows
 returns-in-Err-clause-shows c =
     let p = c.args.pass.now in
     let q = c.claim.new.pass in
     let s = c.try_swap.new.pass in
-    let b = c.give_back.new.pass in
+    let b = c.give_leaf_back.new.pass in
     let h = c.help.new.pass in
     let lost = c.in-Err.ensures.lost in
     nothing_then p s h (nothing_then p q s (makes_nothing p q c.claim.ensures.only) (record { linked = lost.rest.linked; swapped = lost.swapped }))
-    (nothing_then s b h (makes_nothing s b c.give_back.ensures.only) (cleans_nothing b h c.help.ensures.only))
+    (nothing_then s b h (makes_nothing s b c.give_leaf_back.ensures.only) (cleans_nothing b h c.help.ensures.only))
 
 pub returns-in-Err-clause-only : goal.returns-in-Err-clause-only
 returns-in-Err-clause-only c =
     let p = c.args.pass.now in
     let q = c.claim.new.pass in
     let s = c.try_swap.new.pass in
-    let b = c.give_back.new.pass in
+    let b = c.give_leaf_back.new.pass in
     let h = c.help.new.pass in
     puts_then p q h c.claim.ensures.on.same (makes_puts p q c.claim.ensures.only)
     (puts_then q s h c.try_swap.ensures.on.same (rest_puts q s c.in-Err.ensures.lost.rest)
-    (puts_then s b h c.give_back.ensures.on.same (makes_puts s b c.give_back.ensures.only) (cleans_puts b h c.help.ensures.only)))
+    (puts_then s b h c.give_leaf_back.ensures.on.same (makes_puts s b c.give_leaf_back.ensures.only) (cleans_puts b h c.help.ensures.only)))
 
 pub returns-in-Err-clause-private : goal.returns-in-Err-clause-private
 returns-in-Err-clause-private c =
     let p = c.args.pass.now in
     let q = c.claim.new.pass in
     let s = c.try_swap.new.pass in
-    let b = c.give_back.new.pass in
+    let b = c.give_leaf_back.new.pass in
     none_left p b c.help.new.pass c.help.ensures.only.private
-    (c.give_back.ensures.given p (still_new p q s c.args.key c.args.end.now c.in-Some.new c.in-Err.found c.in-Some.ensures.has c.in-Err.ensures.lost))
+    (c.give_leaf_back.ensures.given p (still_new p q s c.args.key c.args.end.now c.in-Some.new c.in-Err.found c.in-Some.ensures.has c.in-Err.ensures.lost))
 
 pub returns-in-Err-clause-kept : goal.returns-in-Err-clause-kept
 returns-in-Err-clause-kept c = c.help.ensures.kept

@@ -6,7 +6,7 @@ use Rattle.nm_walks.proofs.Claiming.{given_others, is_given, only_given}
 use Rattle.nm_walks.proofs.Looks.{goes_on}
 use Rattle.nm_walks.proofs.Makes.{private_from_birth}
 use Rattle.nm_puts.proofs.NewLeaves.{given_back}
-use Rattle.nm_puts.proofs.leaves.give_back.Goals as goal
+use Rattle.nm_puts.proofs.leaves.give_leaf_back.Goals as goal
 
 pub give-requires-clause-private : goal.give-requires-clause-private
 give-requires-clause-private c = private_from_birth c.args.pass.now c.args.leaf.now.slot (ap is_some c.requires.birth)
