@@ -75,3 +75,60 @@ returns-then-end-sought-clause-private c = λ s. ap (λ m. get m s) c.seek.ensur
 
 pub returns-then-end-sought-clause-fills : goal.returns-then-end-sought-clause-fills
 returns-then-end-sought-clause-fills c = fills_none c.args.held.now.queue
+
+-- ---- the leaf has the key
+
+pub replace_when-requires-clause-pinned : goal.replace_when-requires-clause-pinned
+replace_when-requires-clause-pinned c = pinned_in_still c.args.shared.now c.args.pass.now c.seek.new.pass c.seek.ensures.on c.requires.pinned
+
+pub replace_when-requires-clause-may : goal.replace_when-requires-clause-may
+replace_when-requires-clause-may c =
+    let came = rw c.get-sought.ensures.number at c.in-Some.ensures.came in
+    rw c.get-sought.ensures.number
+    (may_replace c.args.pass.now c.seek.new.pass c.args.key c.in-Some.end c.seek.new.chain.items c.requires.pinned.run c.requires.call.call
+    c.requires.unlinked c.requires.unswapped c.seek.ensures.on c.seek.ensures.only came.ended.at came.few came.found
+    (rw c.get-sought.ensures.number at c.if-end-sought.false))
+
+pub replace_when-requires-clause-same : goal.replace_when-requires-clause-same
+replace_when-requires-clause-same c = c.if-end-sought.false
+
+pub replace_when-requires-clause-kept : goal.replace_when-requires-clause-kept
+replace_when-requires-clause-kept c =
+    holds_on c.args.pass.now c.seek.new.pass c.args.held.now c.seek.ensures.on.same c.seek.ensures.only.ledgers
+    (seeks_adds c.args.shared.now.layout c.get-sought.result c.args.pass.now.view.log c.seek.new.pass.view.log c.seek.new.chain.items
+    c.seek.result c.seek.ensures.walk) c.requires.kept
+
+pub returns-clause-part : goal.returns-clause-part
+returns-clause-part c =
+    inr (c.in-Some.end, c.seek.new.chain.items, c.seek.new.pass.view.log, c.in-Some.ensures.came.few,
+    walks_leaf c.args.condition c.requires.there _ _ _ _ _ _ (rw c.get-sought.ensures.number at c.in-Some.ensures.walk),
+    rw c.get-sought.ensures.number at c.replace_when.ensures.part)
+
+pub returns-clause-does : goal.returns-clause-does
+returns-clause-does c =
+    does_since c.args.condition c.args.key c.args.value c.args.pass.now c.seek.new.pass c.replace_when.new.pass c.replace_when.result
+    c.seek.ensures.on.past (rw c.get-sought.ensures.number at c.replace_when.ensures.does)
+
+pub returns-clause-shows : goal.returns-clause-shows
+returns-clause-shows c =
+    shows_since c.args.key c.args.pass.now c.seek.new.pass c.replace_when.new.pass c.replace_when.result
+    (looks_nothing c.args.pass.now c.seek.new.pass c.seek.ensures.only) (rw c.get-sought.ensures.number at c.replace_when.ensures.shows)
+
+pub returns-clause-on : goal.returns-clause-on
+returns-clause-on c = goes_then c.args.pass.now c.seek.new.pass c.replace_when.new.pass c.seek.ensures.on c.replace_when.ensures.on
+
+pub returns-clause-only : goal.returns-clause-only
+returns-clause-only c =
+    puts_then c.args.pass.now c.seek.new.pass c.replace_when.new.pass c.seek.ensures.on.same
+    (looks_puts c.args.pass.now c.seek.new.pass c.seek.ensures.only) c.replace_when.ensures.only
+
+pub returns-clause-private : goal.returns-clause-private
+returns-clause-private c =
+    private_since c.args.pass.now c.seek.new.pass c.replace_when.new.pass (λ s. ap (λ m. get m s) c.seek.ensures.only.private)
+    c.replace_when.ensures.private
+
+pub returns-clause-kept : goal.returns-clause-kept
+returns-clause-kept c = c.replace_when.ensures.kept
+
+pub returns-clause-fills : goal.returns-clause-fills
+returns-clause-fills c = c.replace_when.ensures.fills
