@@ -6,3 +6,5 @@ pub mod LaterValues
 pub mod ReplacedValues
 pub mod TriedSwaps
 pub mod TriedPuts
+pub mod EndedPuts
+pub mod AddingPuts

@@ -12,7 +12,7 @@ use Rattle.nm_model.specs.declared.reply.Reply.TheVariants.{Departed, Linked, Lo
 use Rattle.nm_model.specs.Walks.{Entry}
 use Rattle.nm_order.specs.Facts.Since.{ThePin}
 use Rattle.nm_order.specs.Facts.Fact.{CallIs, EndedAt}
-use Rattle.nm_steps.specs.Steps.{HasSeenAllOf, IsInRun, IsSamePass, PassView, TakesStep}
+use Rattle.nm_steps.specs.Steps.{HasSeen, HasSeenAllOf, IsInRun, IsSamePass, PassView, TakesStep}
 use Rattle.nm_pool.specs.Claims.{IsClaimBy}
 use Rattle.nm_epoch.specs.Resting.{IsResting, epochs, search}
 use Rattle.nm_epoch.specs.Tries.{IsMoved, IsPinnedBy}
@@ -193,6 +193,8 @@ MayEndWith p put.Absent = HasChangedNothing p
 pub record HasMissed (p q : PassView) (k : ℕ) : Type 0 where
   pub at : PassView
   pub since : GoesOn p at
+  pub is_key : IsKey k
+  pub seen : HasSeen at.view
   pub ended : HasEndedSo at k false
   pub leaves : TakesStep at q Leave Departed
 

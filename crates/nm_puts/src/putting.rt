@@ -376,6 +376,7 @@ fn put_pinned(
         }
         match try_by(shared, pass, workspace, held, key, value, condition) {
             Attempt::Done(put) => {
+                pass.know_run();
                 conclude(shared, pass, put);
                 return Ok(put);
             }
