@@ -66,7 +66,7 @@ module _ (fit : Fit) (L : Layout) (k : ℕ) (r : WalkEnd) (c : List ChainEdge) (
       let lost = h.4 in
       let back = h.5 in
       let help = helps_add r c h.2 back new few h.9 in
-      (0 + help.0, adds_in (6 * L.nodes + 207) old new (omega arith)
+      (0 + (0 + (0 + help.0)), adds_in (6 * L.nodes + 207) old new (omega arith)
       (adds_then old claimed new (claim_by_adds fit L.nodes old claimed (Some n) h.6)
       (adds_then claimed lost new (swap_lost k r n h.1 h.2 claimed lost h.7) (adds_then lost back new (adds_these _ lost back h.8) help.1))))
   replaces_add (attempt.Done put.Inserted) h = absurd h
@@ -84,7 +84,7 @@ module _ (fit : Fit) (L : Layout) (k : ℕ) (r : WalkEnd) (c : List ChainEdge) (
       let lost = h.3 in
       let back = h.4 in
       let help = helps_add r c h.1 back new few h.8 in
-      (0 + help.0, adds_in (6 * L.nodes + 207) old new (omega arith)
+      (0 + (0 + (0 + help.0)), adds_in (6 * L.nodes + 207) old new (omega arith)
       (adds_then old claimed new (fork_adds fit L.nodes old claimed (Some made) h.5)
       (adds_then claimed lost new (grows_lost L.radix k r made h.1 claimed lost h.6) (adds_then lost back new (back_adds (Some made) lost back h.7) help.1))))
   inserts_add (attempt.Done (put.Replaced v)) h = absurd h
@@ -94,7 +94,7 @@ module _ (fit : Fit) (L : Layout) (k : ℕ) (r : WalkEnd) (c : List ChainEdge) (
   tries_add : (when : Condition) (a : Attempt) → TriesAt fit L when k r c old new a → AddsLinks (links_in a) (6 * L.nodes + 207) old new
   tries_add when a (inl h) = replaces_add a h.1
   tries_add when a (inr (inl h)) = inserts_add a h.2
-  tries_add when a (inr (inr (inl h))) = subst (λ (b : Attempt). AddsLinks (links_in b) (6 * L.nodes + 207) old new) (sym h.1.3) (0, adds_in _ old new (omega arith) (adds_none old new h.2))
+  tries_add when a (inr (inr (inl h))) = subst (λ (b : Attempt). AddsLinks (links_in b) (6 * L.nodes + 207) old new) (sym h.1.4) (0, adds_in _ old new (omega arith) (adds_none old new h.2))
   tries_add when a (inr (inr (inr h))) = subst (λ (b : Attempt). AddsLinks (links_in b) (6 * L.nodes + 207) old new) (sym h.2) (0, adds_in _ old new (omega arith) (adds_none old new h.3))
 
 try_adds : (fit : Fit) (L : Layout) (when : Condition) (k : ℕ) (old new : List Entry) (a : Attempt) → IsPutTry fit L when k old new a → AddsLinks (links_in a) (at_most L) old new

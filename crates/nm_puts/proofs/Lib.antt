@@ -8,3 +8,4 @@ pub mod TriedSwaps
 pub mod TriedPuts
 pub mod EndedPuts
 pub mod AddingPuts
+pub mod PutsOfSwaps

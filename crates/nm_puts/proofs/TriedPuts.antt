@@ -56,7 +56,7 @@ use Rattle.nm_puts.proofs.UnderPins.{claim_under, leaf_is_high, under_none, unde
 
 -- ---- what may have changed
 
-same_ledgers : (p q : PassView) → (knowledge q.view).ledgers ≡ (knowledge p.view).ledgers → KeepsLedgers p q
+pub same_ledgers : (p q : PassView) → (knowledge q.view).ledgers ≡ (knowledge p.view).ledgers → KeepsLedgers p q
 same_ledgers p q is = record {
   others = λ o other. ap (λ ls. held ls o) is;
   freed = ap (λ ls. option_map (λ (l : Ledger). l.freed) (held ls p.view.number)) is;

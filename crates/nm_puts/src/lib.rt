@@ -3,9 +3,12 @@
 #![tactic(auto, using(nm_steps::proofs::Seeing::seen_all))]
 
 mod helping;
+mod laws;
 mod leaves;
 mod leaving;
 mod putting;
 mod swapping;
 
+pub use laws::replaced_values_have_puts;
 pub use putting::{Condition, PutOutcome, put};
+

@@ -1,6 +1,7 @@
-use Rattle.std.proofs.Common.{◌≡◌, ◌≤◌, ℕ, inl, inr, refl, sym, ap, subst, ◌∙◌, arith}
+use Rattle.std.proofs.Common.{◌≡◌, ◌≤◌, ◌+◌, ◌*◌, ℕ, inl, inr, refl, sym, ap, subst, ◌∙◌, arith}
 use Rattle.std.specs.Prelude.{None}
 use Rattle.nm_model.specs.declared.event.Op.TheVariants.{Insert}
+use Rattle.nm_model.specs.Maps.{get}
 use Rattle.nm_model.specs.Searches.{Search}
 use Rattle.nm_steps.proofs.Seeing.{same_then, seen_itself, seen_through, stores_same, stores_through}
 use Rattle.nm_walks.proofs.KeptLedgers.{holds_on}
@@ -12,6 +13,7 @@ use Rattle.nm_calls.proofs.Rooms.{takes_then}
 use Rattle.nm_calls.proofs.Waiting.{few_in_table, may_grow_more}
 use Rattle.nm_puts.proofs.AddingPuts.{put_did, put_steps, put_wins, within_puts}
 use Rattle.nm_puts.proofs.EndedPuts.{if_did, ledgers_in_call, private_in_call}
+use Rattle.nm_puts.proofs.TriedPuts.{same_ledgers}
 use Rattle.nm_puts.proofs.putting.put.Goals as goal
 
 pub make_room-requires : goal.make_room-requires
@@ -49,4 +51,57 @@ returns-clause-after c =
       rests = c.put_pinned.ensures.rests;
       private = private_in_call o a q c.pin_for.ensures.hands c.put_pinned.ensures.private;
       ledgers = ledgers_in_call o a q c.pin_for.ensures.on.same c.pin_for.ensures.hands c.requires.rests.labelled c.put_pinned.ensures.ledgers;
+    }
+
+pub returns-clause-few : goal.returns-clause-few
+returns-clause-few c =
+    few_in_table c.args.shared.now c.args.pass.now c.put_pinned.new.pass c.put_pinned.new.held c.requires.own
+    (same_then c.args.pass.now c.pin_for.new.pass c.put_pinned.new.pass c.pin_for.ensures.on.same c.put_pinned.ensures.on.same)
+    c.put_pinned.ensures.on.run c.put_pinned.ensures.kept
+
+pub returns-clause-blocks : goal.returns-clause-blocks
+returns-clause-blocks c = takes_then c.args.held.now.queue c.make_room.new.queue c.put_pinned.new.held.queue c.make_room.ensures.blocks c.put_pinned.ensures.blocks
+
+-- ---- there was no try, or no room
+
+pub returns-then-tries-eq0-clause-few : goal.returns-then-tries-eq0-clause-few
+returns-then-tries-eq0-clause-few c =
+    few_in_table c.args.shared.now c.args.pass.now c.args.pass.now c.args.held.now c.requires.own refl
+    (record { fits = c.know_run.ensures.fits; run = c.know_run.ensures.run }) c.requires.kept
+
+pub returns-then-not-make_room-clause-few : goal.returns-then-not-make_room-clause-few
+returns-then-not-make_room-clause-few c =
+    rw c.make_room.ensures.items (few_in_table c.args.shared.now c.args.pass.now c.args.pass.now c.args.held.now c.requires.own refl
+    (record { fits = c.know_run.ensures.fits; run = c.know_run.ensures.run }) c.requires.kept)
+
+-- ---- the pin was lost
+
+pub returns-in_default-clause-few : goal.returns-in_default-clause-few
+returns-in_default-clause-few c =
+    rw c.make_room.ensures.items (few_in_table c.args.shared.now c.args.pass.now c.args.pass.now c.args.held.now c.requires.own refl
+    (record { fits = c.know_run.ensures.fits; run = c.know_run.ensures.run }) c.requires.kept)
+
+pub returns-in_default-clause-kept : goal.returns-in_default-clause-kept
+returns-in_default-clause-kept c =
+    holds_on _ _ _ c.pin_for.ensures.on.same (c.pin_for.ensures.hands.ledgers c.requires.rests.labelled)
+    (moved_adds Insert c.args.key c.args.tries c.args.pass.now.view.log c.pin_for.new.pass.view.log c.in_default.ensures.moved)
+    (holds_with_room _ _ _ c.make_room.ensures.items c.requires.kept)
+
+pub returns-in_default-clause-after : goal.returns-in_default-clause-after
+returns-in_default-clause-after c =
+    let o = c.args.pass.now in
+    let a = c.pin_for.new.pass in
+    let adds = moved_adds Insert c.args.key c.args.tries o.view.log a.view.log c.in_default.ensures.moved in
+    record {
+      same = c.pin_for.ensures.on.same;
+      past = c.pin_for.ensures.on.past;
+      did = inr (inl (c.if-tries-eq0.false, c.in_default.ensures.moved));
+      map = tt;
+      moment = tt;
+      won = has_won _ _ adds;
+      steps = within_puts c.args.shared.now.layout c.args.tries (2 * c.args.tries + 2) o.view.log a.view.log adds.steps (omega arith);
+      run = inr c.pin_for.ensures.on.run;
+      rests = c.in_default.ensures.rests;
+      private = λ s. ap (λ m. get m s) c.pin_for.ensures.hands.private;
+      ledgers = same_ledgers o a (c.pin_for.ensures.hands.ledgers c.requires.rests.labelled);
     }
