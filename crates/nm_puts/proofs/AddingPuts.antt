@@ -121,7 +121,7 @@ ends_add fit L tries when k a old new h =
     let above = lost_add fit L when k h.0 old h.1 h.3 in
     let here = try_adds fit L when k h.1 new a h.4 in
     let most = mul_below h.0 tries (at_most L) h.2 in
-    (above.0 + here.0, adds_in _ old new (omega (arith, most)) (adds_then old h.1 new above.1 here.1))
+    (above.0 + here.0, adds_in _ old new (omega (arith, most)) (adds_after old h.1 new above.1 here.1))
 
 left_add : (p : PutOutcome) (old new : List Entry) → new ≡ old ++ (leave_of p, Departed) ∷ [] → Adds 0 0 0 1 old new
 left_add put.Inserted old new h = adds_these _ old new h
