@@ -55,38 +55,46 @@ module _ (fit : Fit) (L : Layout) (k : ℕ) (r : WalkEnd) (c : List ChainEdge) (
   replaces_add : (a : Attempt) → ReplacesAt fit L k r c old new a → AddsLinks (links_in a) (6 * L.nodes + 207) old new
   replaces_add (attempt.Done (put.Replaced v)) h =
       let n = h.0 in
-      let claimed = h.3 in
-      (0, adds_in (6 * L.nodes + 207) old new (omega arith)
-      (adds_then old claimed new (claim_by_adds fit L.nodes old claimed (Some n) h.4)
-      (adds_then claimed h.5.0 new (swap_won k r n h.1 _ claimed h.5.0 h.5.1) (adds_these _ h.5.0 new h.5.2))))
+      let claimed = h.3 in (
+        0,
+        adds_in (6 * L.nodes + 207) old new (omega arith)
+            (adds_then old claimed new (claim_by_adds fit L.nodes old claimed (Some n) h.4)
+            (adds_then claimed h.5.0 new (swap_won k r n h.1 _ claimed h.5.0 h.5.1) (adds_these _ h.5.0 new h.5.2))),
+      )
   replaces_add attempt.Full h = (0, adds_in (6 * L.nodes + 207) old new (omega arith) (claim_by_adds fit L.nodes old new None h))
   replaces_add attempt.Lost h =
       let n = h.0 in
       let claimed = h.3 in
       let lost = h.4 in
       let back = h.5 in
-      let help = helps_add r c h.2 back new few h.9 in
-      (0 + (0 + (0 + help.0)), adds_in (6 * L.nodes + 207) old new (omega arith)
-      (adds_then old claimed new (claim_by_adds fit L.nodes old claimed (Some n) h.6)
-      (adds_then claimed lost new (swap_lost k r n h.1 h.2 claimed lost h.7) (adds_then lost back new (adds_these _ lost back h.8) help.1))))
+      let help = helps_add r c h.2 back new few h.9 in (
+        0 + (0 + (0 + help.0)),
+        adds_in (6 * L.nodes + 207) old new (omega arith)
+            (adds_then old claimed new (claim_by_adds fit L.nodes old claimed (Some n) h.6)
+            (adds_then claimed lost new (swap_lost k r n h.1 h.2 claimed lost h.7) (adds_then lost back new (adds_these _ lost back h.8) help.1))),
+      )
   replaces_add (attempt.Done put.Inserted) h = absurd h
   replaces_add (attempt.Done put.Absent) h = absurd h
   replaces_add (attempt.Done (put.Other v)) h = absurd h
 
   inserts_add : (a : Attempt) → InsertsAt fit L k r c old new a → AddsLinks (links_in a) (6 * L.nodes + 207) old new
-  inserts_add (attempt.Done put.Inserted) h =
-      (0, adds_in (6 * L.nodes + 207) old new (omega arith)
-      (adds_then old h.1 new (fork_adds fit L.nodes old h.1 (Some h.0) h.2) (grows_won L.radix k r h.0 h.1 new h.3)))
+  inserts_add (attempt.Done put.Inserted) h = (
+    0,
+    adds_in (6 * L.nodes + 207) old new (omega arith)
+        (adds_then old h.1 new (fork_adds fit L.nodes old h.1 (Some h.0) h.2) (grows_won L.radix k r h.0 h.1 new h.3)),
+  )
   inserts_add attempt.Full h = (0, adds_in (6 * L.nodes + 207) old new (omega arith) (fork_adds fit L.nodes old new None h))
   inserts_add attempt.Lost h =
       let made = h.0 in
       let claimed = h.2 in
       let lost = h.3 in
       let back = h.4 in
-      let help = helps_add r c h.1 back new few h.8 in
-      (0 + (0 + (0 + help.0)), adds_in (6 * L.nodes + 207) old new (omega arith)
-      (adds_then old claimed new (fork_adds fit L.nodes old claimed (Some made) h.5)
-      (adds_then claimed lost new (grows_lost L.radix k r made h.1 claimed lost h.6) (adds_then lost back new (back_adds (Some made) lost back h.7) help.1))))
+      let help = helps_add r c h.1 back new few h.8 in (
+        0 + (0 + (0 + help.0)),
+        adds_in (6 * L.nodes + 207) old new (omega arith)
+            (adds_then old claimed new (fork_adds fit L.nodes old claimed (Some made) h.5)
+            (adds_then claimed lost new (grows_lost L.radix k r made h.1 claimed lost h.6) (adds_then lost back new (back_adds (Some made) lost back h.7) help.1))),
+      )
   inserts_add (attempt.Done (put.Replaced v)) h = absurd h
   inserts_add (attempt.Done put.Absent) h = absurd h
   inserts_add (attempt.Done (put.Other v)) h = absurd h

@@ -33,7 +33,12 @@ pub(crate) fn claim(shared: &Shared, pass: &mut Pass, placement: &mut Placement)
 }
 
 /// Gives a new leaf back to the pool, in one step. The placement remembers its slot.
-pub(crate) fn give_leaf_back(shared: &Shared, pass: &mut Pass, placement: &mut Placement, leaf: &NodeId)
+pub(crate) fn give_leaf_back(
+    shared: &Shared,
+    pass: &mut Pass,
+    placement: &mut Placement,
+    leaf: &NodeId,
+)
     requires own { IsOf shared.now pass.old }
     requires birth { (draft pass.old leaf.now.slot).birth ≡ Some leaf.now.birth }
     ensures part { pass.new.view.log

@@ -11,4 +11,3 @@ mod swapping;
 
 pub use laws::replaced_values_have_puts;
 pub use putting::{Condition, PutOutcome, put};
-

@@ -29,9 +29,7 @@ use nm_edge::Key;
 use nm_epoch::{HeldQueue, pin_for};
 use nm_model::Op;
 use nm_steps::{Pass, Shared};
-use nm_walks::{
-    ChainEdges, Stop, WalkEnd, Workspace, claim_new_nodes, give_back, grow, seek,
-};
+use nm_walks::{ChainEdges, Stop, WalkEnd, Workspace, claim_new_nodes, give_back, grow, seek};
 
 /// What must be so for a put to change the map.
 #[derive(Clone, Copy, Debug, PartialEq, Eq)]
@@ -241,7 +239,9 @@ fn try_replace(
     if end.key != sought {
         return Attempt::Done(PutOutcome::Absent);
     }
-    replace_when(shared, pass, workspace, held, sought, value, condition, &end)
+    replace_when(
+        shared, pass, workspace, held, sought, value, condition, &end,
+    )
 }
 
 /// Tries once to give the key the value: a walk, and a swap if the leaf has the key, or else a link.
@@ -328,7 +328,15 @@ fn try_by(
     match condition {
         Condition::Always => try_put(shared, pass, workspace, held, key, value),
         Condition::IfThere => {
-            try_replace(shared, pass, workspace, held, key, value, Condition::IfThere)
+            try_replace(
+                shared,
+                pass,
+                workspace,
+                held,
+                key,
+                value,
+                Condition::IfThere,
+            )
         }
         Condition::IfItIs(expected) => {
             let condition = Condition::IfItIs(expected);

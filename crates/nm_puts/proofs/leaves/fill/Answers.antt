@@ -77,6 +77,10 @@ returns-clause-once c =
     let r = c.fill_edge.new.pass in
     let t = c.fill_edge-2.new.pass in
     not_stored_after p t (search rules)
-    (omega (arith, log_longer p q _ _ c.fill_key.ensures.step, log_longer q r _ _ c.fill_edge.ensures.step,
-    log_longer r t _ _ c.fill_edge-2.ensures.step))
+    (omega (
+      arith,
+      log_longer p q _ _ c.fill_key.ensures.step,
+      log_longer q r _ _ c.fill_edge.ensures.step,
+      log_longer r t _ _ c.fill_edge-2.ensures.step,
+    ))
     (c.fill_edge-2.ensures.stores ∙ (c.fill_edge.ensures.stores ∙ c.fill_key.ensures.stores)) c.know_stores.ensures

@@ -44,9 +44,12 @@ try_by-requires-clause-kept c =
 
 pub loop-round-preserved : goal.loop-round-preserved
 loop-round-preserved c = record {
-  lost = rw add-one (c.loop-round.pass.view.log, c.loop-round.invariant.lost,
-      subst (λ (f : Fit). IsPutTry f c.args.shared.now.layout c.args.condition c.args.key c.loop-round.pass.view.log c.try_by.new.pass.view.log attempt.Lost)
-      c.loop-round.invariant.fit c.in-Lost.ensures.part);
+  lost = rw add-one (
+    c.loop-round.pass.view.log,
+    c.loop-round.invariant.lost,
+    subst (λ (f : Fit). IsPutTry f c.args.shared.now.layout c.args.condition c.args.key c.loop-round.pass.view.log c.try_by.new.pass.view.log attempt.Lost)
+        c.loop-round.invariant.fit c.in-Lost.ensures.part,
+  );
   on = goes_then c.args.pass.now c.loop-round.pass c.try_by.new.pass c.loop-round.invariant.on c.try_by.ensures.on;
   only = puts_then c.args.pass.now c.loop-round.pass c.try_by.new.pass c.loop-round.invariant.on.same c.loop-round.invariant.only c.try_by.ensures.only;
   nothing = nothing_then c.args.pass.now c.loop-round.pass c.try_by.new.pass c.loop-round.invariant.nothing c.in-Lost.ensures.shows;
@@ -85,10 +88,18 @@ returns-in-Done-clause-on c =
     (goes_then o c.loop-round.pass c.try_by.new.pass c.loop-round.invariant.on c.try_by.ensures.on) c.conclude.ensures.took
 
 pub returns-in-Done-clause-part : goal.returns-in-Done-clause-part
-returns-in-Done-clause-part c =
-    (c.try_by.new.pass.view.log, (c.loop-round.round, c.loop-round.pass.view.log, c.loop-round-test.true, c.loop-round.invariant.lost,
+returns-in-Done-clause-part c = (
+  c.try_by.new.pass.view.log,
+  (
+    c.loop-round.round,
+    c.loop-round.pass.view.log,
+    c.loop-round-test.true,
+    c.loop-round.invariant.lost,
     subst (λ (f : Fit). IsPutTry f c.args.shared.now.layout c.args.condition c.args.key c.loop-round.pass.view.log c.try_by.new.pass.view.log (attempt.Done c.in-Done.put))
-    c.loop-round.invariant.fit c.in-Done.ensures.part), ap (λ (s : PassView). s.view.log) c.conclude.ensures.took.step)
+        c.loop-round.invariant.fit c.in-Done.ensures.part,
+  ),
+  ap (λ (s : PassView). s.view.log) c.conclude.ensures.took.step,
+)
 
 pub returns-in-Done-clause-does : goal.returns-in-Done-clause-does
 returns-in-Done-clause-does c =
@@ -167,10 +178,18 @@ returns-in-Full-clause-on c =
     (goes_then o c.loop-round.pass c.try_by.new.pass c.loop-round.invariant.on c.try_by.ensures.on) c.leave-in-Full.ensures.took
 
 pub returns-in-Full-clause-part : goal.returns-in-Full-clause-part
-returns-in-Full-clause-part c =
-    (c.try_by.new.pass.view.log, (c.loop-round.round, c.loop-round.pass.view.log, c.loop-round-test.true, c.loop-round.invariant.lost,
+returns-in-Full-clause-part c = (
+  c.try_by.new.pass.view.log,
+  (
+    c.loop-round.round,
+    c.loop-round.pass.view.log,
+    c.loop-round-test.true,
+    c.loop-round.invariant.lost,
     subst (λ (f : Fit). IsPutTry f c.args.shared.now.layout c.args.condition c.args.key c.loop-round.pass.view.log c.try_by.new.pass.view.log attempt.Full)
-    c.loop-round.invariant.fit c.in-Full.ensures.part), ap (λ (s : PassView). s.view.log) c.leave-in-Full.ensures.took.step)
+        c.loop-round.invariant.fit c.in-Full.ensures.part,
+  ),
+  ap (λ (s : PassView). s.view.log) c.leave-in-Full.ensures.took.step,
+)
 
 pub returns-in-Full-clause-rests : goal.returns-in-Full-clause-rests
 returns-in-Full-clause-rests c = c.leave-in-Full.ensures.rests

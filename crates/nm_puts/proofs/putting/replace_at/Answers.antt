@@ -137,8 +137,7 @@ help-requires-clause-kept c =
 
 pub returns-in-Err-clause-part : goal.returns-in-Err-clause-part
 returns-in-Err-clause-part c =
-    let lost = c.in-Err.ensures.lost in
-    (
+    let lost = c.in-Err.ensures.lost in (
       c.in-Some.new,
       lost.birth,
       c.in-Err.found,

@@ -32,8 +32,11 @@ look_value-found-requires-clause-slot c =
 
 pub returns-then-found-expected-clause-part : goal.returns-then-found-expected-clause-part
 returns-then-found-expected-clause-part c =
-    inr (inr (inl (c.requires.same, (c.args.expected, c.look_value-found.result, refl, c.if-found-expected.true, refl),
-    ap (λ (x : PassView). x.view.log) c.look_value-found.ensures.looks.same)))
+    inr (inr (inl (
+      c.requires.same,
+      (c.args.expected, c.look_value-found.result, refl, c.if-found-expected.true, refl),
+      ap (λ (x : PassView). x.view.log) c.look_value-found.ensures.looks.same,
+    )))
 
 pub returns-then-found-expected-clause-on : goal.returns-then-found-expected-clause-on
 returns-then-found-expected-clause-on c = goes_by_value c.args.pass.now c.look_value-found.new.pass c.look_value-found.ensures.looks c.know_run.ensures.fits
@@ -52,9 +55,10 @@ pub returns-then-found-expected-clause-shows : goal.returns-then-found-expected-
 returns-then-found-expected-clause-shows c =
     let p = c.args.pass.now in
     let m = c.look_value-found.new.pass in
-    let on = goes_by_value p m c.look_value-found.ensures.looks c.know_run.ensures.fits in
-    (ended_still p m c.args.key c.args.end.now c.args.workspace.now.chain.items c.requires.may on,
-    (looks_by_value p m c.look_value-found.ensures.looks).linked)
+    let on = goes_by_value p m c.look_value-found.ensures.looks c.know_run.ensures.fits in (
+      ended_still p m c.args.key c.args.end.now c.args.workspace.now.chain.items c.requires.may on,
+      (looks_by_value p m c.look_value-found.ensures.looks).linked,
+    )
 
 pub returns-then-found-expected-clause-only : goal.returns-then-found-expected-clause-only
 returns-then-found-expected-clause-only c =
@@ -100,10 +104,12 @@ replace_at-requires-clause-kept c =
 
 pub returns-clause-part : goal.returns-clause-part
 returns-clause-part c =
-    inl (c.requires.same,
-    subst (λ (l : List Entry). ReplacesAt c.args.workspace.now.placement c.args.shared.now.layout c.args.key c.args.end.now
-    c.args.workspace.now.chain.items l c.replace_at.new.pass.view.log c.replace_at.result)
-    (ap (λ (x : PassView). x.view.log) c.look_value-found.ensures.looks.same) c.replace_at.ensures.part)
+    inl (
+      c.requires.same,
+      subst (λ (l : List Entry). ReplacesAt c.args.workspace.now.placement c.args.shared.now.layout c.args.key c.args.end.now
+          c.args.workspace.now.chain.items l c.replace_at.new.pass.view.log c.replace_at.result)
+          (ap (λ (x : PassView). x.view.log) c.look_value-found.ensures.looks.same) c.replace_at.ensures.part,
+    )
 
 pub returns-clause-does : goal.returns-clause-does
 returns-clause-does c =

@@ -69,9 +69,14 @@ replace_at-requires-clause-kept c =
 
 pub returns-then-end-sought-clause-part : goal.returns-then-end-sought-clause-part
 returns-then-end-sought-clause-part c =
-    inr (c.in-Some.end, c.stop.new.chain.items, c.stop.new.pass.view.log, c.in-Some.ensures.came.few,
-    (rw c.get-sought.ensures.number at c.in-Some.ensures.walk),
-    inl (rw c.get-sought.ensures.number at c.if-end-sought.true, rw c.get-sought.ensures.number at c.replace_at.ensures.part))
+    inr (
+      c.in-Some.end,
+      c.stop.new.chain.items,
+      c.stop.new.pass.view.log,
+      c.in-Some.ensures.came.few,
+      (rw c.get-sought.ensures.number at c.in-Some.ensures.walk),
+      inl (rw c.get-sought.ensures.number at c.if-end-sought.true, rw c.get-sought.ensures.number at c.replace_at.ensures.part),
+    )
 
 pub returns-then-end-sought-clause-does : goal.returns-then-end-sought-clause-does
 returns-then-end-sought-clause-does c =
@@ -115,9 +120,14 @@ returns-then-end-sought-clause-fills c = c.replace_at.ensures.fills
 
 pub returns-in_default-claim_new_nodes-clause-part : goal.returns-in_default-claim_new_nodes-clause-part
 returns-in_default-claim_new_nodes-clause-part c =
-    inr (c.in-Some.end, c.stop.new.chain.items, c.stop.new.pass.view.log, c.in-Some.ensures.came.few,
-    (rw c.get-sought.ensures.number at c.in-Some.ensures.walk),
-    inr (inl (rw c.get-sought.ensures.number at c.if-end-sought.false, refl, c.in_default-claim_new_nodes.ensures.part)))
+    inr (
+      c.in-Some.end,
+      c.stop.new.chain.items,
+      c.stop.new.pass.view.log,
+      c.in-Some.ensures.came.few,
+      (rw c.get-sought.ensures.number at c.in-Some.ensures.walk),
+      inr (inl (rw c.get-sought.ensures.number at c.if-end-sought.false, refl, c.in_default-claim_new_nodes.ensures.part)),
+    )
 
 pub returns-in_default-claim_new_nodes-clause-shows : goal.returns-in_default-claim_new_nodes-clause-shows
 returns-in_default-claim_new_nodes-clause-shows c =
@@ -173,11 +183,23 @@ grow-requires-clause-may c =
 
 pub returns-in-Ok-clause-part : goal.returns-in-Ok-clause-part
 returns-in-Ok-clause-part c =
-    inr (c.in-Some.end, c.stop.new.chain.items, c.stop.new.pass.view.log, c.in-Some.ensures.came.few,
-    (rw c.get-sought.ensures.number at c.in-Some.ensures.walk),
-    inr (inl (rw c.get-sought.ensures.number at c.if-end-sought.false, refl,
-    (c.in-Some-claim_new_nodes.made, c.claim_new_nodes.new.pass.view.log, c.in-Some-claim_new_nodes.ensures.part,
-    (rw c.get-sought.ensures.number at c.in-Ok.ensures.won).part))))
+    inr (
+      c.in-Some.end,
+      c.stop.new.chain.items,
+      c.stop.new.pass.view.log,
+      c.in-Some.ensures.came.few,
+      (rw c.get-sought.ensures.number at c.in-Some.ensures.walk),
+      inr (inl (
+        rw c.get-sought.ensures.number at c.if-end-sought.false,
+        refl,
+        (
+          c.in-Some-claim_new_nodes.made,
+          c.claim_new_nodes.new.pass.view.log,
+          c.in-Some-claim_new_nodes.ensures.part,
+          (rw c.get-sought.ensures.number at c.in-Ok.ensures.won).part,
+        ),
+      )),
+    )
 
 pub returns-in-Ok-clause-does : goal.returns-in-Ok-clause-does
 returns-in-Ok-clause-does c =
@@ -186,11 +208,12 @@ returns-in-Ok-clause-does c =
     let q = c.claim_new_nodes.new.pass in
     let s = c.grow.new.pass in
     let made = c.in-Some-claim_new_nodes.made in
-    let stored = c.in-Ok.ensures.stored c.requires.values in
-    (inserted c.args.shared.now.layout.radix q s c.args.key c.args.value c.in-Some.end made (rw c.get-sought.ensures.number at c.in-Ok.ensures.won) stored,
-    put_earlier p q s c.args.key c.args.value (goes_then p r q c.stop.ensures.on c.claim_new_nodes.ensures.on).past
-    (put_by_link q s made.leaf.slot c.args.key c.args.value c.know_run.ensures.fits c.know_run.ensures.seen
-    (rw c.get-sought.ensures.number at c.in-Ok.ensures.leaf) stored))
+    let stored = c.in-Ok.ensures.stored c.requires.values in (
+      inserted c.args.shared.now.layout.radix q s c.args.key c.args.value c.in-Some.end made (rw c.get-sought.ensures.number at c.in-Ok.ensures.won) stored,
+      put_earlier p q s c.args.key c.args.value (goes_then p r q c.stop.ensures.on c.claim_new_nodes.ensures.on).past
+          (put_by_link q s made.leaf.slot c.args.key c.args.value c.know_run.ensures.fits c.know_run.ensures.seen
+          (rw c.get-sought.ensures.number at c.in-Ok.ensures.leaf) stored),
+    )
 
 pub returns-in-Ok-clause-shows : goal.returns-in-Ok-clause-shows
 returns-in-Ok-clause-shows c = (rw c.get-sought.ensures.number at c.in-Ok.ensures.won).linked
@@ -284,12 +307,28 @@ help-requires-clause-kept c =
 
 pub returns-in-Err-clause-part : goal.returns-in-Err-clause-part
 returns-in-Err-clause-part c =
-    inr (c.in-Some.end, c.stop.new.chain.items, c.stop.new.pass.view.log, c.in-Some.ensures.came.few,
-    (rw c.get-sought.ensures.number at c.in-Some.ensures.walk),
-    inr (inl (rw c.get-sought.ensures.number at c.if-end-sought.false, refl,
-    (c.in-Some-claim_new_nodes.made, c.in-Err.found, c.claim_new_nodes.new.pass.view.log, c.grow.new.pass.view.log,
-    c.give_back.new.pass.view.log, c.in-Some-claim_new_nodes.ensures.part, (rw c.get-sought.ensures.number at c.in-Err.ensures.lost).part,
-    c.give_back.ensures.part, c.help.ensures.part))))
+    inr (
+      c.in-Some.end,
+      c.stop.new.chain.items,
+      c.stop.new.pass.view.log,
+      c.in-Some.ensures.came.few,
+      (rw c.get-sought.ensures.number at c.in-Some.ensures.walk),
+      inr (inl (
+        rw c.get-sought.ensures.number at c.if-end-sought.false,
+        refl,
+        (
+          c.in-Some-claim_new_nodes.made,
+          c.in-Err.found,
+          c.claim_new_nodes.new.pass.view.log,
+          c.grow.new.pass.view.log,
+          c.give_back.new.pass.view.log,
+          c.in-Some-claim_new_nodes.ensures.part,
+          (rw c.get-sought.ensures.number at c.in-Err.ensures.lost).part,
+          c.give_back.ensures.part,
+          c.help.ensures.part,
+        ),
+      )),
+    )
 
 pub returns-in-Err-clause-shows : goal.returns-in-Err-clause-shows
 returns-in-Err-clause-shows c =

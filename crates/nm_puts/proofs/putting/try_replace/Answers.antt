@@ -23,8 +23,13 @@ seek-requires-clause-key c = rw c.get-sought.ensures.number (key_of_call c.args.
 
 pub returns-in_default-clause-part : goal.returns-in_default-clause-part
 returns-in_default-clause-part c =
-    inl (refl, (c.seek.new.chain.items,
-    walks_leaf c.args.condition c.requires.there _ _ _ _ _ _ (rw c.get-sought.ensures.number at c.in_default.ensures.walk)))
+    inl (
+      refl,
+      (
+        c.seek.new.chain.items,
+        walks_leaf c.args.condition c.requires.there _ _ _ _ _ _ (rw c.get-sought.ensures.number at c.in_default.ensures.walk),
+      ),
+    )
 
 pub returns-in_default-clause-kept : goal.returns-in_default-clause-kept
 returns-in_default-clause-kept c =
@@ -49,9 +54,14 @@ returns-in_default-clause-fills c = fills_none c.args.held.now.queue
 pub returns-then-end-sought-clause-part : goal.returns-then-end-sought-clause-part
 returns-then-end-sought-clause-part c =
     let other = rw c.get-sought.ensures.number at c.if-end-sought.true in
-    inr (c.in-Some.end, c.seek.new.chain.items, c.seek.new.pass.view.log, c.in-Some.ensures.came.few,
-    walks_leaf c.args.condition c.requires.there _ _ _ _ _ _ (rw c.get-sought.ensures.number at c.in-Some.ensures.walk),
-    inr (inr (inr (other, c.requires.there, refl, refl))))
+    inr (
+      c.in-Some.end,
+      c.seek.new.chain.items,
+      c.seek.new.pass.view.log,
+      c.in-Some.ensures.came.few,
+      walks_leaf c.args.condition c.requires.there _ _ _ _ _ _ (rw c.get-sought.ensures.number at c.in-Some.ensures.walk),
+      inr (inr (inr (other, c.requires.there, refl, refl))),
+    )
 
 pub returns-then-end-sought-clause-does : goal.returns-then-end-sought-clause-does
 returns-then-end-sought-clause-does c =
@@ -100,9 +110,14 @@ replace_when-requires-clause-kept c =
 
 pub returns-clause-part : goal.returns-clause-part
 returns-clause-part c =
-    inr (c.in-Some.end, c.seek.new.chain.items, c.seek.new.pass.view.log, c.in-Some.ensures.came.few,
-    walks_leaf c.args.condition c.requires.there _ _ _ _ _ _ (rw c.get-sought.ensures.number at c.in-Some.ensures.walk),
-    rw c.get-sought.ensures.number at c.replace_when.ensures.part)
+    inr (
+      c.in-Some.end,
+      c.seek.new.chain.items,
+      c.seek.new.pass.view.log,
+      c.in-Some.ensures.came.few,
+      walks_leaf c.args.condition c.requires.there _ _ _ _ _ _ (rw c.get-sought.ensures.number at c.in-Some.ensures.walk),
+      rw c.get-sought.ensures.number at c.replace_when.ensures.part,
+    )
 
 pub returns-clause-does : goal.returns-clause-does
 returns-clause-does c =
