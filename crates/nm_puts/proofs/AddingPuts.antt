@@ -40,18 +40,24 @@ links_in _ = 0
 
 -- ---- one try
 
-walks_add : (when : Condition) (L : Layout) (k : ℕ) (old new : List Entry) (c : List ChainEdge) (r : Option WalkEnd) → WalksFor when L k old new c r → Adds 0 0 0 (3 * reach L) old new
+walks_add : (when : Condition) (L : Layout) (k : ℕ) (old new : List Entry) (c : List ChainEdge) (r : Option WalkEnd)
+    → WalksFor when L k old new c r → Adds 0 0 0 (3 * reach L) old new
 walks_add condition.Always L k old new c r h = stops_adds L k old new c r h
 walks_add condition.IfThere L k old new c r h = seeks_adds L k old new c r h
 walks_add (condition.IfItIs e) L k old new c r h = seeks_adds L k old new c r h
 
-swap_won : (k : ℕ) (r : WalkEnd) (n : NodeId) (b : ℕ) (ns : List NodeId) (old new : List Entry) → Swaps k r n b (Cut ns) old new → Adds 0 0 0 5 old new
-swap_won k r n b ns old new h = adds_then old _ new (adds_these _ old _ refl) (adds_then _ _ new (adds_these _ _ _ refl) (adds_these _ _ new h))
+swap_won : (k : ℕ) (r : WalkEnd) (n : NodeId) (b : ℕ) (ns : List NodeId) (old new : List Entry) → Swaps k r n b
+    (Cut ns) old new → Adds 0 0 0 5 old new
+swap_won k r n b ns old new h = adds_then old _ new (adds_these _ old _ refl) (adds_then _ _ new
+    (adds_these _ _ _ refl) (adds_these _ _ new h))
 
-swap_lost : (k : ℕ) (r : WalkEnd) (n : NodeId) (b : ℕ) (e : Edge) (old new : List Entry) → Swaps k r n b (Lost e) old new → Adds 0 0 0 5 old new
-swap_lost k r n b e old new h = adds_then old _ new (adds_these _ old _ refl) (adds_then _ _ new (adds_these _ _ _ refl) (adds_these _ _ new h))
+swap_lost : (k : ℕ) (r : WalkEnd) (n : NodeId) (b : ℕ) (e : Edge) (old new : List Entry) → Swaps k r n b
+    (Lost e) old new → Adds 0 0 0 5 old new
+swap_lost k r n b e old new h = adds_then old _ new (adds_these _ old _ refl) (adds_then _ _ new
+    (adds_these _ _ _ refl) (adds_these _ _ new h))
 
-module _ (fit : Fit) (L : Layout) (k : ℕ) (r : WalkEnd) (c : List ChainEdge) (old new : List Entry) (few : length c < chain_bound) where
+module _ (fit : Fit) (L : Layout) (k : ℕ) (r : WalkEnd) (c : List ChainEdge) (old new : List Entry)
+    (few : length c < chain_bound) where
   replaces_add : (a : Attempt) → ReplacesAt fit L k r c old new a → AddsLinks (links_in a) (6 * L.nodes + 207) old new
   replaces_add (attempt.Done (put.Replaced v)) h =
       let n = h.0 in
@@ -61,7 +67,11 @@ module _ (fit : Fit) (L : Layout) (k : ℕ) (r : WalkEnd) (c : List ChainEdge) (
             (adds_then old claimed new (claim_by_adds fit L.nodes old claimed (Some n) h.4)
             (adds_then claimed h.5.0 new (swap_won k r n h.1 _ claimed h.5.0 h.5.1) (adds_these _ h.5.0 new h.5.2))),
       )
-  replaces_add attempt.Full h = (0, adds_in (6 * L.nodes + 207) old new (omega arith) (claim_by_adds fit L.nodes old new None h))
+  replaces_add attempt.Full h = (
+    0,
+    adds_in (6 * L.nodes + 207) old new (omega arith)
+        (claim_by_adds fit L.nodes old new None h),
+  )
   replaces_add attempt.Lost h =
       let n = h.0 in
       let claimed = h.3 in
@@ -71,7 +81,8 @@ module _ (fit : Fit) (L : Layout) (k : ℕ) (r : WalkEnd) (c : List ChainEdge) (
         0 + (0 + (0 + help.0)),
         adds_in (6 * L.nodes + 207) old new (omega arith)
             (adds_then old claimed new (claim_by_adds fit L.nodes old claimed (Some n) h.6)
-            (adds_then claimed lost new (swap_lost k r n h.1 h.2 claimed lost h.7) (adds_then lost back new (adds_these _ lost back h.8) help.1))),
+            (adds_then claimed lost new (swap_lost k r n h.1 h.2 claimed lost h.7) (adds_then lost back new
+            (adds_these _ lost back h.8) help.1))),
       )
   replaces_add (attempt.Done put.Inserted) h = absurd h
   replaces_add (attempt.Done put.Absent) h = absurd h
@@ -83,7 +94,11 @@ module _ (fit : Fit) (L : Layout) (k : ℕ) (r : WalkEnd) (c : List ChainEdge) (
     adds_in (6 * L.nodes + 207) old new (omega arith)
         (adds_then old h.1 new (fork_adds fit L.nodes old h.1 (Some h.0) h.2) (grows_won L.radix k r h.0 h.1 new h.3)),
   )
-  inserts_add attempt.Full h = (0, adds_in (6 * L.nodes + 207) old new (omega arith) (fork_adds fit L.nodes old new None h))
+  inserts_add attempt.Full h = (
+    0,
+    adds_in (6 * L.nodes + 207) old new (omega arith)
+        (fork_adds fit L.nodes old new None h),
+  )
   inserts_add attempt.Lost h =
       let made = h.0 in
       let claimed = h.2 in
@@ -93,19 +108,24 @@ module _ (fit : Fit) (L : Layout) (k : ℕ) (r : WalkEnd) (c : List ChainEdge) (
         0 + (0 + (0 + help.0)),
         adds_in (6 * L.nodes + 207) old new (omega arith)
             (adds_then old claimed new (fork_adds fit L.nodes old claimed (Some made) h.5)
-            (adds_then claimed lost new (grows_lost L.radix k r made h.1 claimed lost h.6) (adds_then lost back new (back_adds (Some made) lost back h.7) help.1))),
+            (adds_then claimed lost new (grows_lost L.radix k r made h.1 claimed lost h.6) (adds_then lost back new
+            (back_adds (Some made) lost back h.7) help.1))),
       )
   inserts_add (attempt.Done (put.Replaced v)) h = absurd h
   inserts_add (attempt.Done put.Absent) h = absurd h
   inserts_add (attempt.Done (put.Other v)) h = absurd h
 
-  tries_add : (when : Condition) (a : Attempt) → TriesAt fit L when k r c old new a → AddsLinks (links_in a) (6 * L.nodes + 207) old new
+  tries_add : (when : Condition) (a : Attempt) → TriesAt fit L when k r c old new a → AddsLinks (links_in a)
+      (6 * L.nodes + 207) old new
   tries_add when a (inl h) = replaces_add a h.1
   tries_add when a (inr (inl h)) = inserts_add a h.2
-  tries_add when a (inr (inr (inl h))) = subst (λ (b : Attempt). AddsLinks (links_in b) (6 * L.nodes + 207) old new) (sym h.1.4) (0, adds_in _ old new (omega arith) (adds_none old new h.2))
-  tries_add when a (inr (inr (inr h))) = subst (λ (b : Attempt). AddsLinks (links_in b) (6 * L.nodes + 207) old new) (sym h.2) (0, adds_in _ old new (omega arith) (adds_none old new h.3))
+  tries_add when a (inr (inr (inl h))) = subst (λ (b : Attempt). AddsLinks (links_in b) (6 * L.nodes + 207) old new)
+      (sym h.1.4) (0, adds_in _ old new (omega arith) (adds_none old new h.2))
+  tries_add when a (inr (inr (inr h))) = subst (λ (b : Attempt). AddsLinks (links_in b) (6 * L.nodes + 207) old new)
+      (sym h.2) (0, adds_in _ old new (omega arith) (adds_none old new h.3))
 
-try_adds : (fit : Fit) (L : Layout) (when : Condition) (k : ℕ) (old new : List Entry) (a : Attempt) → IsPutTry fit L when k old new a → AddsLinks (links_in a) (at_most L) old new
+try_adds : (fit : Fit) (L : Layout) (when : Condition) (k : ℕ) (old new : List Entry) (a : Attempt)
+    → IsPutTry fit L when k old new a → AddsLinks (links_in a) (at_most L) old new
 try_adds fit L when k old new a (inl h) =
     subst (λ (b : Attempt). AddsLinks (links_in b) (at_most L) old new) (sym h.0)
     (0, adds_in (at_most L) old new (omega arith) (walks_add when L k old new h.1.0 None h.1.1))
@@ -115,7 +135,8 @@ try_adds fit L when k old new a (inr h) =
 
 -- ---- the whole call
 
-lost_add : (fit : Fit) (L : Layout) (when : Condition) (k n : ℕ) (old new : List Entry) → LostPuts fit L when k n old new → AddsLinks 0 (n * at_most L) old new
+lost_add : (fit : Fit) (L : Layout) (when : Condition) (k n : ℕ) (old new : List Entry)
+    → LostPuts fit L when k n old new → AddsLinks 0 (n * at_most L) old new
 lost_add fit L when k zero old new h = (0, adds_in _ old new (omega arith) (adds_none old new h))
 lost_add fit L when k (suc n) old new h =
     let above = lost_add fit L when k n old h.0 h.1 in
@@ -123,7 +144,8 @@ lost_add fit L when k (suc n) old new h =
     let more = suc-mul n (at_most L) in
     (above.0 + here.0, adds_in _ old new (omega (arith, more)) (adds_then old h.0 new above.1 here.1))
 
-ends_add : (fit : Fit) (L : Layout) (tries : ℕ) (when : Condition) (k : ℕ) (a : Attempt) (old new : List Entry) → EndsBy fit L tries when k a old new
+ends_add : (fit : Fit) (L : Layout) (tries : ℕ) (when : Condition) (k : ℕ) (a : Attempt) (old new : List Entry)
+    → EndsBy fit L tries when k a old new
     → AddsLinks (links_in a) (tries * at_most L) old new
 ends_add fit L tries when k a old new h =
     let above = lost_add fit L when k h.0 old h.1 h.3 in
@@ -143,12 +165,16 @@ same_links (put.Replaced v) = refl
 same_links (put.Other v) = refl
 same_links put.Absent = refl
 
-finishes_add : (fit : Fit) (L : Layout) (tries : ℕ) (when : Condition) (k : ℕ) (old new : List Entry) (r : Result PutOutcome CallFault) → Finishes fit L tries when k old new r
+finishes_add : (fit : Fit) (L : Layout) (tries : ℕ) (when : Condition) (k : ℕ) (old new : List Entry)
+    (r : Result PutOutcome CallFault) → Finishes fit L tries when k old new r
     → AddsLinks (links_of r) (tries * at_most L + 1) old new
 finishes_add fit L tries when k old new (Ok p) h =
     let part = ends_add fit L tries when k (attempt.Done p) old h.0 h.1 in
-    subst (λ (n : ℕ). AddsLinks n (tries * at_most L + 1) old new) (same_links p)
-    (part.0 + 0, subst (λ (n : ℕ). Adds n 0 (part.0 + 0) (tries * at_most L + 1) old new) (omega arith) (adds_then old h.0 new part.1 (left_add p h.0 new h.2)))
+    subst (λ (n : ℕ). AddsLinks n (tries * at_most L + 1) old new) (same_links p) (
+      part.0 + 0,
+      subst (λ (n : ℕ). Adds n 0 (part.0 + 0) (tries * at_most L + 1) old new) (omega arith)
+          (adds_then old h.0 new part.1 (left_add p h.0 new h.2)),
+    )
 finishes_add fit L tries when k old new (Err fault.Full) h =
     let part = ends_add fit L tries when k attempt.Full old h.0 h.1 in
     (part.0 + 0, adds_then old h.0 new part.1 (adds_these _ h.0 new h.2))
@@ -163,7 +189,8 @@ finishes_add fit L tries when k old new (Err fault.Pending) h = absurd h
 finishes_add fit L tries when k old new (Err fault.Pinned) h = absurd h
 finishes_add fit L tries when k old new (Err fault.Unfinished) h = absurd h
 
-pub put_did : (fit : Fit) (L : Layout) (tries : ℕ) (when : Condition) (k : ℕ) (old new : List Entry) (r : Result PutOutcome CallFault)
+pub put_did : (fit : Fit) (L : Layout) (tries : ℕ) (when : Condition) (k : ℕ) (old new : List Entry)
+    (r : Result PutOutcome CallFault)
     → PinsThen fit L tries when k old new r → PutDid fit L tries when k old new r
 put_did fit L tries when k old new (Ok p) h = h
 put_did fit L tries when k old new (Err fault.Busy) h = inr (inr h)
@@ -174,15 +201,23 @@ put_did fit L tries when k old new (Err fault.Pinned) h = h
 put_did fit L tries when k old new (Err fault.Unfinished) h = h
 
 -- a put stays within its bound
-pub within_puts : (L : Layout) (tries m : ℕ) (old new : List Entry) → length new ≤ length old + m → m ≤ tries * at_most L + 2 * tries + 10 → IsWithinPuts L tries old new
+pub within_puts : (L : Layout) (tries m : ℕ) (old new : List Entry) → length new ≤ length old + m
+    → m ≤ tries * at_most L + 2 * tries + 10 → IsWithinPuts L tries old new
 within_puts L tries m old new le few =
     let two = mul-add tries (at_most L) 2 in
-    let all = mul-le-mul_left tries (let le : at_most L + 2 ≤ 4 * reach L + 6 * L.nodes + 8 * chain_bound = omega arith in le) in
+    let all = mul-le-mul_left tries
+    (let le : at_most L + 2 ≤ 4 * reach L + 6 * L.nodes + 8 * chain_bound = omega arith in le) in
     omega (arith, two, all, le, few)
 
-module _ (fit : Fit) (L : Layout) (tries : ℕ) (when : Condition) (k : ℕ) (old pinned new : List Entry) (e : ℕ) (pin : IsPinnedBy (SightFor Insert k) tries old pinned e) (r : Result PutOutcome CallFault) (h : Finishes fit L tries when k pinned new r) where
+module _ (fit : Fit) (L : Layout) (tries : ℕ) (when : Condition) (k : ℕ) (old pinned new : List Entry) (e : ℕ)
+    (pin : IsPinnedBy (SightFor Insert k) tries old pinned e) (r : Result PutOutcome CallFault)
+    (h : Finishes fit L tries when k pinned new r) where
   all : AddsLinks (links_of r) (2 * tries + 1 + (tries * at_most L + 1)) old new
-  all = let part = finishes_add fit L tries when k pinned new r h in (0 + part.0, adds_after old pinned new (pin_adds Insert k tries old pinned e pin) part.1)
+  all = let part = finishes_add fit L tries when k pinned new r h in (
+    0 + part.0,
+    adds_after old pinned new
+        (pin_adds Insert k tries old pinned e pin) part.1,
+  )
 
   pub put_wins : HasWon old new (links_of r) 0
   put_wins = has_won old new all.1

@@ -43,7 +43,8 @@ changed_nothing p q none' only still = record {
   unflagged = only.flagged ∙ none'.unflagged;
 }
 
-pub may_end_with : (k : ℕ) (p q : PassView) (a : PutOutcome) → HasChangedNothing p → OnlyPuts p q → Tells q (CallIs Insert k)
+pub may_end_with : (k : ℕ) (p q : PassView) (a : PutOutcome) → HasChangedNothing p → OnlyPuts p q → Tells q
+    (CallIs Insert k)
     → ShowsTry k p q (attempt.Done a) → MayEndWith q a
 may_end_with k p q put.Inserted none' only call shows = (Insert, k, call, shows)
 may_end_with k p q (put.Replaced v) none' only call shows = (Insert, k, call, (shows.0, shows.1 ∙ none'.unlinked))
@@ -58,7 +59,8 @@ is_leave put.Absent = tt
 
 -- ---- what it leaves
 
-module _ (p q z : PassView) (e : Event) (leaves : IsLeave e) (was : HasChangedNothing p) (on : GoesOn p q) (only : OnlyPuts p q)
+module _ (p q z : PassView) (e : Event) (leaves : IsLeave e) (was : HasChangedNothing p) (on : GoesOn p q)
+    (only : OnlyPuts p q)
     (took : TakesStep q z e Departed) (hands : KeepsHands q z) where
   labelled : (epochs q).unlabelled ≡ false
   labelled = only.labelled was.labelled
@@ -76,10 +78,19 @@ module _ (p q z : PassView) (e : Event) (leaves : IsLeave e) (was : HasChangedNo
   })
 
 -- what it did in the map
-pub does_then : (when : Condition) (k v : ℕ) (p q z : PassView) (a : PutOutcome) → IsInRun p → Tells p (CallIs Insert k) → HasSeen q.view → GoesOn p q
+pub does_then : (when : Condition) (k v : ℕ) (p q z : PassView) (a : PutOutcome) → IsInRun p → Tells p
+    (CallIs Insert k) → HasSeen q.view → GoesOn p q
     → TryDoes when k v p q (attempt.Done a) → TakesStep q z (leave_of a) Departed → Does when k v p z a
-does_then when k v p q z put.Inserted run call seen on h took = (inserted_then q z true k v h.0 took, put_then p q z (LeaveWith true) Departed k v h.1 took)
-does_then when k v p q z (put.Replaced old) run call seen on h took = (replaced_then p q z (LeaveWith false) Departed k old v h.0 took, h.1)
+does_then when k v p q z put.Inserted run call seen on h took = (
+  inserted_then q z true k v h.0 took,
+  put_then p q z
+      (LeaveWith true) Departed k v h.1 took,
+)
+does_then when k v p q z (put.Replaced old) run call seen on h took = (
+  replaced_then p q z
+      (LeaveWith false) Departed k old v h.0 took,
+  h.1,
+)
 does_then when k v p q z (put.Other found) run call seen on h took = record {
   at = q;
   since = on;
@@ -99,12 +110,15 @@ does_then when k v p q z put.Absent run call seen on h took = record {
 -- ---- the whole call
 
 -- what was so from the pin on was so in the call
-pub if_did : (when : Condition) (k v : ℕ) (o a q : PassView) (r : Result PutOutcome CallFault) → HasSeen o.view → IsLayout o.view.layout
+pub if_did : (when : Condition) (k v : ℕ) (o a q : PassView) (r : Result PutOutcome CallFault) → HasSeen o.view
+    → IsLayout o.view.layout
     → (epochs o).pin ≡ None → Continues o a → IfDone r (Does when k v a q) → IfDone r (Did when k v o q)
 if_did when k v o a q (Err e) seen fits unpinned pinning h = tt
 if_did when k v o a q (Ok put.Inserted) seen fits unpinned pinning h = (h.0, put_earlier o a q k v pinning.past h.1)
-if_did when k v o a q (Ok (put.Replaced old)) seen fits unpinned pinning h = (replaced_since o a q k old v pinning.past h.0, h.1)
-if_did when k v o a q (Ok (put.Other found)) seen fits unpinned pinning h = found_was o a q seen fits unpinned pinning k found h
+if_did when k v o a q (Ok (put.Replaced old)) seen fits unpinned pinning h =
+    (replaced_since o a q k old v pinning.past h.0, h.1)
+if_did when k v o a q (Ok
+    (put.Other found)) seen fits unpinned pinning h = found_was o a q seen fits unpinned pinning k found h
 if_did when k v o a q (Ok put.Absent) seen fits unpinned pinning h =
     was_mapped o a h.at seen fits unpinned pinning h.since k h.is_key q h.leaves h.seen 0 None h.ended
 
@@ -112,7 +126,8 @@ if_did when k v o a q (Ok put.Absent) seen fits unpinned pinning h =
 pub private_in_call : (o a q : PassView) → KeepsHands o a → HasNewNodes a q None → HasNewNodes o q None
 private_in_call o a q hands h s = h s ∙ ap (λ m. get m s) hands.private
 
-pub ledgers_in_call : (o a q : PassView) → IsSamePass o a → KeepsHands o a → (epochs o).unlabelled ≡ false → KeepsLedgers a q → KeepsLedgers o q
+pub ledgers_in_call : (o a q : PassView) → IsSamePass o a → KeepsHands o a → (epochs o).unlabelled ≡ false
+    → KeepsLedgers a q → KeepsLedgers o q
 ledgers_in_call o a q same hands labelled kept = ledgers_then o a q same (record {
   others = λ x other. ap (λ ls. held ls x) (hands.ledgers labelled);
   freed = ap (λ ls. option_map (λ (l : Ledger). l.freed) (held ls o.view.number)) (hands.ledgers labelled);

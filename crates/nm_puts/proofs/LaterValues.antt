@@ -16,7 +16,8 @@ use Rattle.nm_calls.proofs.StoresInTurns.{stores_in_turns}
 use Rattle.nm_puts.specs.Swaps.{IsUnderPin}
 use Rattle.nm_puts.proofs.UnderPins.{left_in_none, none_left_then}
 
-module _ (o z : PassView) (fits : IsLayout o.view.layout) (on : Continues o z) (under : IsUnderPin o.view.log z.view.log) (seen : HasSeenStores z.view)
+module _ (o z : PassView) (fits : IsLayout o.view.layout) (on : Continues o z)
+    (under : IsUnderPin o.view.log z.view.log) (seen : HasSeenStores z.view)
     (k c : ℕ) (is_key : IsKey k) (r : HasReadValue o k c) where
   abbrev L : Layout
   L = o.view.layout
@@ -56,7 +57,8 @@ module _ (o z : PassView) (fits : IsLayout o.view.layout) (on : Continues o z) (
 
   later_stores : HoldsStores o.view.layout first_turns (trace_in (ordered o.view.layout) there.run.events) z.view.stores
   later_stores = subst (λ (ts : List Turn). HoldsStores L first_turns ts z.view.stores) there.run.are
-      (stores_in_turns (record o.view { log = z.view.log; past = z.view.past; stores = z.view.stores }) fits there first_turns
+      (stores_in_turns
+      (record o.view { log = z.view.log; past = z.view.past; stores = z.view.stores }) fits there first_turns
       (record { more = rest ++ more; is = past_is }))
 
   pub value_later : c ≡ value_of z.view.stores r.slot

@@ -31,10 +31,12 @@ module _ (L : Layout) (fits : IsLayout L) (events : List (ℕ × Event)) (keys :
   turns = trace_in (ordered L) events
 
   abbrev won : Turn
-  won = answered_turn w (Swap r.won.parent r.won.side r.found.slot r.left.slot) (Cut (named (words_after L r.so_far) r.found.slot ∷ []))
+  won = answered_turn w (Swap r.won.parent r.won.side r.found.slot r.left.slot) (Cut
+      (named (words_after L r.so_far) r.found.slot ∷ []))
 
   -- the swap among the turns up to which there are stores
-  until_is : held.until ≡ r.so_far ++ answered_turn w (Swap r.won.parent r.won.side r.found.slot r.left.slot) (Cut (named (words_after L r.so_far) r.found.slot ∷ [])) ∷ (r.rest ++ on.more)
+  until_is : held.until ≡ r.so_far ++ answered_turn w (Swap r.won.parent r.won.side r.found.slot r.left.slot) (Cut
+      (named (words_after L r.so_far) r.found.slot ∷ [])) ∷ (r.rest ++ on.more)
   until_is = on.is ∙ (ap (λ (ts : List Turn). ts ++ on.more) r.are ∙ (append_assoc r.so_far (r.swap ∷ r.rest) on.more
       ∙ ap (λ (t : Turn). r.so_far ++ t ∷ (r.rest ++ on.more)) r.won.is))
 
@@ -44,7 +46,8 @@ module _ (L : Layout) (fits : IsLayout L) (events : List (ℕ × Event)) (keys :
 
   whole : trace_in (ordered L) events ≡ r.so_far ++ r.swap ∷ ((r.rest ++ on.more) ++ held.ends.more)
   whole = held.ends.is ∙ (ap (λ (ts : List Turn). ts ++ held.ends.more) until_is
-      ∙ (append_assoc r.so_far (won ∷ (r.rest ++ on.more)) held.ends.more ∙ ap (λ (t : Turn). r.so_far ++ t ∷ after) (sym r.won.is)))
+      ∙ (append_assoc r.so_far (won ∷ (r.rest ++ on.more)) held.ends.more ∙ ap (λ (t : Turn). r.so_far ++ t ∷ after)
+      (sym r.won.is)))
 
   now_extends : Extends (trace_in (ordered L) events) now
   now_extends = record {
@@ -59,7 +62,11 @@ module _ (L : Layout) (fits : IsLayout L) (events : List (ℕ × Event)) (keys :
   holds_before : HoldsStores L r.so_far (trace_in (ordered L) events) seen
   holds_before = record {
     until = holds.until;
-    from = record { more = r.swap ∷ holds.from.more; is = holds.from.is ∙ append_assoc r.so_far (r.swap ∷ []) holds.from.more };
+    from = record {
+      more = r.swap ∷ holds.from.more;
+      is = holds.from.is ∙ append_assoc r.so_far
+          (r.swap ∷ []) holds.from.more;
+    };
     ends = holds.ends;
     held = holds.held;
     linked = holds.linked;
@@ -67,8 +74,10 @@ module _ (L : Layout) (fits : IsLayout L) (events : List (ℕ × Event)) (keys :
     order = holds.order;
   }
 
-  shown : SwapShown L r.so_far w r.won.parent r.won.side r.found.slot r.left.slot (named (words_after L r.so_far) r.found.slot ∷ [])
-  shown = swap_shown L fits events keys r.so_far after w r.won.parent r.won.side r.found.slot r.left.slot (named (words_after L r.so_far) r.found.slot ∷ [])
+  shown : SwapShown L r.so_far w r.won.parent r.won.side r.found.slot r.left.slot (named
+      (words_after L r.so_far) r.found.slot ∷ [])
+  shown = swap_shown L fits events keys r.so_far after w r.won.parent r.won.side r.found.slot r.left.slot (named
+      (words_after L r.so_far) r.found.slot ∷ [])
       (whole ∙ ap (λ (t : Turn). r.so_far ++ t ∷ after) r.won.is)
 
   key_is : shown.of_key ≡ k
@@ -83,26 +92,34 @@ module _ (L : Layout) (fits : IsLayout L) (events : List (ℕ × Event)) (keys :
       (inr (subst IsKey (sym r.found.has_key) is_key)) seen stores holds_before extends from held ∙ r.found.has_value
 
   new_by_all : value_at (length (r.so_far ++ r.swap ∷ [])) stores r.left.slot ≡ new
-  new_by_all = same_by_more L fits events keys (r.so_far ++ r.swap ∷ []) after (whole ∙ sym (append_assoc r.so_far (r.swap ∷ []) after))
-      r.left.slot r.left.reached r.left.leaf (inr (subst IsKey (sym r.left.has_key) is_key)) seen stores holds extends from held ∙ r.left.has_value
+  new_by_all = same_by_more L fits events keys (r.so_far ++ r.swap ∷ []) after (whole ∙ sym
+      (append_assoc r.so_far (r.swap ∷ []) after))
+      r.left.slot r.left.reached r.left.leaf (inr
+      (subst IsKey (sym r.left.has_key) is_key)) seen stores holds extends from held ∙ r.left.has_value
 
   -- ---- the put
 
-  pub its_put : (acts : List Act) (valued : List MapAct) → IsMapHistory L held.until stores acts valued → HasItsPut L stores valued was now seen w k old new r
-  its_put acts valued h = of_put p.0 p.1 (subst (λ (t : Turn). IsPutOf L stores r.so_far w r.found.slot r.left.slot t p.0) (sym r.won.is) p.2)
+  pub its_put : (acts : List Act) (valued : List MapAct) → IsMapHistory L held.until stores acts valued
+      → HasItsPut L stores valued was now seen w k old new r
+  its_put acts valued h = of_put p.0 p.1 (subst
+      (λ (t : Turn). IsPutOf L stores r.so_far w r.found.slot r.left.slot t p.0) (sym r.won.is) p.2)
     where
       p : (a : MapAct) × Contains valued a × IsPutOf L stores r.so_far w r.found.slot r.left.slot
-          (answered_turn w (Swap r.won.parent r.won.side r.found.slot r.left.slot) (Cut (named (words_after L r.so_far) r.found.slot ∷ []))) a
-      p = h.swaps r.so_far (r.rest ++ on.more) w r.won.parent r.won.side r.found.slot r.left.slot (named (words_after L r.so_far) r.found.slot ∷ []) until_is
+          (answered_turn w (Swap r.won.parent r.won.side r.found.slot r.left.slot) (Cut
+          (named (words_after L r.so_far) r.found.slot ∷ []))) a
+      p = h.swaps r.so_far (r.rest ++ on.more) w r.won.parent r.won.side r.found.slot r.left.slot (named
+          (words_after L r.so_far) r.found.slot ∷ []) until_is
 
-      of_put : (a : MapAct) → Contains valued a → IsPutOf L stores r.so_far w r.found.slot r.left.slot r.swap a → HasItsPut L stores valued was now seen w k old new r
+      of_put : (a : MapAct) → Contains valued a → IsPutOf L stores r.so_far w r.found.slot r.left.slot r.swap a
+          → HasItsPut L stores valued was now seen w k old new r
       of_put a among is = record {
         act = a;
         among = among;
         is = is;
         call = same_Some (called_in a.act) (record { pin = r.pin; op = Insert; key = k }) (sym is.call ∙ r.call);
         finds = sym is.found.has_value ∙ (ap (value_at (length r.so_far) stores) is.in_old ∙ old_by_all);
-        leaves = is.leaves ∙ ap Some (sym is.left.has_value ∙ (ap (value_at (length (r.so_far ++ r.swap ∷ [])) stores) is.in_new ∙ new_by_all));
+        leaves = is.leaves ∙ ap Some (sym is.left.has_value ∙
+            (ap (value_at (length (r.so_far ++ r.swap ∷ [])) stores) is.in_new ∙ new_by_all));
       }
 
 pub replaced_values_have_puts : ReplacedValuesHavePuts

@@ -74,7 +74,8 @@ pub record HasSwappedLeaf (p s : PassView) (leaf : NodeId) (new k v : ℕ) : Typ
   pub call : (search_after idle log).call ≡ Some (record { op = Insert; key = k })
   pub stored : HasLinkedValue s new v
 
-pub has_swapped_leaf : (p f s : PassView) (parent : ℕ) (side : Side) (leaf : NodeId) (new k v : ℕ) → HasSeenAllOf f p → IsInRun f
+pub has_swapped_leaf : (p f s : PassView) (parent : ℕ) (side : Side) (leaf : NodeId) (new k v : ℕ)
+    → HasSeenAllOf f p → IsInRun f
     → IsPinnedSomewhere f → Tells f (CallIs Insert k) → HasJustStored f new v
     → TakesStep f s (Swap parent side leaf.slot new) (Cut (leaf ∷ [])) → HasSwappedLeaf p s leaf new k v
 has_swapped_leaf p f s parent side leaf new k v seen run pin call stored took = record {
@@ -83,18 +84,22 @@ has_swapped_leaf p f s parent side leaf new k v seen run pin call stored took = 
   log = f.view.log;
   parent = parent;
   side = side;
-  past = took.past.is ∙ ap (λ (z : PassView). took.past.before ++ answered_turn z.view.number (Swap parent side leaf.slot new) (Cut (leaf ∷ [])) ∷ []) (sym took.step);
+  past = took.past.is ∙ ap (λ (z : PassView). took.past.before ++ answered_turn z.view.number
+      (Swap parent side leaf.slot new) (Cut (leaf ∷ [])) ∷ []) (sym took.step);
   is_log = ap (λ (z : PassView). z.view.log) took.step;
   pin = (pin.0, ap (λ (z : PassView). (known_by z.view.layout z.view.number f.view.log).brief.pin) took.step ∙ pin.1);
   here = ap (λ (z : PassView). (known_by z.view.layout z.view.number f.view.log).gone) took.step ∙ run.run.here;
   call = call;
-  stored = if_linked_value {A = Unit {0}} {E = Unit {0}} (Ok tt) f s (Swap parent side leaf.slot new) (Cut (leaf ∷ [])) new v stored took;
+  stored = if_linked_value {A = Unit {0}} {E = Unit {0}} (Ok tt) f s (Swap parent side leaf.slot new) (Cut
+      (leaf ∷ [])) new v stored took;
 }
 
 -- ---- the map before and after it
 
-module _ (p s z : PassView) (fits : IsLayout s.view.layout) (seen : HasSeen s.view) (leaf : NodeId) (new k v old : ℕ) (t : HasSwappedLeaf p s leaf new k v)
-    (looks : OnlySees s z) (is_value : old ≡ value_of z.view.stores leaf.slot) (high : 6 ≤ leaf.slot) (within : leaf.slot ≤ s.view.layout.nodes) where
+module _ (p s z : PassView) (fits : IsLayout s.view.layout) (seen : HasSeen s.view) (leaf : NodeId)
+    (new k v old : ℕ) (t : HasSwappedLeaf p s leaf new k v)
+    (looks : OnlySees s z) (is_value : old ≡ value_of z.view.stores leaf.slot) (high : 6 ≤ leaf.slot)
+    (within : leaf.slot ≤ s.view.layout.nodes) where
   abbrev L : Layout
   L = s.view.layout
 
@@ -113,25 +118,31 @@ module _ (p s z : PassView) (fits : IsLayout s.view.layout) (seen : HasSeen s.vi
   abbrev now : List Turn
   now = t.before ++ turn ∷ []
 
-  past_now : z.view.past ≡ (t.before ++ answered_turn s.view.number (Swap t.parent t.side leaf.slot new) (Cut (leaf ∷ [])) ∷ []) ++ looks.past.more
+  past_now : z.view.past ≡ (t.before ++ answered_turn s.view.number (Swap t.parent t.side leaf.slot new)
+      (Cut (leaf ∷ [])) ∷ []) ++ looks.past.more
   past_now = looks.past.is ∙ ap (λ (ts : List Turn). ts ++ looks.past.more) t.past
 
-  past_is : z.view.past ≡ t.before ++ answered_turn s.view.number (Swap t.parent t.side leaf.slot new) (Cut (leaf ∷ [])) ∷ looks.past.more
+  past_is : z.view.past ≡ t.before ++ answered_turn s.view.number (Swap t.parent t.side leaf.slot new) (Cut
+      (leaf ∷ [])) ∷ looks.past.more
   past_is = past_now ∙ append_assoc t.before (turn ∷ []) looks.past.more
 
-  whole : trace_in (ordered s.view.layout) there.run.events ≡ t.before ++ answered_turn s.view.number (Swap t.parent t.side leaf.slot new) (Cut (leaf ∷ [])) ∷ looks.past.more
+  whole : trace_in (ordered s.view.layout) there.run.events ≡ t.before ++ answered_turn s.view.number
+      (Swap t.parent t.side leaf.slot new) (Cut (leaf ∷ [])) ∷ looks.past.more
   whole = sym there.run.are ∙ past_is
 
   pub shown : SwapShown s.view.layout t.before s.view.number t.parent t.side leaf.slot new (leaf ∷ [])
-  shown = swap_shown L fits there.run.events there.run.keys t.before looks.past.more w t.parent t.side leaf.slot new (leaf ∷ []) whole
+  shown = swap_shown L fits there.run.events there.run.keys t.before looks.past.more w t.parent t.side leaf.slot new
+      (leaf ∷ []) whole
 
   -- ---- the run before the swap
 
-  pub e : LastEvent (ordered s.view.layout) seen.events t.before (answered_turn s.view.number (Swap t.parent t.side leaf.slot new) (Cut (leaf ∷ [])))
+  pub e : LastEvent (ordered s.view.layout) seen.events t.before (answered_turn s.view.number
+      (Swap t.parent t.side leaf.slot new) (Cut (leaf ∷ [])))
   e = last_event t.before seen.events (ordered L) turn (sym seen.are ∙ t.past)
 
   first_seen : All (λ u. HasKey u.1) e.first
-  first_seen = first_keys e.first (e.last ∷ []) (subst (λ (es : List (ℕ × Event)). All (λ u. HasKey u.1) es) e.are seen.keys)
+  first_seen = first_keys e.first (e.last ∷ []) (subst
+      (λ (es : List (ℕ × Event)). All (λ u. HasKey u.1) es) e.are seen.keys)
 
   log_is : part_of s.view.number t.before ≡ t.log
   log_is = (same_from_push (part_of w t.before) t.log entry entry pushed).0
@@ -142,7 +153,11 @@ module _ (p s z : PassView) (fits : IsLayout s.view.layout) (seen : HasSeen s.vi
       own_part : ((s.view.number == s.view.number) || false) ≡ true
       own_part = ap (λ (b : Bool). b || false) (eq-eqb w w refl)
 
-      pushed : part_of s.view.number t.before ++ (Swap t.parent t.side leaf.slot new, Cut (leaf ∷ [])) ∷ [] ≡ t.log ++ (Swap t.parent t.side leaf.slot new, Cut (leaf ∷ [])) ∷ []
+      pushed : part_of s.view.number t.before ++ (
+        Swap t.parent t.side leaf.slot new,
+        Cut
+            (leaf ∷ []),
+      ) ∷ [] ≡ t.log ++ (Swap t.parent t.side leaf.slot new, Cut (leaf ∷ [])) ∷ []
       pushed = sym (ap (λ (b : Bool). part_of w t.before ++ (cond b (logged_by turn) [] ++ [])) own_part)
           ∙ (sym (part-append w t.before (turn ∷ [])) ∙ (ap (part_of w) (sym t.past) ∙ (seen.is_part ∙ t.is_log)))
 
@@ -156,9 +171,11 @@ module _ (p s z : PassView) (fits : IsLayout s.view.layout) (seen : HasSeen s.vi
     here = t.here;
   }
 
-  pub called : call_begun s.view.number t.before ≡ Some (record { pin = pin_of s.view.layout e.first s.view.number; op = Insert; key = k })
+  pub called : call_begun s.view.number t.before ≡ Some
+      (record { pin = pin_of s.view.layout e.first s.view.number; op = Insert; key = k })
   unfolding e seen_before
-  called = call_seen (record s.view { log = t.log; past = t.before }) fits seen_before (Some (record { op = Insert; key = k })) t.call
+  called = call_seen (record s.view { log = t.log; past = t.before }) fits seen_before (Some
+      (record { op = Insert; key = k })) t.call
 
   key_is : shown.of_key ≡ k
   key_is = ap (λ (c : Called). c.key) (same_Some _ _ (sym shown.call ∙ called))
@@ -168,12 +185,15 @@ module _ (p s z : PassView) (fits : IsLayout s.view.layout) (seen : HasSeen s.vi
   pinned : IsPinned s.view.number t.before
   pinned = subst (IsPinned w) e.firsts (pinned_by_turns w (trace_in (ordered L) e.first)
       (subst (λ (o : Option ℕ). IsSome o)
-      (sym (ap (λ (j : Knowledge). j.brief.pin) (logs_tell L e.first w seen.worker ∙ ap (known_by L w) (ap (part_of w) e.firsts ∙ log_is)) ∙ t.pin.1)
+      (sym (ap (λ (j : Knowledge). j.brief.pin) (logs_tell L e.first w seen.worker ∙ ap (known_by L w)
+      (ap (part_of w) e.firsts ∙ log_is)) ∙ t.pin.1)
       ∙ pin_is L fits true e.first w) refl))
 
-  not_left : HasLeft s.view.number (answered_turn s.view.number (Swap t.parent t.side leaf.slot new) (Cut (leaf ∷ [])) ∷ looks.past.more) → ⊥
+  not_left : HasLeft s.view.number (answered_turn s.view.number (Swap t.parent t.side leaf.slot new)
+      (Cut (leaf ∷ [])) ∷ looks.past.more) → ⊥
   not_left = stays_longer w s.view.past looks.past.more (turn ∷ [])
-      (ap (λ (ts : List Turn). length (part_of w ts)) (sym looks.past.is) ∙ ap length (there.run.is_part ∙ sym seen.is_part))
+      (ap (λ (ts : List Turn). length (part_of w ts)) (sym looks.past.is) ∙ ap length (there.run.is_part
+      ∙ sym seen.is_part))
       (λ left. true≢false (sym left ∙ ap (λ (b : Bool). b || false) (right_false (w == w) false refl)))
 
   nobody : NobodyHolds s.view.layout there.run.events (length t.before) leaf.slot
@@ -182,7 +202,8 @@ module _ (p s z : PassView) (fits : IsLayout s.view.layout) (seen : HasSeen s.vi
       (subst (IsPinned w) q.first_is pinned) (λ left. not_left (subst (HasLeft w) (sym q.rest_is) left))
       (subst (λ (ts : List Turn). Reached (words_after L ts) leaf.slot) q.first_is shown.old_reached))
     where
-      q : Parts (ordered s.view.layout) there.run.events t.before (answered_turn s.view.number (Swap t.parent t.side leaf.slot new) (Cut (leaf ∷ [])) ∷ looks.past.more)
+      q : Parts (ordered s.view.layout) there.run.events t.before (answered_turn s.view.number
+          (Swap t.parent t.side leaf.slot new) (Cut (leaf ∷ [])) ∷ looks.past.more)
       q = parts_of (ordered L) there.run.events t.before (turn ∷ looks.past.more) whole
 
   -- ---- the values
@@ -193,7 +214,8 @@ module _ (p s z : PassView) (fits : IsLayout s.view.layout) (seen : HasSeen s.vi
     reached = shown.old_reached;
     leaf = shown.old_leaf;
     has_key = shown.old_key ∙ key_is;
-    has_value = value_stays L there.run.events z.view.stores (length t.before) leaf.slot there.held nobody ∙ sym is_value;
+    has_value = value_stays L there.run.events z.view.stores (length t.before) leaf.slot there.held nobody
+        ∙ sym is_value;
   }
 
   -- the store of the new value
@@ -208,7 +230,8 @@ module _ (p s z : PassView) (fits : IsLayout s.view.layout) (seen : HasSeen s.vi
         (subst (λ (st : List Stored). Contains st x) (sym t.stored.is) (Contains-push t.stored.earlier x)));
     by_worker = refl;
     at_own = (
-        let long = ap (λ (l : List Entry). length l) t.is_log ∙ length-append t.log ((Swap t.parent t.side leaf.slot new, Cut (leaf ∷ [])) ∷ []) in
+        let long = ap (λ (l : List Entry). length l) t.is_log ∙ length-append t.log
+        ((Swap t.parent t.side leaf.slot new, Cut (leaf ∷ [])) ∷ []) in
         let last = t.stored.last in
         let same = ap (λ (l : List Entry). length l) log_is in
         omega (arith, long, last, same)
@@ -217,9 +240,11 @@ module _ (p s z : PassView) (fits : IsLayout s.view.layout) (seen : HasSeen s.vi
   }
 
   none_cut : NoneCuts [] new
-  none_cut before since u is c = absurd (let long = ap (λ (ts : List Turn). length ts) is ∙ length-append before (u ∷ since) in omega (arith, long))
+  none_cut before since u is c = absurd (let long = ap (λ (ts : List Turn). length ts) is ∙ length-append before
+      (u ∷ since) in omega (arith, long))
 
-  pub left : IsInMap s.view.layout (t.before ++ answered_turn s.view.number (Swap t.parent t.side leaf.slot new) (Cut (leaf ∷ [])) ∷ []) z.view.stores k v
+  pub left : IsInMap s.view.layout (t.before ++ answered_turn s.view.number (Swap t.parent t.side leaf.slot new)
+      (Cut (leaf ∷ [])) ∷ []) z.view.stores k v
   unfolding its_store
   left = record {
     slot = new;
@@ -227,8 +252,10 @@ module _ (p s z : PassView) (fits : IsLayout s.view.layout) (seen : HasSeen s.vi
     leaf = shown.new_leaf;
     has_key = shown.new_key ∙ key_is;
     has_value = sym (ap (λ (ts : List Turn). value_at (length ts) z.view.stores new) (append-nil now))
-        ∙ value_until_cut L fits there.run.events there.run.keys t.before [] looks.past.more w (Swap t.parent t.side leaf.slot new) (Cut (leaf ∷ [])) turn refl
-        (whole ∙ sym (append_assoc t.before (turn ∷ []) looks.past.more)) new shown.new_reached none_cut z.view.stores there.held there.order its_store;
+        ∙ value_until_cut L fits there.run.events there.run.keys t.before [] looks.past.more w
+        (Swap t.parent t.side leaf.slot new) (Cut (leaf ∷ [])) turn refl
+        (whole ∙ sym (append_assoc t.before
+        (turn ∷ []) looks.past.more)) new shown.new_reached none_cut z.view.stores there.held there.order its_store;
   }
 
   leaf_is : leaf ≡ named (words_after s.view.layout t.before) leaf.slot
@@ -241,30 +268,40 @@ module _ (p s z : PassView) (fits : IsLayout s.view.layout) (seen : HasSeen s.vi
     swap = turn;
     rest = looks.past.more;
     are = past_is;
-    later = (let n = ap (λ (ts : List Turn). length ts) t.extends.is ∙ length-append p.view.past t.extends.more in omega (arith, n));
+    later = (let n = ap (λ (ts : List Turn). length ts) t.extends.is
+        ∙ length-append p.view.past t.extends.more in omega (arith, n));
     pin = pin_of L e.first w;
     call = called;
     found = found;
     left = left;
-    won = record { parent = t.parent; side = t.side; is = ap (λ (n : NodeId). answered_turn w (Swap t.parent t.side leaf.slot new) (Cut (n ∷ []))) leaf_is };
+    won = record {
+      parent = t.parent;
+      side = t.side;
+      is = ap (λ (n : NodeId). answered_turn w
+          (Swap t.parent t.side leaf.slot new) (Cut (n ∷ []))) leaf_is;
+    };
     stored = its_store;
     same = refl;
     holds = stores_in_turns later fits there now (record { more = looks.past.more; is = past_now });
   }
 
   pub has_replaced : HasReplaced p z k old v
-  has_replaced = subst (λ (y : PassView). WasReplaced y.view.layout p.view.past z.view.past z.view.stores y.view.number k old v) (sym looks.same) was_replaced
+  has_replaced = subst
+      (λ (y : PassView). WasReplaced y.view.layout p.view.past z.view.past z.view.stores y.view.number k old v)
+      (sym looks.same) was_replaced
 
 -- ---- it stays so for all that is seen later
 
 -- and for all that had been seen earlier
-pub replaced_since : (o p q : PassView) (k old v : ℕ) → HasSeenAllOf p o → HasReplaced p q k old v → HasReplaced o q k old v
+pub replaced_since : (o p q : PassView) (k old v : ℕ) → HasSeenAllOf p o → HasReplaced p q k old v
+    → HasReplaced o q k old v
 replaced_since o p q k old v seen t = record {
   so_far = t.so_far;
   swap = t.swap;
   rest = t.rest;
   are = t.are;
-  later = (let later = t.later in let n = ap (λ (ts : List Turn). length ts) seen.goes_on.is ∙ length-append o.view.past seen.goes_on.more in omega (arith, later, n));
+  later = (let later = t.later in let n = ap (λ (ts : List Turn). length ts) seen.goes_on.is
+      ∙ length-append o.view.past seen.goes_on.more in omega (arith, later, n));
   pin = t.pin;
   call = t.call;
   found = t.found;
@@ -275,11 +312,14 @@ replaced_since o p q k old v seen t = record {
   holds = t.holds;
 }
 
-pub replaced_then : (p q z : PassView) (e : Event) (r : Reply) (k old v : ℕ) → HasReplaced p q k old v → TakesStep q z e r → HasReplaced p z k old v
+pub replaced_then : (p q z : PassView) (e : Event) (r : Reply) (k old v : ℕ) → HasReplaced p q k old v
+    → TakesStep q z e r → HasReplaced p z k old v
 replaced_then p q z e r k old v t took =
     let on : Extends z.view.past q.view.past = (seen_by_turn q z e r took.past).goes_on in
-    subst (λ (st : List Stored). WasReplaced z.view.layout p.view.past z.view.past st z.view.number k old v) (sym took.stores)
-    (subst (λ (s : PassView). WasReplaced s.view.layout p.view.past z.view.past q.view.stores s.view.number k old v) (sym (same_by_step q z e r took.step)) (record {
+    subst (λ (st : List Stored). WasReplaced z.view.layout p.view.past z.view.past st z.view.number k old v)
+    (sym took.stores)
+    (subst (λ (s : PassView). WasReplaced s.view.layout p.view.past z.view.past q.view.stores s.view.number k old v)
+    (sym (same_by_step q z e r took.step)) (record {
       so_far = t.so_far;
       swap = t.swap;
       rest = t.rest ++ on.more;

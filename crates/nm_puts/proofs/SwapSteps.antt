@@ -87,7 +87,8 @@ module _ (p : PassView) (parent : ℕ) (side : Side) (leaf new : ℕ) (i : IsSwa
       (ap (λ (d : Side). is_side d side) i.ended.0.is_side ∙ same_side side)))
       (and_from a.ended (is_number a.key i.key) i.ended.2 (number_there a.key i.key i.ended.1))
 
-  in_order : swaps_in_order (knowledge p.view) (search_after idle p.view.log) (search_after idle p.view.log).call parent side leaf new ≡ true
+  in_order : swaps_in_order (knowledge p.view) (search_after idle p.view.log)
+      (search_after idle p.view.log).call parent side leaf new ≡ true
   in_order =
       ap (λ (c : Option Call). swaps_in_order k S c parent side leaf new) i.call
       ∙ and_from (not (has_put_in S)) _ (ap not (neither S.linked S.swapped i.unlinked i.unswapped))
@@ -95,7 +96,8 @@ module _ (p : PassView) (parent : ℕ) (side : Side) (leaf new : ℕ) (i : IsSwa
       (any_there (may_flag_at i.key parent side leaf) S.walks a i.ended.0.among ended_there))
 
   pub may_swap : IsInRun p → IsPinnedSomewhere p → Tells p (KnowsLeaf leaf) → 6 ≤ leaf
-      → ((x : ℕ) → is_private (knowledge p.view) x ≡ true → IsPooled p.view.layout x) → MayStep p (Swap parent side leaf new)
+      → ((x : ℕ) → is_private (knowledge p.view) x ≡ true → IsPooled p.view.layout x) → MayStep p
+      (Swap parent side leaf new)
   unfolding refusal
   may_swap run pin is_leaf high pooled =
       let n : ℕ = p.view.layout.nodes in
@@ -104,14 +106,17 @@ module _ (p : PassView) (parent : ℕ) (side : Side) (leaf new : ℕ) (i : IsSwa
       record {
         looked = tt;
         allowed = λ m h. passes_then (outside 1 n parent || (outside 6 n leaf || outside 6 n new)) NoSlot _
-            (neither (outside 1 n parent) (outside 6 n leaf || outside 6 n new) (slot_inside p parent run i.knows_parent)
-            (neither (outside 6 n leaf) (outside 6 n new) (not_outside 6 n leaf high below.1) (not_outside 6 n new own.0 own.1)))
+            (neither (outside 1 n parent) (outside 6 n leaf || outside 6 n new)
+            (slot_inside p parent run i.knows_parent)
+            (neither (outside 6 n leaf) (outside 6 n new) (not_outside 6 n leaf high below.1)
+            (not_outside 6 n new own.0 own.1)))
             (passes_then (is_none k.brief.pin) NotPinned _ (ap is_none pin.1)
             (passes_then (not (knows k parent && (knows k leaf && knows_leaf k leaf))) NotHeld _
             (ap not (and_from (knows k parent) _ i.knows_parent (and_from (knows k leaf) _ i.knows_leaf is_leaf)))
             (passes_then (not (is_private k new)) NotPrivate _ (ap not new_private)
             (passes_then (not (is_leaf_draft k new)) NotReady _ (ap not new_leaf) refl))));
-        ordered = passes_then (not (swaps_in_order k S S.call parent side leaf new)) NotOrdered None (ap not in_order) refl;
+        ordered = passes_then (not (swaps_in_order k S S.call parent side leaf new)) NotOrdered None
+            (ap not in_order) refl;
         births = ap is_some (looked_birth p.view.layout p.view.number p.view.log leaf i.born.0 i.born.1);
         key = tt;
       }
@@ -119,15 +124,18 @@ module _ (p : PassView) (parent : ℕ) (side : Side) (leaf new : ℕ) (i : IsSwa
 -- ---- what it leaves
 
 -- a worker's ledgers have a place for its own
-own_place : (L : Layout) → 5 ≤ L.nodes → (w : ℕ) (log : List Entry) → IsLogOf L w log → w < length (known_by L w log).ledgers
+own_place : (L : Layout) → 5 ≤ L.nodes → (w : ℕ) (log : List Entry) → IsLogOf L w log → w < length
+    (known_by L w log).ledgers
 own_place L low w log l = go (told_by_part L low w l.worker l.turns l.keys)
   where
-    go : ToldBy L w (part_of w (trace_in (ordered L) l.turns)) (after_in (ordered L) l.turns) → w < length (known_by L w log).ledgers
+    go : ToldBy L w (part_of w (trace_in (ordered L) l.turns)) (after_in (ordered L) l.turns) → w < length
+        (known_by L w log).ledgers
     go told =
         let law = law_of_state L low (after_in (ordered L) l.turns) told.is_ordered in
         let size = law.1.holders.sizes w in
         let knows = ap (λ (k : Knowledge). length k.ledgers) (told.knows ∙ ap (known_by L w) l.is_part) in
-        let workers = ap (λ (s : State). s.layout.workers) told.is_ordered.leads ∙ ap (λ (M : Layout). M.workers) (layout_after L told.is_ordered.events) in
+        let workers = ap (λ (s : State). s.layout.workers) told.is_ordered.leads ∙ ap (λ (M : Layout). M.workers)
+        (layout_after L told.is_ordered.events) in
         let below = l.worker in
         omega (arith, size, knows, workers, below)
 
@@ -137,18 +145,22 @@ module _ (p q : PassView) (parent : ℕ) (side : Side) (new : ℕ) (run : IsInRu
   w = p.view.number
 
   known_now : knowledge q.view ≡ cutting w (swapped_in (knowledge p.view) new) (old ∷ [])
-  known_now = known_after_step p q (Swap parent side old.slot new) (Cut (old ∷ [])) step ∙ learn_swapped w (knowledge p.view) parent side old.slot new (old ∷ [])
+  known_now = known_after_step p q (Swap parent side old.slot new) (Cut (old ∷ [])) step ∙ learn_swapped w
+      (knowledge p.view) parent side old.slot new (old ∷ [])
 
   long : p.view.number < length (knowledge p.view).ledgers
   long = own_place p.view.layout (enough p.view.layout run.fits) p.view.number p.view.log run.run.is_part
 
   retired : (o : ℕ) → held (retire (knowledge p.view).ledgers p.view.number (old ∷ [])) o
-      ≡ cond (o == p.view.number) (option_map (with_cut (old ∷ [])) (held (knowledge p.view).ledgers o)) (held (knowledge p.view).ledgers o)
+      ≡ cond (o == p.view.number) (option_map (with_cut (old ∷ [])) (held (knowledge p.view).ledgers o)) (held
+      (knowledge p.view).ledgers o)
   retired o = elim (ℕ_discrete o p.view.number) [
     | yes own ↦ rw own (held-retire_same (knowledge p.view).ledgers w (old ∷ []) long
-        ∙ sym (cond-true (w == w) (option_map (with_cut (old ∷ [])) (held (knowledge p.view).ledgers w)) (held (knowledge p.view).ledgers w) (eq-eqb w w refl)))
+        ∙ sym (cond-true (w == w) (option_map (with_cut (old ∷ [])) (held (knowledge p.view).ledgers w)) (held
+        (knowledge p.view).ledgers w) (eq-eqb w w refl)))
     | no other ↦ held-retire_other (knowledge p.view).ledgers w (old ∷ []) o other
-        ∙ sym (cond-false (o == w) (option_map (with_cut (old ∷ [])) (held (knowledge p.view).ledgers o)) (held (knowledge p.view).ledgers o) (ne_eqb o w other))
+        ∙ sym (cond-false (o == w) (option_map (with_cut (old ∷ [])) (held (knowledge p.view).ledgers o)) (held
+        (knowledge p.view).ledgers o) (ne_eqb o w other))
   ]
 
   order : Ascends (knowledge p.view).drafts
@@ -162,17 +174,21 @@ module _ (p q : PassView) (parent : ℕ) (side : Side) (new : ℕ) (run : IsInRu
     epochs = ap (λ (k : Knowledge). k.brief) known_now;
     search = search_is p q (Swap parent side old.slot new) (Cut (old ∷ [])) step;
     given = ap (λ (k : Knowledge). get k.drafts new) known_now ∙ without_it (knowledge p.view).drafts new order;
-    others = λ s ne. ap (λ (k : Knowledge). get k.drafts s) known_now ∙ without_another (knowledge p.view).drafts new s order ne;
+    others = λ s ne. ap (λ (k : Knowledge). get k.drafts s) known_now ∙ without_another
+        (knowledge p.view).drafts new s order ne;
   }
 
-module _ (p q : PassView) (parent : ℕ) (side : Side) (leaf new : ℕ) (fits : IsLayout q.view.layout) (tells : TellsRun q) where
-  pub swap_lost : (e : Edge) → Stepped p q (Swap parent side leaf new) (Lost e) → Tells p (KnowsSlot parent) → SwapLost p q parent side leaf new e
+module _ (p q : PassView) (parent : ℕ) (side : Side) (leaf new : ℕ) (fits : IsLayout q.view.layout)
+    (tells : TellsRun q) where
+  pub swap_lost : (e : Edge) → Stepped p q (Swap parent side leaf new) (Lost e) → Tells p (KnowsSlot parent)
+      → SwapLost p q parent side leaf new e
   unfolding searched
   swap_lost e step known =
       let L : Layout = p.view.layout in
       let low = enough L (subst (λ (s : PassView). IsLayout s.view.layout) step fits) in
       let learned = edges_are_learned L low p.view.number p.view.log (Swap parent side leaf new, Lost e)
-      (grown p q (Swap parent side leaf new) (Lost e) step refl fits tells) parent side e (BySwap parent leaf new side e) known in
+      (grown p q (Swap parent side leaf new) (Lost e) step refl fits tells) parent side e
+      (BySwap parent leaf new side e) known in
       let after = told_after p q (Swap parent side leaf new) (Lost e) step in
       record {
         step = step;
@@ -183,12 +199,14 @@ module _ (p q : PassView) (parent : ℕ) (side : Side) (leaf new : ℕ) (fits : 
           flagged = λ flag. after (IsFlagged parent side e.slot) (learned.flagged flag);
         };
         only = only_reads p q parent side e
-            (known_after_step p q (Swap parent side leaf new) (Lost e) step ∙ learn_swap_lost p.view.number (knowledge p.view) parent side leaf new e)
+            (known_after_step p q (Swap parent side leaf new) (Lost e) step ∙ learn_swap_lost p.view.number
+            (knowledge p.view) parent side leaf new e)
             (search_is p q (Swap parent side leaf new) (Lost e) step);
       }
 
   -- by what the step answers
-  pub if_swap_lost : (r : Result Unit Edge) → Stepped p q (Swap parent side leaf new) (swap_reply p.view leaf r) → Tells p (KnowsSlot parent)
+  pub if_swap_lost : (r : Result Unit Edge) → Stepped p q (Swap parent side leaf new) (swap_reply p.view leaf r)
+      → Tells p (KnowsSlot parent)
       → IfErr r (λ e. SwapLost p q parent side leaf new e)
   if_swap_lost (Ok u) step known = tt
   if_swap_lost (Err e) step known = swap_lost e step known
@@ -196,19 +214,23 @@ module _ (p q : PassView) (parent : ℕ) (side : Side) (leaf new : ℕ) (fits : 
   -- the cut leaf is the one whose birth is known
   pub if_swap_won : (r : Result Unit Edge) → IsInRun p
       → Stepped p q (Swap parent side leaf new) (swap_reply p.view leaf r)
-      → IfOk r (λ u. (b : ℕ) → Tells p (IsBorn leaf b) → SwapWon p q parent side new (record { slot = leaf; birth = b }))
+      → IfOk r (λ u. (b : ℕ) → Tells p (IsBorn leaf b) → SwapWon p q parent side new
+      (record { slot = leaf; birth = b }))
   if_swap_won (Err e) run step = tt
   if_swap_won (Ok u) run step = λ b born.
       swap_won p q parent side new run (record { slot = leaf; birth = b })
       (subst (λ (n : NodeId). Stepped p q (Swap parent side leaf new) (Cut (n ∷ []))) (is_born b born) step)
     where
-      is_born : (b : ℕ) → Tells p (IsBorn leaf b) → known_as (known_births p.view) leaf ≡ record { slot = leaf; birth = b }
-      is_born b born = ap (λ (o : Option ℕ). record { slot = leaf; birth = unwrap_or o 0 }) (looked_birth p.view.layout p.view.number p.view.log leaf b born)
+      is_born : (b : ℕ) → Tells p (IsBorn leaf b) → known_as
+          (known_births p.view) leaf ≡ record { slot = leaf; birth = b }
+      is_born b born = ap (λ (o : Option ℕ). record { slot = leaf; birth = unwrap_or o 0 })
+          (looked_birth p.view.layout p.view.number p.view.log leaf b born)
 
 -- so its turn names the leaf with its birth
 pub took_out : (p q : PassView) (parent : ℕ) (side : Side) (leaf new b : ℕ) → Tells p (IsBorn leaf b)
     → TakesStep p q (Swap parent side leaf new) (swap_reply p.view leaf (Ok tt))
     → TakesStep p q (Swap parent side leaf new) (Cut (record { slot = leaf; birth = b } ∷ []))
 took_out p q parent side leaf new b born took =
-    subst (λ (o : Option ℕ). TakesStep p q (Swap parent side leaf new) (Cut (record { slot = leaf; birth = unwrap_or o 0 } ∷ [])))
+    subst (λ (o : Option ℕ). TakesStep p q (Swap parent side leaf new) (Cut
+    (record { slot = leaf; birth = unwrap_or o 0 } ∷ [])))
     (looked_birth p.view.layout p.view.number p.view.log leaf b born) took

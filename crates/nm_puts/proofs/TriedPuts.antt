@@ -125,7 +125,11 @@ puts_then o p q same a b = record {
 -- ---- nothing was linked or swapped
 
 pub makes_nothing : (p q : PassView) → OnlyMakes p q → HasPutNothing p q
-makes_nothing p q only = record { linked = ap (λ (s : Search). s.linked) only.search; swapped = ap (λ (s : Search). s.swapped) only.search }
+makes_nothing p q only = record {
+  linked = ap (λ (s : Search). s.linked) only.search;
+  swapped = ap
+      (λ (s : Search). s.swapped) only.search;
+}
 
 pub looks_nothing : (p q : PassView) → OnlyLooks p q → HasPutNothing p q
 looks_nothing p q only = record { linked = only.linked; swapped = only.swapped }
@@ -138,7 +142,8 @@ nothing_then o p q a b = record { linked = b.linked ∙ a.linked; swapped = b.sw
 
 -- ---- a swap at the end of a walk
 
-pub may_swap_there : (p q : PassView) (k : ℕ) (r : WalkEnd) (c : List ChainEdge) (n : NodeId) → MayReplace p k r c → GoesOn p q → OnlyMakes p q
+pub may_swap_there : (p q : PassView) (k : ℕ) (r : WalkEnd) (c : List ChainEdge) (n : NodeId) → MayReplace p k r c
+    → GoesOn p q → OnlyMakes p q
     → HoldsNewLeaf p q n → MaySwap q k r n
 may_swap_there p q k r c n may on only has = record {
   is_key = may.is_key;
@@ -152,14 +157,16 @@ may_swap_there p q k r c n may on only has = record {
 }
 
 -- a won swap takes the new leaf
-pub swapped_in : (o p q : PassView) (k : ℕ) (r : WalkEnd) (n : NodeId) → HoldsNewLeaf o p n → HasSwapped p q k r n → HasNewNodes o q None
+pub swapped_in : (o p q : PassView) (k : ℕ) (r : WalkEnd) (n : NodeId) → HoldsNewLeaf o p n → HasSwapped p q k r n
+    → HasNewNodes o q None
 swapped_in o p q k r n h won s = elim (ℕ_discrete s n.slot) [
   | yes at ↦ rw at (won.given ∙ sym h.was)
   | no ne ↦ won.others s ne ∙ h.others s ne
 ]
 
 -- and a lost one leaves it
-pub still_new : (o p q : PassView) (k : ℕ) (r : WalkEnd) (n : NodeId) (e : Edge) → HoldsNewLeaf o p n → HasNotSwapped p q k r n e → HoldsNewLeaf o q n
+pub still_new : (o p q : PassView) (k : ℕ) (r : WalkEnd) (n : NodeId) (e : Edge) → HoldsNewLeaf o p n
+    → HasNotSwapped p q k r n e → HoldsNewLeaf o q n
 still_new o p q k r n e h lost = record {
   has_birth = lost.new_birth;
   others = λ s ne. lost.others s ne ∙ h.others s ne;
@@ -167,7 +174,8 @@ still_new o p q k r n e h lost = record {
 }
 
 -- a value that was read before the claim
-pub was_before : (m p q : PassView) (k leaf v : ℕ) (f : Fit) (nodes : ℕ) (n : NodeId) → ValueWas m p k leaf v → GoesOn p q
+pub was_before : (m p q : PassView) (k leaf v : ℕ) (f : Fit) (nodes : ℕ) (n : NodeId) → ValueWas m p k leaf v
+    → GoesOn p q
     → IsClaimBy f nodes p.view.log q.view.log (Some n) → ValueWas m q k leaf v
 was_before m p q k leaf v f nodes n was on claim = record {
   on = continues_then m p q was.on (going_continues p q on);
@@ -181,12 +189,18 @@ pub ended_still : (p q : PassView) (k : ℕ) (r : WalkEnd) (c : List ChainEdge) 
     → (leaf : ℕ) × EndedWith q ThePin k leaf k
 ended_still p q k r c may on = (
   r.seek_record.edge.slot,
-  (r.seek_record.parent, r.seek_record.side, on.keeps (EndedAt ThePin k r.seek_record.edge.slot r.seek_record.parent r.seek_record.side k) may.ended),
+  (
+    r.seek_record.parent,
+    r.seek_record.side,
+    on.keeps
+        (EndedAt ThePin k r.seek_record.edge.slot r.seek_record.parent r.seek_record.side k) may.ended,
+  ),
 )
 
 -- ---- a look at a value
 
-pub replace_later : (p q : PassView) (k : ℕ) (r : WalkEnd) (c : List ChainEdge) → MayReplace p k r c → GoesOn p q → OnlyLooks p q → MayReplace q k r c
+pub replace_later : (p q : PassView) (k : ℕ) (r : WalkEnd) (c : List ChainEdge) → MayReplace p k r c → GoesOn p q
+    → OnlyLooks p q → MayReplace q k r c
 replace_later p q k r c may on only = record {
   is_key = may.is_key;
   call = on.keeps (CallIs Insert k) may.call;
@@ -198,7 +212,8 @@ replace_later p q k r c may on only = record {
 }
 
 -- the value that was just read
-pub was_just_read : (m : PassView) (k leaf v : ℕ) → IsInRun m → IsKey k → EndedWith m ThePin k leaf k → HasSeenStores m.view
+pub was_just_read : (m : PassView) (k leaf v : ℕ) → IsInRun m → IsKey k → EndedWith m ThePin k leaf k
+    → HasSeenStores m.view
     → v ≡ value_of m.view.stores leaf → ValueWas m m k leaf v
 was_just_read m k leaf v run is_key ended seen value =
     let within = leaf_is_high m run seen.run k leaf is_key ended in
@@ -228,8 +243,10 @@ if_replaced P Q f (attempt.Done (put.Other v)) h = tt
 if_replaced P Q f attempt.Full h = tt
 if_replaced P Q f attempt.Lost h = tt
 
-pub replaced_does : (fit : Fit) (L : Layout) (when : Condition) (k v : ℕ) (r : WalkEnd) (c : List ChainEdge) (old new : List Entry) (p q : PassView) (a : Attempt)
-    → ReplacesAt fit L k r c old new a → IfReplaced a (λ was. HasReplaced p q k was v) → IfReplaced a (IsExpected when) → TryDoes when k v p q a
+pub replaced_does : (fit : Fit) (L : Layout) (when : Condition) (k v : ℕ) (r : WalkEnd) (c : List ChainEdge)
+    (old new : List Entry) (p q : PassView) (a : Attempt)
+    → ReplacesAt fit L k r c old new a → IfReplaced a (λ was. HasReplaced p q k was v) → IfReplaced a
+    (IsExpected when) → TryDoes when k v p q a
 replaced_does fit L when k v r c old new p q (attempt.Done (put.Replaced was)) part h e = (h, e)
 replaced_does fit L when k v r c old new p q (attempt.Done put.Inserted) part h e = absurd part
 replaced_does fit L when k v r c old new p q (attempt.Done put.Absent) part h e = absurd part
@@ -238,7 +255,8 @@ replaced_does fit L when k v r c old new p q attempt.Full part h e = tt
 replaced_does fit L when k v r c old new p q attempt.Lost part h e = tt
 
 -- if no value is expected, any is
-pub no_other : (when : Condition) → ((expected : ℕ) → when ≡ condition.IfItIs expected → ⊥) → (a : Attempt) → IfReplaced a (IsExpected when)
+pub no_other : (when : Condition) → ((expected : ℕ) → when ≡ condition.IfItIs expected → ⊥) → (a : Attempt)
+    → IfReplaced a (IsExpected when)
 no_other when none' (attempt.Done (put.Replaced old)) = λ expected is. absurd (none' expected is)
 no_other when none' (attempt.Done put.Inserted) = tt
 no_other when none' (attempt.Done put.Absent) = tt
@@ -263,7 +281,8 @@ shows_since k o p q (attempt.Done put.Absent) none' h = nothing_then o p q none'
 shows_since k o p q attempt.Full none' h = nothing_then o p q none' h
 shows_since k o p q attempt.Lost none' h = nothing_then o p q none' h
 
-pub does_since : (when : Condition) (k v : ℕ) (o p q : PassView) (a : Attempt) → HasSeenAllOf p o → TryDoes when k v p q a → TryDoes when k v o q a
+pub does_since : (when : Condition) (k v : ℕ) (o p q : PassView) (a : Attempt) → HasSeenAllOf p o
+    → TryDoes when k v p q a → TryDoes when k v o q a
 does_since when k v o p q (attempt.Done put.Inserted) seen h = (h.0, put_earlier o p q k v seen h.1)
 does_since when k v o p q (attempt.Done (put.Replaced was)) seen h = (replaced_since o p q k was v seen h.0, h.1)
 does_since when k v o p q (attempt.Done (put.Other was)) seen h = h
@@ -272,14 +291,17 @@ does_since when k v o p q attempt.Full seen h = tt
 does_since when k v o p q attempt.Lost seen h = tt
 
 -- the private slots are as they were
-pub private_since : (o p q : PassView) → ((s : ℕ) → get (knowledge p.view).drafts s ≡ get (knowledge o.view).drafts s) → HasNewNodes p q None → HasNewNodes o q None
+pub private_since : (o p q : PassView) → ((s : ℕ) → get (knowledge p.view).drafts s ≡ get
+    (knowledge o.view).drafts s) → HasNewNodes p q None → HasNewNodes o q None
 private_since o p q same h s = h s ∙ same s
 
 -- ---- the end of a walk
 
-pub may_replace : (p q : PassView) (k : ℕ) (r : WalkEnd) (c : List ChainEdge) → IsInRun p → Tells p (CallIs Insert k) → (search p).linked ≡ false
+pub may_replace : (p q : PassView) (k : ℕ) (r : WalkEnd) (c : List ChainEdge) → IsInRun p → Tells p
+    (CallIs Insert k) → (search p).linked ≡ false
     → (search p).swapped ≡ false → GoesOn p q → OnlyLooks p q → IsAt (Tells q) r.seek_record c → length c < chain_bound
-    → HasFound p q k r.seek_record.edge.slot r.seek_record.parent r.seek_record.side r.key → r.key ≡ k → MayReplace q k r c
+    → HasFound p q k r.seek_record.edge.slot r.seek_record.parent r.seek_record.side r.key → r.key ≡ k
+    → MayReplace q k r c
 may_replace p q k r c run call unlinked unswapped on only at few found same = record {
   is_key = key_of_call p run Insert k call;
   call = on.keeps (CallIs Insert k) call;
@@ -287,14 +309,24 @@ may_replace p q k r c run call unlinked unswapped on only at few found same = re
   unswapped = only.swapped ∙ unswapped;
   at = at;
   few = few;
-  ended = subst (λ (n : ℕ). Tells q (EndedAt ThePin k r.seek_record.edge.slot r.seek_record.parent r.seek_record.side n)) same (found ThePin (Insert, call));
+  ended = subst (λ (n : ℕ). Tells q
+      (EndedAt ThePin k r.seek_record.edge.slot r.seek_record.parent r.seek_record.side n)) same (found ThePin
+      (Insert, call));
 }
 
 -- a walk has ended at a leaf with another key
 pub ended_other : (p q : PassView) (k : ℕ) (r : WalkEnd) → Tells p (CallIs Insert k)
-    → HasFound p q k r.seek_record.edge.slot r.seek_record.parent r.seek_record.side r.key → r.key ≢ k → HasEndedSo q k false
-ended_other p q k r call found other =
-    (r.seek_record.edge.slot, r.seek_record.parent, r.key, r.seek_record.side, walk_ends (found ThePin (Insert, call)), sym (ne_eqb r.key k other))
+    → HasFound p q k r.seek_record.edge.slot r.seek_record.parent r.seek_record.side r.key → r.key ≢ k
+    → HasEndedSo q k false
+ended_other p q k r call found other = (
+  r.seek_record.edge.slot,
+  r.seek_record.parent,
+  r.key,
+  r.seek_record.side,
+  walk_ends (found ThePin
+      (Insert, call)),
+  sym (ne_eqb r.key k other),
+)
   where
     log : List Entry
     log = since_pin [] q.view.log
@@ -302,16 +334,19 @@ ended_other p q k r call found other =
     walk_ends : Tells q (EndedAt ThePin k r.seek_record.edge.slot r.seek_record.parent r.seek_record.side r.key)
         → WalkEnds k (since_pin [] q.view.log) r.seek_record.edge.slot r.seek_record.parent r.seek_record.side r.key
     walk_ends (a, key, ended) =
-        let own : IsOfWalk a.call.key log a.arrival = subst (IsOfWalk a.call.key log) a.among.2 (arrivals_are_walks q.view.log a.call a.is_call a.among.0 a.arrival a.among.1) in
+        let own : IsOfWalk a.call.key log a.arrival = subst (IsOfWalk a.call.key log) a.among.2
+        (arrivals_are_walks q.view.log a.call a.is_call a.among.0 a.arrival a.among.1) in
         let ends = own.ends ended in
-        subst (λ (v : ℕ). WalkEnds k log r.seek_record.edge.slot r.seek_record.parent r.seek_record.side v) (same_Some ends.0 r.key (sym ends.1 ∙ key))
+        subst (λ (v : ℕ). WalkEnds k log r.seek_record.edge.slot r.seek_record.parent r.seek_record.side v)
+        (same_Some ends.0 r.key (sym ends.1 ∙ key))
         (subst (λ (d : Side). WalkEnds k log r.seek_record.edge.slot r.seek_record.parent d ends.0) a.is_side
         (subst (λ (x : ℕ). WalkEnds k log r.seek_record.edge.slot x a.arrival.side ends.0) a.is_parent
         (subst (λ (x : ℕ). WalkEnds k log x a.arrival.parent a.arrival.side ends.0) a.is_slot
         (subst (λ (j : ℕ). WalkEnds j log a.arrival.slot a.arrival.parent a.arrival.side ends.0) a.is_for ends.2))))
 
 -- the walk of a put that inserts nothing
-pub walks_leaf : (when : Condition) → when ≢ condition.Always → (L : Layout) (k : ℕ) (old new : List Entry) (c : List ChainEdge) (r : Option WalkEnd)
+pub walks_leaf : (when : Condition) → when ≢ condition.Always → (L : Layout) (k : ℕ) (old new : List Entry)
+    (c : List ChainEdge) (r : Option WalkEnd)
     → Seeks L k old new c r → WalksFor when L k old new c r
 walks_leaf condition.Always other L k old new c r h = absurd (other refl)
 walks_leaf condition.IfThere other L k old new c r h = h

@@ -41,10 +41,13 @@ use Rattle.nm_puts.proofs.UnderPins.{under_then, under_these}
 -- ---- before the exchange
 
 -- the new leaf has its birth after the look
-birth_still : (p b : PassView) (new : NodeId) → OnlyLooks p b → (draft p new.slot).birth ≡ Some new.birth → (draft b new.slot).birth ≡ Some new.birth
-birth_still p b new only is = ap (λ (d : Draft). d.birth) (same_draft p b new.slot (ap (λ m. get m new.slot) only.private)) ∙ is
+birth_still : (p b : PassView) (new : NodeId) → OnlyLooks p b → (draft p new.slot).birth ≡ Some new.birth →
+    (draft b new.slot).birth ≡ Some new.birth
+birth_still p b new only is = ap (λ (d : Draft). d.birth) (same_draft p b new.slot
+    (ap (λ m. get m new.slot) only.private)) ∙ is
 
-pub is_swapping : (p b f : PassView) (k birth : ℕ) (r : WalkEnd) (new : NodeId) → MaySwap p k r new → GoesOn p b → OnlyLooks p b
+pub is_swapping : (p b f : PassView) (k birth : ℕ) (r : WalkEnd) (new : NodeId) → MaySwap p k r new → GoesOn p b
+    → OnlyLooks p b
     → Tells b (IsBorn r.seek_record.edge.slot birth) → GoesOn b f → OnlyMakes b f
     → get (knowledge f.view).drafts new.slot ≡ Some (with_node (draft b new.slot) k 0 0)
     → IsSwapping f r.seek_record.parent r.seek_record.side r.seek_record.edge.slot new.slot
@@ -64,7 +67,8 @@ is_swapping p b f k birth r new may on only born on' only' filled = record {
     keep : (fact : Fact) → Tells p fact → Tells f fact
     keep fact holds = on'.keeps fact (on.keeps fact holds)
 
-pub just_stored : (f : PassView) (new v : ℕ) → HasJustStored f new v → IsStored f.view.stores f.view.number (length f.view.log) new
+pub just_stored : (f : PassView) (new v : ℕ) → HasJustStored f new v → IsStored f.view.stores f.view.number
+    (length f.view.log) new
 just_stored f new v s =
     let x : Stored = record { at = length f.view.past; worker = f.view.number; own = length f.view.log; slot = new; value = v } in
     record {
@@ -77,35 +81,42 @@ just_stored f new v s =
 
 -- ---- the log, and the own queue, up to the exchange
 
-module _ (p b f : PassView) (k birth : ℕ) (r : WalkEnd) (new : NodeId) (looked : Stepped p b (Look r.seek_record.edge.slot Birth) (BirthIs birth)) (filled : HasFilled b f new.slot k 0 0) where
+module _ (p b f : PassView) (k birth : ℕ) (r : WalkEnd) (new : NodeId) (looked : Stepped p b
+    (Look r.seek_record.edge.slot Birth) (BirthIs birth)) (filled : HasFilled b f new.slot k 0 0) where
   log_of_b : b.view.log ≡ p.view.log ++ (Look r.seek_record.edge.slot Birth, BirthIs birth) ∷ []
   log_of_b = ap (λ (s : PassView). s.view.log) looked
 
   log_of_f : f.view.log ≡ b.view.log ++ fills new.slot k 0 0
   log_of_f = ap (λ (s : PassView). s.view.log) filled
 
-  pub swaps_so : (s : PassView) (reply : Reply) → Stepped f s (Swap r.seek_record.parent r.seek_record.side r.seek_record.edge.slot new.slot) reply
+  pub swaps_so : (s : PassView) (reply : Reply) → Stepped f s
+      (Swap r.seek_record.parent r.seek_record.side r.seek_record.edge.slot new.slot) reply
       → Swaps k r new birth reply p.view.log s.view.log
   swaps_so s reply step =
       ap (λ (x : PassView). x.view.log) step
-      ∙ ap (λ (l : List Entry). l ++ (Swap r.seek_record.parent r.seek_record.side r.seek_record.edge.slot new.slot, reply) ∷ [])
+      ∙ ap (λ (l : List Entry). l ++
+      (Swap r.seek_record.parent r.seek_record.side r.seek_record.edge.slot new.slot, reply) ∷ [])
       (log_of_f ∙ ap (λ (l : List Entry). l ++ fills new.slot k 0 0) log_of_b)
 
-  pub kept_so : (h : HeldQueue) → GoesOn p b → OnlyLooks p b → GoesOn b f → OnlyMakes b f → HoldsCuts p h → HoldsCuts f h
+  pub kept_so : (h : HeldQueue) → GoesOn p b → OnlyLooks p b → GoesOn b f → OnlyMakes b f → HoldsCuts p h
+      → HoldsCuts f h
   kept_so h on only on' only' kept =
       holds_on b f h on'.same only'.ledgers (adds_these _ b.view.log f.view.log log_of_f)
       (holds_on p b h on.same only.ledgers (adds_these _ p.view.log b.view.log log_of_b) kept)
 
   -- up to the look at the old value no pin begins or ends
-  pub under_swap : (s z : PassView) (reply : Reply) → Stepped f s (Swap r.seek_record.parent r.seek_record.side r.seek_record.edge.slot new.slot) reply
+  pub under_swap : (s z : PassView) (reply : Reply) → Stepped f s
+      (Swap r.seek_record.parent r.seek_record.side r.seek_record.edge.slot new.slot) reply
       → OnlySees s z → IsUnderPin p.view.log z.view.log
   under_swap s z reply step looks =
       under_then p.view.log b.view.log z.view.log (under_these _ p.view.log b.view.log log_of_b refl)
       (under_then b.view.log f.view.log z.view.log (under_these _ b.view.log f.view.log log_of_f refl)
-      (under_these _ f.view.log z.view.log (ap (λ (x : PassView). x.view.log) looks.same ∙ ap (λ (x : PassView). x.view.log) step) refl))
+      (under_these _ f.view.log z.view.log (ap (λ (x : PassView). x.view.log) looks.same ∙ ap
+      (λ (x : PassView). x.view.log) step) refl))
 
 -- a look at a value changes nothing of it
-pub then_by_value : (s z : PassView) (h : HeldQueue) (n : NodeId) → OnlySees s z → HoldsCutsThen s h n → HoldsCutsThen z h n
+pub then_by_value : (s z : PassView) (h : HeldQueue) (n : NodeId) → OnlySees s z → HoldsCutsThen s h n
+    → HoldsCutsThen z h n
 then_by_value s z h n looks t = subst (λ (x : PassView). HoldsCutsThen x h n) (sym looks.same) (record {
   own = t.own;
   queue = t.queue;
@@ -116,13 +127,16 @@ then_by_value s z h n looks t = subst (λ (x : PassView). HoldsCutsThen x h n) (
 -- ---- after it
 
 module _ (p b f s z y : PassView) (k birth : ℕ) (r : WalkEnd) (new : NodeId) (run : IsInRun f)
-    (on : GoesOn p b) (only : OnlyLooks p b) (on' : GoesOn b f) (only' : OnlyMakes b f) (others : KeepsOtherSlots new.slot b f)
+    (on : GoesOn p b) (only : OnlyLooks p b) (on' : GoesOn b f) (only' : OnlyMakes b f)
+    (others : KeepsOtherSlots new.slot b f)
     (looked : Stepped p b (Look r.seek_record.edge.slot Birth) (BirthIs birth)) (filled : HasFilled b f new.slot k 0 0)
-    (won : SwapWon f s r.seek_record.parent r.seek_record.side new.slot (leaf_at r birth)) (looks : OnlySees s z) (retires : Retires z y) where
+    (won : SwapWon f s r.seek_record.parent r.seek_record.side new.slot (leaf_at r birth)) (looks : OnlySees s z)
+    (retires : Retires z y) where
   same_epochs : epochs s ≡ record (epochs p) { unlabelled = true }
   same_epochs = won.epochs ∙ ap (λ (e : Brief). record e { unlabelled = true }) (only'.epochs ∙ only.epochs)
 
-  by_look : {A : Type 0} (g : PassView → A) → g (record s { view = record s.view { past = z.view.past; stores = z.view.stores } }) ≡ g s → g z ≡ g s
+  by_look : {A : Type 0} (g : PassView → A) → g
+      (record s { view = record s.view { past = z.view.past; stores = z.view.stores } }) ≡ g s → g z ≡ g s
   by_look g is = ap g looks.same ∙ is
 
   search_now : search y ≡ record (search f) { swapped = true }
@@ -148,19 +162,24 @@ module _ (p b f s z y : PassView) (k birth : ℕ) (r : WalkEnd) (new : NodeId) (
     part = (
       s.view.log,
       swaps_so p b f k birth r new looked filled s (Cut (leaf_at r birth ∷ [])) won.step,
-      ap (λ (x : PassView). x.view.log) retires.took.step ∙ ap (λ (l : List Entry). l ++ (Sight, Labelled retires.epoch) ∷ []) (by_look (λ x. x.view.log) refl),
+      ap (λ (x : PassView). x.view.log) retires.took.step ∙ ap (λ (l : List Entry). l ++
+          (Sight, Labelled retires.epoch) ∷ []) (by_look (λ x. x.view.log) refl),
     );
     rest = record {
-      announcement = retires.only.announcement ∙ (by_look (λ x. (epochs x).announcement) refl ∙ ap (λ (e : Brief). e.announcement) same_epochs);
+      announcement = retires.only.announcement ∙ (by_look (λ x. (epochs x).announcement) refl ∙ ap
+          (λ (e : Brief). e.announcement) same_epochs);
       pin = retires.only.pin ∙ (by_look (λ x. (epochs x).pin) refl ∙ ap (λ (e : Brief). e.pin) same_epochs);
       labelled = λ _. retires.only.labelled;
       call = ap (λ (t : Search). t.call) search_now ∙ (ap (λ (t : Search). t.call) only'.search ∙ only.call);
       linked = ap (λ (t : Search). t.linked) search_now ∙ (ap (λ (t : Search). t.linked) only'.search ∙ only.linked);
-      flagged = ap (λ (t : Search). t.flagged) search_now ∙ (ap (λ (t : Search). t.flagged) only'.search ∙ only.flagged);
-      ledgers = kept_from (swap_ledgers f s z y r.seek_record.parent r.seek_record.side new.slot (leaf_at r birth) retires.epoch run won
+      flagged = ap (λ (t : Search). t.flagged) search_now ∙ (ap (λ (t : Search). t.flagged) only'.search
+          ∙ only.flagged);
+      ledgers = kept_from (swap_ledgers f s z y r.seek_record.parent r.seek_record.side new.slot
+          (leaf_at r birth) retires.epoch run won
           (by_look (λ x. (knowledge x.view).ledgers) refl) retires.took.step);
     };
-    given = ap (λ m. get m new.slot) retires.only.private ∙ (by_look (λ x. get (knowledge x.view).drafts new.slot) refl ∙ won.given);
+    given = ap (λ m. get m new.slot) retires.only.private ∙ (by_look
+        (λ x. get (knowledge x.view).drafts new.slot) refl ∙ won.given);
     others = λ x ne. ap (λ m. get m x) retires.only.private ∙ (by_look (λ u. get (knowledge u.view).drafts x) refl
         ∙ (won.others x ne ∙ (others x ne ∙ ap (λ m. get m x) only.private)));
   }

@@ -40,7 +40,8 @@ use Rattle.nm_puts.specs.Swaps.{IsUnderPin, stays_pinned}
 
 -- ---- logs
 
-all-append : (xs ys : List Entry) → list_all stays_pinned xs ≡ true → list_all stays_pinned ys ≡ true → list_all stays_pinned (xs ++ ys) ≡ true
+all-append : (xs ys : List Entry) → list_all stays_pinned xs ≡ true → list_all stays_pinned ys ≡ true
+    → list_all stays_pinned (xs ++ ys) ≡ true
 all-append [] ys a b = b
 all-append (x ∷ xs) ys a b =
     let both = and_parts (stays_pinned x) (list_all stays_pinned xs) a in
@@ -49,7 +50,8 @@ all-append (x ∷ xs) ys a b =
 pub under_none : (old new : List Entry) → new ≡ old → IsUnderPin old new
 under_none old new is = ([], is ∙ sym (append-nil old), refl)
 
-pub under_these : (more old new : List Entry) → new ≡ old ++ more → list_all stays_pinned more ≡ true → IsUnderPin old new
+pub under_these : (more old new : List Entry) → new ≡ old ++ more → list_all stays_pinned more ≡ true
+    → IsUnderPin old new
 under_these more old new is all = (more, is, all)
 
 pub under_then : (old mid new : List Entry) → IsUnderPin old mid → IsUnderPin mid new → IsUnderPin old new
@@ -67,51 +69,64 @@ passed_under s old new (inr exhausted) = under_these _ old new exhausted refl
 
 passed_all : (from n : ℕ) (old new : List Entry) → DoneInTurn PassedOver from n old new → IsUnderPin old new
 passed_all from zero old new h = under_none old new h
-passed_all from (suc n) old new h = under_then old h.0 new (passed_all from n old h.0 h.1) (passed_under (from + n) h.0 new h.2)
+passed_all from (suc n) old new h = under_then old h.0 new (passed_all from n old h.0 h.1) (passed_under
+    (from + n) h.0 new h.2)
 
-passed_at : (nodes : ℕ) (slots : List ℕ) (old new : List Entry) → DoneAt (PassedWithin nodes) slots old new → IsUnderPin old new
+passed_at : (nodes : ℕ) (slots : List ℕ) (old new : List Entry) → DoneAt (PassedWithin nodes) slots old new
+    → IsUnderPin old new
 passed_at nodes [] old new h = under_none old new h
-passed_at nodes (s ∷ slots) old new h = under_then old h.0 new (passed_at nodes slots old h.0 h.1) (passed_under s h.0 new h.2.2)
+passed_at nodes (s ∷ slots) old new h = under_then old h.0 new (passed_at nodes slots old h.0 h.1)
+    (passed_under s h.0 new h.2.2)
 
 made_under : (n : NodeId) (old new : List Entry) → MadeNew n old new → IsUnderPin old new
 made_under n old new made = under_these _ old new made.entries refl
 
-pub claim_under : (f : Fit) (nodes : ℕ) (old new : List Entry) (n : NodeId) → IsClaimBy f nodes old new (Some n) → IsUnderPin old new
-claim_under fit.FirstFit nodes old new n h = under_then old h.before new (passed_all 6 (n.slot - 6) old h.before h.passed) (made_under n h.before new h.made)
-claim_under fit.NextFit nodes old new n h = under_then old h.before new (passed_at nodes h.slots old h.before h.passed) (made_under n h.before new h.made)
+pub claim_under : (f : Fit) (nodes : ℕ) (old new : List Entry) (n : NodeId) → IsClaimBy f nodes old new (Some n)
+    → IsUnderPin old new
+claim_under fit.FirstFit nodes old new n h = under_then old h.before new (passed_all 6
+    (n.slot - 6) old h.before h.passed) (made_under n h.before new h.made)
+claim_under fit.NextFit nodes old new n h = under_then old h.before new
+    (passed_at nodes h.slots old h.before h.passed) (made_under n h.before new h.made)
 
 -- ---- by such entries a worker does not leave
 
-departs_anew : (e : Event) (o : Result Reply Refused) → departs e o ≡ true → (r : Reply) × (o ≡ Ok r) × (begins_anew (e, r) ≡ true)
+departs_anew : (e : Event) (o : Result Reply Refused) → departs e o ≡ true → (r : Reply) × (o ≡ Ok r) × (begins_anew
+    (e, r) ≡ true)
 departs_anew Leave (Ok Departed) d = (Departed, refl, refl)
 departs_anew (LeaveWith answer) (Ok Departed) d = (Departed, refl, refl)
 departs_anew e o d = absurd (true≢false (sym d))
 
 pub none_left : (w : ℕ) (ts : List Turn) → list_all stays_pinned (part_of w ts) ≡ true → HasLeft w ts → ⊥
 none_left w [] all left = true≢false (sym left)
-none_left w (t ∷ ts) all left = by (λ rest later. none_left w ts rest later) (or_cases (leaves w t) (list_any (leaves w) ts) left)
+none_left w (t ∷ ts) all left = by (λ rest later. none_left w ts rest later) (or_cases (leaves w t)
+    (list_any (leaves w) ts) left)
   where
     first : List Entry
     first = cond (takes_part w t.worker t.event) (logged_by t) []
 
-    halves : (xs ys : List Entry) → list_all stays_pinned (xs ++ ys) ≡ true → (list_all stays_pinned xs ≡ true) × (list_all stays_pinned ys ≡ true)
+    halves : (xs ys : List Entry) → list_all stays_pinned (xs ++ ys) ≡ true → (list_all stays_pinned xs ≡ true) ×
+        (list_all stays_pinned ys ≡ true)
     halves [] ys h = (refl, h)
     halves (x ∷ xs) ys h =
         let both = and_parts (stays_pinned x) (list_all stays_pinned (xs ++ ys)) h in
         let rest = halves xs ys both.1 in
         (and_from (stays_pinned x) (list_all stays_pinned xs) both.0 rest.0, rest.1)
 
-    parts : (list_all stays_pinned (cond (takes_part w t.worker t.event) (logged_by t) []) ≡ true) × (list_all stays_pinned (part_of w ts) ≡ true)
+    parts : (list_all stays_pinned (cond (takes_part w t.worker t.event) (logged_by t) []) ≡ true) ×
+        (list_all stays_pinned (part_of w ts) ≡ true)
     parts = halves first (part_of w ts) all
 
     own : (t.worker == w) ≡ true → (r : Reply) → t.outcome ≡ Ok r → begins_anew (t.event, r) ≡ true → ⊥
     own is r won anew =
         let logged : list_all stays_pinned ((t.event, r) ∷ []) ≡ true =
-        ap (λ (o : Result Reply Refused). list_all stays_pinned (logged_by (record { worker = t.worker; event = t.event; outcome = o }))) (sym won)
-        ∙ (ap (λ (b : Bool). list_all stays_pinned (cond (b || is_leaver w t.event) (logged_by t) [])) (sym is) ∙ parts.0) in
+        ap (λ (o : Result Reply Refused). list_all stays_pinned (logged_by
+        (record { worker = t.worker; event = t.event; outcome = o }))) (sym won)
+        ∙ (ap (λ (b : Bool). list_all stays_pinned (cond (b || is_leaver w t.event) (logged_by t) [])) (sym is)
+        ∙ parts.0) in
         true≢false (sym logged ∙ ap (λ (b : Bool). not b && true) anew)
 
-    by : (list_all stays_pinned (part_of w ts) ≡ true → HasLeft w ts → ⊥) → (leaves w t ≡ true) ⊎ (list_any (leaves w) ts ≡ true) → ⊥
+    by : (list_all stays_pinned (part_of w ts) ≡ true → HasLeft w ts → ⊥) → (leaves w t ≡ true) ⊎ (list_any
+        (leaves w) ts ≡ true) → ⊥
     by rest (inl now) =
         let both = and_parts (t.worker == w) (departs t.event t.outcome) now in
         let d = departs_anew t.event t.outcome both.1 in
@@ -119,7 +134,8 @@ none_left w (t ∷ ts) all left = by (λ rest later. none_left w ts rest later) 
     by rest (inr later) = rest parts.1 later
 
 -- so it has not left in more turns, by which its log goes on so
-pub left_in_none : (w : ℕ) (now more : List Turn) (old new : List Entry) → part_of w now ≡ old → part_of w (now ++ more) ≡ new → IsUnderPin old new
+pub left_in_none : (w : ℕ) (now more : List Turn) (old new : List Entry) → part_of w now ≡ old → part_of w
+    (now ++ more) ≡ new → IsUnderPin old new
     → HasLeft w more → ⊥
 left_in_none w now more old new first second under left =
     let same : part_of w more ≡ under.0 =
@@ -128,7 +144,8 @@ left_in_none w now more old new first second under left =
     none_left w more (ap (list_all stays_pinned) same ∙ under.2) left
 
 pub none_left_then : (w : ℕ) (ts us : List Turn) → (HasLeft w ts → ⊥) → (HasLeft w us → ⊥) → HasLeft w (ts ++ us) → ⊥
-none_left_then w ts us a b left = by (or_cases (list_any (leaves w) ts) (list_any (leaves w) us) (sym (list_any-append (leaves w) ts us) ∙ left))
+none_left_then w ts us a b left = by (or_cases (list_any (leaves w) ts) (list_any (leaves w) us)
+    (sym (list_any-append (leaves w) ts us) ∙ left))
   where
     by : (list_any (leaves w) ts ≡ true) ⊎ (list_any (leaves w) us ≡ true) → ⊥
     by (inl early) = a early
@@ -136,10 +153,12 @@ none_left_then w ts us a b left = by (or_cases (list_any (leaves w) ts) (list_an
 
 -- ---- the leaf at which a walk of the pin has ended
 
-module _ (p : PassView) (run : IsInRun p) (seen : HasSeen p.view) (k leaf : ℕ) (is_key : IsKey k) (ended : EndedWith p ThePin k leaf k) where
+module _ (p : PassView) (run : IsInRun p) (seen : HasSeen p.view) (k leaf : ℕ) (is_key : IsKey k)
+    (ended : EndedWith p ThePin k leaf k) where
   -- it is a slot above the fixed nodes
   pub leaf_is_high : (6 ≤ leaf) × (leaf ≤ p.view.layout.nodes)
-  leaf_is_high = leaf_within p run.fits seen k leaf is_key (ended.0, ended.1, walk_ended p k leaf ended.0 ended.1 ended.2)
+  leaf_is_high = leaf_within p run.fits seen k leaf is_key
+      (ended.0, ended.1, walk_ended p k leaf ended.0 ended.1 ended.2)
 
   -- and known as a leaf
   pub leaf_is_known : Tells p (KnowsLeaf leaf)
@@ -148,5 +167,6 @@ module _ (p : PassView) (run : IsInRun p) (seen : HasSeen p.view) (k leaf : ℕ)
       let w : ℕ = p.view.number in
       let there = walk_knows_leaf L (enough L run.fits) [] seen.events seen.keys w k leaf ended.0 ended.1 k
       (walk_in_run p run.fits k is_key seen leaf ended.0 ended.1 k (walk_ended p k leaf ended.0 ended.1 ended.2)) in
-      let told = logs_tell L seen.events w seen.worker ∙ ap (known_by L w) (ap (part_of w) (sym seen.are) ∙ seen.is_part) in
+      let told = logs_tell L seen.events w seen.worker ∙ ap (known_by L w) (ap (part_of w) (sym seen.are)
+      ∙ seen.is_part) in
       ap (λ k. knows_leaf k leaf) (sym told) ∙ there

@@ -9,7 +9,8 @@ returns-clause-only c =
     let p = c.args.pass.now in
     let q = c.claim_by.new.pass in
     only_claims p q c.args.placement.now c.args.shared.now.layout.nodes c.claim_by.result e.on.same e.part
-    (record { fits = c.know_run.ensures.fits; run = c.know_run.ensures.run }) (part_after p q e.on.same e.on.run) e.learned
+    (record { fits = c.know_run.ensures.fits; run = c.know_run.ensures.run })
+    (part_after p q e.on.same e.on.run) e.learned
 
 pub returns-clause-on : goal.returns-clause-on
 returns-clause-on c =

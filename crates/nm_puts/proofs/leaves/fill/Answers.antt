@@ -9,7 +9,8 @@ use Rattle.nm_walks.proofs.Makes.{both_make, fillable, fillable_still, filled_dr
 use Rattle.nm_puts.proofs.leaves.fill.Goals as goal
 
 pub fill_key-requires-clause-may : goal.fill_key-requires-clause-may
-fill_key-requires-clause-may c = may_fill_key c.args.pass.now c.args.slot (fillable c.args.pass.now c.args.slot c.requires.born c.know_pooled_slots.ensures) _
+fill_key-requires-clause-may c = may_fill_key c.args.pass.now c.args.slot
+    (fillable c.args.pass.now c.args.slot c.requires.born c.know_pooled_slots.ensures) _
 
 pub fill_edge-requires-clause-may : goal.fill_edge-requires-clause-may
 fill_edge-requires-clause-may c =

@@ -10,7 +10,8 @@ use Rattle.nm_walks.proofs.ValueLooks.{filled_by_value, goes_by_value, just_stor
 use Rattle.nm_puts.proofs.leaves.fill_leaf.Goals as goal
 
 pub fill_value-requires-clause-own : goal.fill_value-requires-clause-own
-fill_value-requires-clause-own c = own_still c.args.shared.now c.args.pass.now c.fill.new.pass c.requires.own c.fill.ensures.on.same
+fill_value-requires-clause-own c = own_still c.args.shared.now c.args.pass.now c.fill.new.pass c.requires.own
+    c.fill.ensures.on.same
 
 pub fill_value-requires-clause-private : goal.fill_value-requires-clause-private
 fill_value-requires-clause-private c = ap is_some c.fill.ensures.filled
@@ -27,7 +28,8 @@ fill_value-requires-clause-once c = c.fill.ensures.once
 
 pub returns-clause-steps : goal.returns-clause-steps
 returns-clause-steps c =
-    filled_by_value c.args.pass.now c.fill.new.pass c.fill_value.new.pass _ _ _ _ c.fill.ensures.steps c.fill_value.ensures.looks
+    filled_by_value c.args.pass.now c.fill.new.pass c.fill_value.new.pass _ _ _ _ c.fill.ensures.steps
+    c.fill_value.ensures.looks
 
 pub returns-clause-on : goal.returns-clause-on
 returns-clause-on c =
@@ -36,7 +38,8 @@ returns-clause-on c =
 
 pub returns-clause-filled : goal.returns-clause-filled
 returns-clause-filled c =
-    ap (λ (z : PassView). get (knowledge z.view).drafts c.args.slot) c.fill_value.ensures.looks.same ∙ c.fill.ensures.filled
+    ap (λ (z : PassView). get (knowledge z.view).drafts c.args.slot) c.fill_value.ensures.looks.same
+    ∙ c.fill.ensures.filled
 
 pub returns-clause-others : goal.returns-clause-others
 returns-clause-others c = λ s ne.
@@ -49,4 +52,5 @@ returns-clause-only c =
 
 pub returns-clause-stored : goal.returns-clause-stored
 returns-clause-stored c =
-    just_stored c.fill.new.pass c.fill_value.new.pass c.args.slot c.args.value c.fill_value.ensures.looks c.fill_value.ensures.stored
+    just_stored c.fill.new.pass c.fill_value.new.pass c.args.slot c.args.value c.fill_value.ensures.looks
+    c.fill_value.ensures.stored

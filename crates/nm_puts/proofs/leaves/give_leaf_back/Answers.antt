@@ -15,7 +15,8 @@ pub returns-clause-part : goal.returns-clause-part
 returns-clause-part c = ap (λ (s : PassView). s.view.log) c.give.ensures.step
 
 pub returns-clause-on : goal.returns-clause-on
-returns-clause-on c = goes_on c.args.pass.now c.give.new.pass _ _ c.give.ensures.step (seen_by_turn _ _ _ _ c.give.ensures.past)
+returns-clause-on c = goes_on c.args.pass.now c.give.new.pass _ _ c.give.ensures.step
+    (seen_by_turn _ _ _ _ c.give.ensures.past)
     c.give.ensures.stores refl refl c.give.ensures.run.fits c.give.ensures.run.run
 
 pub returns-clause-only : goal.returns-clause-only
@@ -27,4 +28,5 @@ returns-clause-given c = λ o has.
     let p = c.args.pass.now in
     let q = c.give.new.pass in
     let slot = c.args.leaf.now.slot in
-    given_back o p q c.args.leaf.now has (is_given p q slot c.give.ensures.step run) (given_others p q slot c.give.ensures.step run)
+    given_back o p q c.args.leaf.now has (is_given p q slot c.give.ensures.step run)
+    (given_others p q slot c.give.ensures.step run)

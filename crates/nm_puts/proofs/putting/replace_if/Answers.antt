@@ -24,9 +24,14 @@ pub look_value-found-requires-clause-slot : goal.look_value-found-requires-claus
 look_value-found-requires-clause-slot c =
     let may = c.requires.may in
     let s = c.args.end.now.seek_record in
-    let within = leaf_is_high c.args.pass.now c.requires.pinned.run c.know_run.ensures.seen c.args.key s.edge.slot may.is_key (s.parent, s.side, may.ended) in
+    let within = leaf_is_high c.args.pass.now c.requires.pinned.run c.know_run.ensures.seen
+    c.args.key s.edge.slot may.is_key (s.parent, s.side, may.ended) in
     let high = within.0 in
-    rw c.slot.ensures (omega (arith, high), subst (λ (L : Layout). s.edge.slot ≤ L.nodes) c.requires.pinned.own.layout within.1)
+    rw c.slot.ensures (
+      omega (arith, high),
+      subst
+          (λ (L : Layout). s.edge.slot ≤ L.nodes) c.requires.pinned.own.layout within.1,
+    )
 
 -- ---- another value
 
@@ -39,7 +44,8 @@ returns-then-found-expected-clause-part c =
     )))
 
 pub returns-then-found-expected-clause-on : goal.returns-then-found-expected-clause-on
-returns-then-found-expected-clause-on c = goes_by_value c.args.pass.now c.look_value-found.new.pass c.look_value-found.ensures.looks c.know_run.ensures.fits
+returns-then-found-expected-clause-on c = goes_by_value c.args.pass.now c.look_value-found.new.pass
+    c.look_value-found.ensures.looks c.know_run.ensures.fits
 
 pub returns-then-found-expected-clause-does : goal.returns-then-found-expected-clause-does
 returns-then-found-expected-clause-does c =
@@ -62,17 +68,20 @@ returns-then-found-expected-clause-shows c =
 
 pub returns-then-found-expected-clause-only : goal.returns-then-found-expected-clause-only
 returns-then-found-expected-clause-only c =
-    looks_puts c.args.pass.now c.look_value-found.new.pass (looks_by_value c.args.pass.now c.look_value-found.new.pass c.look_value-found.ensures.looks)
+    looks_puts c.args.pass.now c.look_value-found.new.pass
+    (looks_by_value c.args.pass.now c.look_value-found.new.pass c.look_value-found.ensures.looks)
 
 pub returns-then-found-expected-clause-private : goal.returns-then-found-expected-clause-private
-returns-then-found-expected-clause-private c = λ s. ap (λ (x : PassView). get (knowledge x.view).drafts s) c.look_value-found.ensures.looks.same
+returns-then-found-expected-clause-private c = λ s. ap (λ (x : PassView). get
+    (knowledge x.view).drafts s) c.look_value-found.ensures.looks.same
 
 pub returns-then-found-expected-clause-kept : goal.returns-then-found-expected-clause-kept
 returns-then-found-expected-clause-kept c =
     let p = c.args.pass.now in
     let m = c.look_value-found.new.pass in
     let looks = c.look_value-found.ensures.looks in
-    holds_on p m c.args.held.now (goes_by_value p m looks c.know_run.ensures.fits).same (looks_by_value p m looks).ledgers
+    holds_on p m c.args.held.now (goes_by_value p m looks c.know_run.ensures.fits).same
+    (looks_by_value p m looks).ledgers
     (adds_none p.view.log m.view.log (ap (λ (x : PassView). x.view.log) looks.same)) c.requires.kept
 
 pub returns-then-found-expected-clause-fills : goal.returns-then-found-expected-clause-fills
@@ -84,7 +93,8 @@ pub replace_at-requires-clause-pinned : goal.replace_at-requires-clause-pinned
 replace_at-requires-clause-pinned c =
     let p = c.args.pass.now in
     let m = c.look_value-found.new.pass in
-    pinned_in_still c.args.shared.now p m (goes_by_value p m c.look_value-found.ensures.looks c.know_run.ensures.fits) c.requires.pinned
+    pinned_in_still c.args.shared.now p m
+    (goes_by_value p m c.look_value-found.ensures.looks c.know_run.ensures.fits) c.requires.pinned
 
 pub replace_at-requires-clause-may : goal.replace_at-requires-clause-may
 replace_at-requires-clause-may c =
@@ -99,14 +109,16 @@ replace_at-requires-clause-kept c =
     let p = c.args.pass.now in
     let m = c.look_value-found.new.pass in
     let looks = c.look_value-found.ensures.looks in
-    holds_on p m c.args.held.now (goes_by_value p m looks c.know_run.ensures.fits).same (looks_by_value p m looks).ledgers
+    holds_on p m c.args.held.now (goes_by_value p m looks c.know_run.ensures.fits).same
+    (looks_by_value p m looks).ledgers
     (adds_none p.view.log m.view.log (ap (λ (x : PassView). x.view.log) looks.same)) c.requires.kept
 
 pub returns-clause-part : goal.returns-clause-part
 returns-clause-part c =
     inl (
       c.requires.same,
-      subst (λ (l : List Entry). ReplacesAt c.args.workspace.now.placement c.args.shared.now.layout c.args.key c.args.end.now
+      subst (λ (l : List Entry). ReplacesAt c.args.workspace.now.placement c.args.shared.now.layout c.args.key
+          c.args.end.now
           c.args.workspace.now.chain.items l c.replace_at.new.pass.view.log c.replace_at.result)
           (ap (λ (x : PassView). x.view.log) c.look_value-found.ensures.looks.same) c.replace_at.ensures.part,
     )
@@ -125,9 +137,11 @@ returns-clause-does c =
     (was_just_read m k s.edge.slot c.look_value-found.result on.run c.requires.may.is_key
     (s.parent, s.side, on.keeps (EndedAt ThePin k s.edge.slot s.parent s.side k) c.requires.may.ended)
     c.look_value-found.ensures.looks.seen (rw (← c.slot.ensures) c.look_value-found.ensures.value)) in
-    replaced_does c.args.workspace.now.placement c.args.shared.now.layout (condition.IfItIs c.args.expected) k v c.args.end.now
+    replaced_does c.args.workspace.now.placement c.args.shared.now.layout
+    (condition.IfItIs c.args.expected) k v c.args.end.now
     c.args.workspace.now.chain.items m.view.log q.view.log p q a c.replace_at.ensures.part
-    (if_replaced (λ old. HasReplaced m q k old v) (λ old. HasReplaced p q k old v) (λ old h. replaced_since p m q k old v on.past h) a c.replace_at.ensures.does)
+    (if_replaced (λ old. HasReplaced m q k old v) (λ old. HasReplaced p q k old v)
+    (λ old h. replaced_since p m q k old v on.past h) a c.replace_at.ensures.does)
     (if_replaced (λ old. old ≡ c.look_value-found.result) (IsExpected (condition.IfItIs c.args.expected))
     (λ old h e is. h ∙ (c.if-found-expected.false ∙ expected_is c.args.expected e is)) a was)
 
@@ -142,7 +156,8 @@ pub returns-clause-on : goal.returns-clause-on
 returns-clause-on c =
     let p = c.args.pass.now in
     let m = c.look_value-found.new.pass in
-    goes_then p m c.replace_at.new.pass (goes_by_value p m c.look_value-found.ensures.looks c.know_run.ensures.fits) c.replace_at.ensures.on
+    goes_then p m c.replace_at.new.pass
+    (goes_by_value p m c.look_value-found.ensures.looks c.know_run.ensures.fits) c.replace_at.ensures.on
 
 pub returns-clause-only : goal.returns-clause-only
 returns-clause-only c =
@@ -155,4 +170,5 @@ returns-clause-only c =
 pub returns-clause-private : goal.returns-clause-private
 returns-clause-private c =
     private_since c.args.pass.now c.look_value-found.new.pass c.replace_at.new.pass
-    (λ s. ap (λ (x : PassView). get (knowledge x.view).drafts s) c.look_value-found.ensures.looks.same) c.replace_at.ensures.private
+    (λ s. ap (λ (x : PassView). get
+    (knowledge x.view).drafts s) c.look_value-found.ensures.looks.same) c.replace_at.ensures.private

@@ -17,7 +17,8 @@ use Rattle.nm_puts.proofs.TriedPuts.{does_since, ended_other, if_replaced, looks
 use Rattle.nm_puts.proofs.putting.try_replace.Goals as goal
 
 pub seek-requires-clause-key : goal.seek-requires-clause-key
-seek-requires-clause-key c = rw c.get-sought.ensures.number (key_of_call c.args.pass.now c.requires.pinned.run Insert c.args.key c.requires.call.call)
+seek-requires-clause-key c = rw c.get-sought.ensures.number
+    (key_of_call c.args.pass.now c.requires.pinned.run Insert c.args.key c.requires.call.call)
 
 -- ---- the walk was broken off
 
@@ -27,14 +28,16 @@ returns-in_default-clause-part c =
       refl,
       (
         c.seek.new.chain.items,
-        walks_leaf c.args.condition c.requires.there _ _ _ _ _ _ (rw c.get-sought.ensures.number at c.in_default.ensures.walk),
+        walks_leaf c.args.condition c.requires.there _ _ _ _ _ _
+            (rw c.get-sought.ensures.number at c.in_default.ensures.walk),
       ),
     )
 
 pub returns-in_default-clause-kept : goal.returns-in_default-clause-kept
 returns-in_default-clause-kept c =
     holds_on c.args.pass.now c.seek.new.pass c.args.held.now c.seek.ensures.on.same c.seek.ensures.only.ledgers
-    (seeks_adds c.args.shared.now.layout c.get-sought.result c.args.pass.now.view.log c.seek.new.pass.view.log c.seek.new.chain.items
+    (seeks_adds c.args.shared.now.layout c.get-sought.result c.args.pass.now.view.log c.seek.new.pass.view.log
+    c.seek.new.chain.items
     c.seek.result c.seek.ensures.walk) c.requires.kept
 
 pub returns-in_default-clause-shows : goal.returns-in_default-clause-shows
@@ -59,19 +62,22 @@ returns-then-end-sought-clause-part c =
       c.seek.new.chain.items,
       c.seek.new.pass.view.log,
       c.in-Some.ensures.came.few,
-      walks_leaf c.args.condition c.requires.there _ _ _ _ _ _ (rw c.get-sought.ensures.number at c.in-Some.ensures.walk),
+      walks_leaf c.args.condition c.requires.there _ _ _ _ _ _
+          (rw c.get-sought.ensures.number at c.in-Some.ensures.walk),
       inr (inr (inr (other, c.requires.there, refl, refl))),
     )
 
 pub returns-then-end-sought-clause-does : goal.returns-then-end-sought-clause-does
 returns-then-end-sought-clause-does c =
     ended_other c.args.pass.now c.seek.new.pass c.args.key c.in-Some.end c.requires.call.call
-    (rw c.get-sought.ensures.number at c.in-Some.ensures.came.found) (rw c.get-sought.ensures.number at c.if-end-sought.true)
+    (rw c.get-sought.ensures.number at c.in-Some.ensures.came.found)
+    (rw c.get-sought.ensures.number at c.if-end-sought.true)
 
 pub returns-then-end-sought-clause-kept : goal.returns-then-end-sought-clause-kept
 returns-then-end-sought-clause-kept c =
     holds_on c.args.pass.now c.seek.new.pass c.args.held.now c.seek.ensures.on.same c.seek.ensures.only.ledgers
-    (seeks_adds c.args.shared.now.layout c.get-sought.result c.args.pass.now.view.log c.seek.new.pass.view.log c.seek.new.chain.items
+    (seeks_adds c.args.shared.now.layout c.get-sought.result c.args.pass.now.view.log c.seek.new.pass.view.log
+    c.seek.new.chain.items
     c.seek.result c.seek.ensures.walk) c.requires.kept
 
 pub returns-then-end-sought-clause-shows : goal.returns-then-end-sought-clause-shows
@@ -89,13 +95,15 @@ returns-then-end-sought-clause-fills c = fills_none c.args.held.now.queue
 -- ---- the leaf has the key
 
 pub replace_when-requires-clause-pinned : goal.replace_when-requires-clause-pinned
-replace_when-requires-clause-pinned c = pinned_in_still c.args.shared.now c.args.pass.now c.seek.new.pass c.seek.ensures.on c.requires.pinned
+replace_when-requires-clause-pinned c = pinned_in_still c.args.shared.now c.args.pass.now c.seek.new.pass
+    c.seek.ensures.on c.requires.pinned
 
 pub replace_when-requires-clause-may : goal.replace_when-requires-clause-may
 replace_when-requires-clause-may c =
     let came = rw c.get-sought.ensures.number at c.in-Some.ensures.came in
     rw c.get-sought.ensures.number
-    (may_replace c.args.pass.now c.seek.new.pass c.args.key c.in-Some.end c.seek.new.chain.items c.requires.pinned.run c.requires.call.call
+    (may_replace c.args.pass.now c.seek.new.pass c.args.key c.in-Some.end c.seek.new.chain.items
+    c.requires.pinned.run c.requires.call.call
     c.requires.unlinked c.requires.unswapped c.seek.ensures.on c.seek.ensures.only came.ended.at came.few came.found
     (rw c.get-sought.ensures.number at c.if-end-sought.false))
 
@@ -105,7 +113,8 @@ replace_when-requires-clause-same c = c.if-end-sought.false
 pub replace_when-requires-clause-kept : goal.replace_when-requires-clause-kept
 replace_when-requires-clause-kept c =
     holds_on c.args.pass.now c.seek.new.pass c.args.held.now c.seek.ensures.on.same c.seek.ensures.only.ledgers
-    (seeks_adds c.args.shared.now.layout c.get-sought.result c.args.pass.now.view.log c.seek.new.pass.view.log c.seek.new.chain.items
+    (seeks_adds c.args.shared.now.layout c.get-sought.result c.args.pass.now.view.log c.seek.new.pass.view.log
+    c.seek.new.chain.items
     c.seek.result c.seek.ensures.walk) c.requires.kept
 
 pub returns-clause-part : goal.returns-clause-part
@@ -115,22 +124,26 @@ returns-clause-part c =
       c.seek.new.chain.items,
       c.seek.new.pass.view.log,
       c.in-Some.ensures.came.few,
-      walks_leaf c.args.condition c.requires.there _ _ _ _ _ _ (rw c.get-sought.ensures.number at c.in-Some.ensures.walk),
+      walks_leaf c.args.condition c.requires.there _ _ _ _ _ _
+          (rw c.get-sought.ensures.number at c.in-Some.ensures.walk),
       rw c.get-sought.ensures.number at c.replace_when.ensures.part,
     )
 
 pub returns-clause-does : goal.returns-clause-does
 returns-clause-does c =
-    does_since c.args.condition c.args.key c.args.value c.args.pass.now c.seek.new.pass c.replace_when.new.pass c.replace_when.result
+    does_since c.args.condition c.args.key c.args.value c.args.pass.now c.seek.new.pass c.replace_when.new.pass
+    c.replace_when.result
     c.seek.ensures.on.past (rw c.get-sought.ensures.number at c.replace_when.ensures.does)
 
 pub returns-clause-shows : goal.returns-clause-shows
 returns-clause-shows c =
     shows_since c.args.key c.args.pass.now c.seek.new.pass c.replace_when.new.pass c.replace_when.result
-    (looks_nothing c.args.pass.now c.seek.new.pass c.seek.ensures.only) (rw c.get-sought.ensures.number at c.replace_when.ensures.shows)
+    (looks_nothing c.args.pass.now c.seek.new.pass c.seek.ensures.only)
+    (rw c.get-sought.ensures.number at c.replace_when.ensures.shows)
 
 pub returns-clause-on : goal.returns-clause-on
-returns-clause-on c = goes_then c.args.pass.now c.seek.new.pass c.replace_when.new.pass c.seek.ensures.on c.replace_when.ensures.on
+returns-clause-on c = goes_then c.args.pass.now c.seek.new.pass c.replace_when.new.pass c.seek.ensures.on
+    c.replace_when.ensures.on
 
 pub returns-clause-only : goal.returns-clause-only
 returns-clause-only c =
@@ -139,7 +152,8 @@ returns-clause-only c =
 
 pub returns-clause-private : goal.returns-clause-private
 returns-clause-private c =
-    private_since c.args.pass.now c.seek.new.pass c.replace_when.new.pass (λ s. ap (λ m. get m s) c.seek.ensures.only.private)
+    private_since c.args.pass.now c.seek.new.pass c.replace_when.new.pass (λ s. ap
+    (λ m. get m s) c.seek.ensures.only.private)
     c.replace_when.ensures.private
 
 pub returns-clause-kept : goal.returns-clause-kept

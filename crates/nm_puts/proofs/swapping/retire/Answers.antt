@@ -21,5 +21,6 @@ returns-clause-on c =
 pub returns-clause-kept : goal.returns-clause-kept
 returns-clause-kept c =
     holds_labelled c.args.pass.now c.label-epoch.new.pass c.label-epoch.result c.label-epoch.ensures.took.step
-    c.label-epoch.ensures.queues c.args.held.now _ c.args.leaf refl refl (ap (λ q. q.items) c.push_reserved.ensures.queue)
+    c.label-epoch.ensures.queues c.args.held.now _ c.args.leaf refl refl (ap
+    (λ q. q.items) c.push_reserved.ensures.queue)
     c.requires.kept

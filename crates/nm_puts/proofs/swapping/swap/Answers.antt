@@ -23,7 +23,8 @@ swap-won-requires-clause-stored c = inr c.requires.stored
 
 pub returns-clause-on : goal.returns-clause-on
 returns-clause-on c =
-    goes_on c.args.pass.now c.swap-won.new.pass _ _ c.swap-won.ensures.step (seen_by_turn _ _ _ _ c.swap-won.ensures.past)
+    goes_on c.args.pass.now c.swap-won.new.pass _ _ c.swap-won.ensures.step
+    (seen_by_turn _ _ _ _ c.swap-won.ensures.past)
     c.swap-won.ensures.stores refl refl c.know_run-2.ensures.fits c.know_run-2.ensures.run
 
 pub returns-clause-won : goal.returns-clause-won
@@ -34,4 +35,5 @@ returns-clause-won c =
 pub returns-clause-lost : goal.returns-clause-lost
 returns-clause-lost c =
     if_swap_lost c.args.pass.now c.swap-won.new.pass c.args.parent c.args.side c.args.leaf c.args.new
-    c.know_run-2.ensures.fits c.know_run-2.ensures.run c.swap-won.result c.swap-won.ensures.step c.requires.may.knows_parent
+    c.know_run-2.ensures.fits c.know_run-2.ensures.run c.swap-won.result c.swap-won.ensures.step
+    c.requires.may.knows_parent
