@@ -1,5 +1,5 @@
 -- What a put adds to its log.
-use Rattle.std.proofs.Common.{◌≤◌, ◌<◌, ◌≡◌, inl, inr, ℕ, zero, suc, ◌+◌, ◌*◌, List, [], ◌∷◌, ◌++◌, length, refl, sym, ap, subst, arith}
+use Rattle.std.proofs.Common.{◌≤◌, ◌<◌, ◌≡◌, inl, inr, ℕ, zero, suc, ◌+◌, ◌*◌, List, [], ◌∷◌, ◌++◌, length, refl, sym, subst, arith}
 use Rattle.std.specs.Prelude.{Option, Some, None, Result, Ok, Err}
 use Rattle.std.proofs.Math.Nat.{mul-add, mul-le-mul_left, suc-mul}
 use Rattle.nm_edge.specs.Edges.{Edge}

@@ -1,19 +1,18 @@
 -- The end of a put: it leaves its pin.
-use Rattle.std.proofs.Common.{◌≡◌, ◌≢◌, ◌≤◌, ℕ, Bool, true, false, List, [], ◌∷◌, ◌++◌, refl, sym, ap, subst, ◌∙◌}
-use Rattle.std.specs.Prelude.{Err, None, Ok, Option, Result, Some, option_map}
+use Rattle.std.proofs.Common.{◌≡◌, ℕ, true, false, ap, ◌∙◌}
+use Rattle.std.specs.Prelude.{Err, None, Ok, Result, option_map}
 use Rattle.nm_edge.specs.Layouts.{IsLayout}
 use Rattle.nm_model.specs.declared.event.Event.{Event}
-use Rattle.nm_model.specs.declared.event.Event.TheVariants.{Leave, LeaveWith}
+use Rattle.nm_model.specs.declared.event.Event.TheVariants.{LeaveWith}
 use Rattle.nm_model.specs.declared.event.Op.TheVariants.{Insert}
 use Rattle.nm_model.specs.declared.ledger.Ledger.{Ledger}
 use Rattle.nm_model.specs.declared.reply.Reply.TheVariants.{Departed}
 use Rattle.nm_model.specs.Ledgers.{held}
 use Rattle.nm_model.specs.Maps.{get}
 use Rattle.nm_order.specs.Facts.Fact.{CallIs}
-use Rattle.nm_steps.specs.Rules.{knowledge}
 use Rattle.nm_steps.specs.Steps.{Continues, HasSeen, IsInRun, IsSamePass, PassView, TakesStep}
 use Rattle.nm_epoch.specs.declared.collecting.HeldQueue.{HeldQueue}
-use Rattle.nm_epoch.specs.Resting.{KeepsHands, epochs, search}
+use Rattle.nm_epoch.specs.Resting.{KeepsHands, epochs}
 use Rattle.nm_walks.specs.Cleanups.{HoldsCuts, KeepsLedgers}
 use Rattle.nm_walks.specs.Growing.{HasNewNodes}
 use Rattle.nm_walks.specs.Telling.{GoesOn, Tells}

@@ -1,5 +1,5 @@
 -- A new leaf is claimed, and given back.
-use Rattle.std.proofs.Common.{◌≡◌, ◌≢◌, ℕ, Bool, true, false, true≢false, refl, sym, ap, ◌∙◌}
+use Rattle.std.proofs.Common.{◌≡◌, false, true≢false, refl, sym, ap, ◌∙◌}
 use Rattle.std.specs.Prelude.{Option, Some, None, is_some, IfSome, unwrap_or}
 use native.Mathlib.Decide.{ℕ_discrete}
 use Rattle.nm_edge.specs.declared.node.NodeId.{NodeId}

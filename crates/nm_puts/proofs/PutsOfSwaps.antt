@@ -1,6 +1,6 @@
 -- A call that has replaced a value has its put in each history of the map.
-use Rattle.std.proofs.Common.{◌≡◌, ℕ, inl, inr, List, [], ◌∷◌, ◌++◌, append_assoc, length, refl, sym, ap, subst, ◌∙◌}
-use Rattle.std.specs.Prelude.{All, Contains, Option, Some}
+use Rattle.std.proofs.Common.{◌≡◌, ℕ, inr, List, [], ◌∷◌, ◌++◌, append_assoc, length, sym, ap, subst, ◌∙◌}
+use Rattle.std.specs.Prelude.{All, Contains, Some}
 use Rattle.std.proofs.lemmas.Option.{same_Some}
 use Rattle.nm_edge.specs.Keys.{IsKey}
 use Rattle.nm_edge.specs.Layouts.{Layout, IsLayout}
@@ -10,14 +10,14 @@ use Rattle.nm_model.specs.declared.event.Event.TheVariants.{Swap}
 use Rattle.nm_model.specs.declared.reply.Reply.TheVariants.{Cut}
 use Rattle.nm_model.specs.declared.trace.Turn.{Turn}
 use Rattle.nm_model.specs.Acts.{Act}
-use Rattle.nm_model.specs.Histories.{Called, IsHistory, called_in}
+use Rattle.nm_model.specs.Histories.{Called, called_in}
 use Rattle.nm_model.specs.Memory.{named}
 use Rattle.nm_model.specs.Headline.{words_after}
 use Rattle.nm_model.specs.Ordered.{HasKey, ordered, trace_in}
 use Rattle.nm_steps.specs.declared.view.Stored.{Stored}
 use Rattle.nm_steps.specs.Rules.{Extends, ExtendsStores, answered_turn}
 use Rattle.nm_calls.specs.MapHistories.{IsMapHistory, IsPutOf, MapAct}
-use Rattle.nm_calls.specs.Maps.{HoldsStores, IsInMap, value_at}
+use Rattle.nm_calls.specs.Maps.{HoldsStores, value_at}
 use Rattle.nm_calls.proofs.MapMoments.{holds_longer}
 use Rattle.nm_calls.proofs.MoreStores.{same_by_more}
 use Rattle.nm_calls.proofs.WonSwaps.{SwapShown, swap_shown}
@@ -123,5 +123,5 @@ module _ (L : Layout) (fits : IsLayout L) (events : List (ℕ × Event)) (keys :
       }
 
 pub replaced_values_have_puts : ReplacedValuesHavePuts
-replaced_values_have_puts L fits events keys from stores held was now seen w k old new r on extends acts history valued h =
+replaced_values_have_puts L fits events keys from stores held was now seen w k old new r on extends acts its valued h =
     its_put L fits events keys from stores held was now seen w k old new r on extends acts valued h

@@ -1,6 +1,6 @@
 -- Right before a won swap the map has the key with the value of the old leaf, and right after it with
 -- the value that was stored for the new one.
-use Rattle.std.proofs.Common.{◌≡◌, ◌≤◌, ◌<◌, ℕ, ◌+◌, ◌==◌, Bool, true, false, cond, ◌&&◌, ◌||◌, List, [], ◌∷◌, ◌++◌, append-nil, append_assoc, length, refl, sym, ap, subst, ◌∙◌, arith, true≢false}
+use Rattle.std.proofs.Common.{◌≡◌, ◌≤◌, ℕ, ◌==◌, Bool, true, false, cond, ◌||◌, List, [], ◌∷◌, ◌++◌, append-nil, append_assoc, length, refl, sym, ap, subst, ◌∙◌, arith, true≢false}
 use Rattle.std.specs.Prelude.{All, Contains, IsSome, Ok, Option, Some, slice_index_or}
 use Rattle.std.proofs.lemmas.Bool.{eq-eqb}
 use Rattle.std.proofs.lemmas.List.{length-append, same_from_push}
@@ -9,7 +9,6 @@ use Rattle.std.proofs.lemmas.Option.{same_Some}
 use Rattle.nm_edge.specs.Layouts.{Layout, IsLayout}
 use Rattle.nm_edge.specs.declared.edge.Side.{Side}
 use Rattle.nm_edge.specs.declared.node.NodeId.{NodeId}
-use Rattle.nm_model.specs.declared.arrivals.Call.{Call}
 use Rattle.nm_model.specs.declared.event.Event.{Event}
 use Rattle.nm_model.specs.declared.event.Event.TheVariants.{Swap}
 use Rattle.nm_model.specs.declared.event.Op.TheVariants.{Insert}
@@ -20,9 +19,9 @@ use Rattle.nm_model.specs.Headline.{HasLeft, IsPinned, words_after}
 use Rattle.nm_model.specs.Histories.{Called, call_begun}
 use Rattle.nm_model.specs.Knowledge.{Knowledge}
 use Rattle.nm_model.specs.Memory.{named}
-use Rattle.nm_model.specs.Ordered.{HasKey, after_in, ordered, trace_in}
+use Rattle.nm_model.specs.Ordered.{HasKey, ordered, trace_in}
 use Rattle.nm_model.specs.Paths.{Reached}
-use Rattle.nm_model.specs.Searches.{Search, idle}
+use Rattle.nm_model.specs.Searches.{idle}
 use Rattle.nm_model.specs.Walks.{Entry, logged_by, search_after}
 use Rattle.nm_order.specs.Facts.Fact.{CallIs}
 use Rattle.nm_order.specs.History.{pin_of}
@@ -35,7 +34,7 @@ use Rattle.nm_theorem.proofs.LooksBehind.{pinned_by_turns}
 use Rattle.nm_theorem.proofs.Runs.{Parts, parts_of}
 use Rattle.nm_steps.specs.declared.view.Stored.{Stored}
 use Rattle.nm_steps.specs.declared.view.View.{View}
-use Rattle.nm_steps.specs.Rules.{Extends, ExtendsStores, IsStored, answered_turn, knowledge, value_of}
+use Rattle.nm_steps.specs.Rules.{Extends, IsStored, answered_turn, value_of}
 use Rattle.nm_steps.specs.Steps.{HasSeen, HasSeenAllOf, IsInRun, PassView, TakesStep}
 use Rattle.nm_steps.specs.Values.{HasSeenStores, OnlySees}
 use Rattle.nm_steps.proofs.Growing.{goes_on_through}
@@ -43,7 +42,7 @@ use Rattle.nm_steps.proofs.Seeing.{same_by_step, seen_by_turn}
 use Rattle.nm_steps.proofs.ValueStays.{NobodyHolds, value_stays}
 use Rattle.nm_walks.specs.Growing.{HasLinkedValue}
 use Rattle.nm_walks.specs.Making.{HasJustStored}
-use Rattle.nm_walks.specs.Telling.{GoesOn, IsPinnedSomewhere, Tells}
+use Rattle.nm_walks.specs.Telling.{IsPinnedSomewhere, Tells}
 use Rattle.nm_walks.proofs.Looks.{right_false}
 use Rattle.nm_walks.proofs.ValueLooks.{if_linked_value}
 use Rattle.nm_calls.specs.KeptValues.{NoneCuts}

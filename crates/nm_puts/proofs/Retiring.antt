@@ -1,5 +1,5 @@
 -- The label of a leaf that a swap has cut off, and its place in the queue.
-use Rattle.std.proofs.Common.{◌≡◌, ◌≢◌, ◌≤◌, ℕ, suc, ◌==◌, Bool, false, cond, List, [], ◌∷◌, ◌++◌, length, map, refl, sym, ap, subst, ◌∙◌, arith}
+use Rattle.std.proofs.Common.{◌≡◌, ℕ, suc, ◌==◌, List, [], ◌∷◌, ◌++◌, length, map, refl, sym, ap, subst, ◌∙◌}
 use Rattle.std.specs.Prelude.{Option, Some, None, is_none, option_map, slice_get}
 use Rattle.std.proofs.lemmas.Bool.{cond-false, cond-true, eq-eqb, ne_eqb}
 use Rattle.std.proofs.lemmas.Option.{none-some, same_Some}
@@ -15,9 +15,9 @@ use Rattle.nm_laws.proofs.Held.{held-label}
 use Rattle.nm_laws.proofs.Learned.{learn_labelled}
 use Rattle.nm_order.proofs.HeldLedgers.{held_ledgers_are_kept}
 use Rattle.nm_steps.specs.Rules.{knowledge}
-use Rattle.nm_steps.specs.Steps.{IsSamePass, PassView, Stepped}
+use Rattle.nm_steps.specs.Steps.{PassView, Stepped}
 use Rattle.nm_steps.proofs.Presence.{known_after_step}
-use Rattle.nm_epoch.specs.Collecting.{IsQueueOf, IsQueueThen, TakesLabels, capped, labelled_so, queued}
+use Rattle.nm_epoch.specs.Collecting.{IsQueueOf, TakesLabels, capped, labelled_so, queued}
 use Rattle.nm_epoch.specs.declared.collecting.Entry.{Entry as Waiting}
 use Rattle.nm_epoch.specs.declared.collecting.HeldQueue.{HeldQueue}
 use Rattle.nm_walks.specs.Telling.{IsInRun}

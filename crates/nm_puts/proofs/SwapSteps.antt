@@ -1,25 +1,21 @@
 -- The step of a swap: it is allowed, and what it leaves.
-use Rattle.std.proofs.Common.{◌≡◌, ◌≢◌, ◌≤◌, ◌<◌, ℕ, ◌==◌, Bool, true, false, not, cond, ◌&&◌, ◌||◌, List, [], ◌∷◌, ◌++◌, length, refl, sym, ap, subst, ◌∙◌, arith}
+use Rattle.std.proofs.Common.{◌≡◌, ◌≤◌, ◌<◌, ℕ, ◌==◌, true, not, cond, ◌&&◌, ◌||◌, List, [], ◌∷◌, length, refl, sym, ap, subst, ◌∙◌, arith}
 use Rattle.std.specs.Prelude.{Option, Some, None, is_some, is_none, option_map, unwrap_or, Result, Ok, Err, IfOk, IfErr}
-use Rattle.std.specs.List.{list_any}
 use native.Mathlib.Decide.{ℕ_discrete}
 use Rattle.std.proofs.lemmas.Bool.{and_from, cond-false, cond-true, eq-eqb, ne_eqb}
 use Rattle.nm_edge.specs.Edges.{Edge}
-use Rattle.nm_edge.specs.Keys.{IsKey}
 use Rattle.nm_edge.specs.Layouts.{Layout, IsLayout}
 use Rattle.nm_edge.specs.declared.edge.Side.{Side}
 use Rattle.nm_edge.specs.declared.node.NodeId.{NodeId}
 use Rattle.nm_model.specs.declared.arrivals.Arrival.{Arrival}
 use Rattle.nm_model.specs.declared.arrivals.Call.{Call}
 use Rattle.nm_model.specs.declared.event.Event.TheVariants.{Swap}
-use Rattle.nm_model.specs.declared.knowledge.Draft.{Draft}
-use Rattle.nm_model.specs.declared.ledger.Ledger.{Ledger}
 use Rattle.nm_model.specs.declared.reply.Refused.TheVariants.{NoSlot, NotPinned, NotHeld, NotPrivate, NotReady, NotOrdered}
 use Rattle.nm_model.specs.declared.reply.Reply.TheVariants.{Cut, Lost}
 use Rattle.nm_model.specs.Knowledge.{Knowledge, draft_of, is_private, knows, knows_leaf}
-use Rattle.nm_model.specs.Learning.{cutting, read_edge, swapped_in}
+use Rattle.nm_model.specs.Learning.{cutting, swapped_in}
 use Rattle.nm_model.specs.Ledgers.{held, retire, with_cut}
-use Rattle.nm_model.specs.Maps.{get, without, is_number}
+use Rattle.nm_model.specs.Maps.{get, is_number}
 use Rattle.nm_model.specs.Ordered.{after_in, ended_at, has_put_in, may_flag_at, ordered, swaps_in_order, trace_in}
 use Rattle.nm_model.specs.Runs.{State}
 use Rattle.nm_model.specs.Searches.{Search, idle, searched, is_by, is_side}
@@ -45,7 +41,6 @@ use Rattle.nm_steps.specs.Steps.{MayStep, PassView, Stepped, TakesStep, swap_rep
 use Rattle.nm_steps.proofs.AfterSteps.{TellsRun}
 use Rattle.nm_steps.proofs.Extending.{neither}
 use Rattle.nm_steps.proofs.Presence.{known_after_step}
-use Rattle.nm_epoch.specs.Resting.{search}
 use Rattle.nm_epoch.proofs.Entries.{search_is}
 use Rattle.nm_walks.specs.Telling.{Tells, IsInRun, IsPinnedSomewhere}
 use Rattle.nm_walks.proofs.Looks.{enough, grown, known_inside, told_after}

@@ -1,5 +1,5 @@
 -- The parts of a try of a put.
-use Rattle.std.proofs.Common.{◌≡◌, ◌≢◌, ◌≤◌, ◌<◌, ℕ, ◌==◌, Bool, true, false, List, [], ◌∷◌, ◌++◌, length, refl, sym, ap, subst, ◌∙◌, arith}
+use Rattle.std.proofs.Common.{◌≡◌, ◌≢◌, ◌<◌, ℕ, false, List, [], length, refl, sym, ap, subst, ◌∙◌}
 use Rattle.std.specs.Prelude.{None, Option, Some, option_map}
 use native.Mathlib.Decide.{ℕ_discrete}
 use Rattle.std.proofs.lemmas.Bool.{ne_eqb}
@@ -25,10 +25,10 @@ use Rattle.nm_steps.specs.Rules.{knowledge, value_of}
 use Rattle.nm_steps.specs.Steps.{HasSeenAllOf, IsInRun, IsSamePass, PassView}
 use Rattle.nm_steps.specs.Values.{HasSeenStores}
 use Rattle.nm_steps.proofs.Seeing.{continues_then, seen_itself, stores_same}
-use Rattle.nm_epoch.specs.Resting.{epochs, search}
+use Rattle.nm_epoch.specs.Resting.{search}
 use Rattle.nm_walks.specs.declared.seek_record.ChainEdge.{ChainEdge}
 use Rattle.nm_walks.specs.declared.seek_record.WalkEnd.{WalkEnd}
-use Rattle.nm_walks.specs.Cleanups.{KeepsLedgers, OnlyCleans, freed_of_origin}
+use Rattle.nm_walks.specs.Cleanups.{KeepsLedgers, OnlyCleans}
 use Rattle.nm_walks.specs.Growing.{HasNewNodes, KeepsCall}
 use Rattle.nm_walks.specs.Making.{OnlyMakes}
 use Rattle.nm_walks.specs.Bounds.{chain_bound}
@@ -218,7 +218,12 @@ pub was_just_read : (m : PassView) (k leaf v : ℕ) → IsInRun m → IsKey k �
 was_just_read m k leaf v run is_key ended seen value =
     let within = leaf_is_high m run seen.run k leaf is_key ended in
     record {
-      on = record { same = refl; past = seen_itself m; run = run; stores = stores_same m.view.stores m.view.stores refl };
+      on = record {
+        same = refl;
+        past = seen_itself m;
+        run = run;
+        stores = stores_same m.view.stores m.view.stores refl;
+      };
       under = under_none m.view.log m.view.log refl;
       read = record {
         slot = leaf;

@@ -1,9 +1,7 @@
 -- The parts of a swap that is tried.
-use Rattle.std.proofs.Common.{◌≡◌, ◌≢◌, ◌≤◌, ℕ, Bool, true, false, List, [], ◌∷◌, ◌++◌, append_assoc, length, refl, sym, ap, subst, ◌∙◌, arith}
-use Rattle.std.specs.Prelude.{Contains, Option, Some, option_map}
+use Rattle.std.proofs.Common.{◌≡◌, ℕ, true, List, [], ◌∷◌, ◌++◌, length, refl, sym, ap, subst, ◌∙◌}
+use Rattle.std.specs.Prelude.{Contains, Some, option_map}
 use Rattle.std.proofs.lemmas.List.Elements.{Contains-push}
-use Rattle.nm_edge.specs.Edges.{Edge}
-use Rattle.nm_edge.specs.Layouts.{IsLayout}
 use Rattle.nm_edge.specs.declared.node.NodeId.{NodeId}
 use Rattle.nm_model.specs.declared.event.Event.TheVariants.{Look, Sight, Swap}
 use Rattle.nm_model.specs.declared.event.Field.TheVariants.{Birth}
@@ -11,7 +9,7 @@ use Rattle.nm_model.specs.declared.event.Op.TheVariants.{Insert}
 use Rattle.nm_model.specs.declared.knowledge.Brief.{Brief}
 use Rattle.nm_model.specs.declared.knowledge.Draft.{Draft}
 use Rattle.nm_model.specs.declared.reply.Reply.{Reply}
-use Rattle.nm_model.specs.declared.reply.Reply.TheVariants.{BirthIs, Cut, Labelled, Lost}
+use Rattle.nm_model.specs.declared.reply.Reply.TheVariants.{BirthIs, Cut, Labelled}
 use Rattle.nm_model.specs.declared.ledger.Ledger.{Ledger}
 use Rattle.nm_model.specs.Ledgers.{held}
 use Rattle.nm_model.specs.Maps.{get}
@@ -28,13 +26,12 @@ use Rattle.nm_epoch.specs.Resting.{epochs, search}
 use Rattle.nm_epoch.specs.declared.collecting.HeldQueue.{HeldQueue}
 use Rattle.nm_walks.specs.declared.seek_record.WalkEnd.{WalkEnd}
 use Rattle.nm_walks.specs.Cleanups.{HoldsCuts, KeepsLedgers, freed_of_origin}
-use Rattle.nm_walks.specs.Labelling.{OnlyLabels}
-use Rattle.nm_walks.specs.Making.{HasFilled, HasJustStored, IsFilled, KeepsOtherSlots, OnlyMakes, draft, fills, with_node}
+use Rattle.nm_walks.specs.Making.{HasFilled, HasJustStored, KeepsOtherSlots, OnlyMakes, draft, fills, with_node}
 use Rattle.nm_walks.specs.Telling.{GoesOn, OnlyLooks, Tells}
 use Rattle.nm_walks.proofs.Adding.{adds_these}
 use Rattle.nm_walks.proofs.KeptLedgers.{holds_on}
 use Rattle.nm_walks.proofs.Makes.{is_filled, same_draft}
-use Rattle.nm_puts.specs.Swaps.{HasNotSwapped, HasSwapped, HoldsCutsThen, IsSwapping, IsUnderPin, KeepsRest, MaySwap, Retires, SwapLost, SwapWon, Swaps, leaf_at}
+use Rattle.nm_puts.specs.Swaps.{HasSwapped, HoldsCutsThen, IsSwapping, IsUnderPin, MaySwap, Retires, SwapWon, Swaps, leaf_at}
 use Rattle.nm_puts.proofs.Retiring.{swap_ledgers}
 use Rattle.nm_puts.proofs.UnderPins.{under_then, under_these}
 
@@ -70,7 +67,13 @@ is_swapping p b f k birth r new may on only born on' only' filled = record {
 pub just_stored : (f : PassView) (new v : ℕ) → HasJustStored f new v → IsStored f.view.stores f.view.number
     (length f.view.log) new
 just_stored f new v s =
-    let x : Stored = record { at = length f.view.past; worker = f.view.number; own = length f.view.log; slot = new; value = v } in
+    let x : Stored = record {
+      at = length f.view.past;
+      worker = f.view.number;
+      own = length f.view.log;
+      slot = new;
+      value = v;
+    } in
     record {
       stored = x;
       there = subst (λ (l : List Stored). Contains l x) (sym s.1) (Contains-push s.0 x);

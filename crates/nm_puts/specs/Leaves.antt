@@ -1,5 +1,5 @@
 -- A new leaf: a private slot with its birth.
-use Rattle.std.specs.Prelude.{◌≡◌, ◌≢◌, ℕ, Option, Some, None}
+use Rattle.std.specs.Prelude.{◌≡◌, Option, Some, None}
 use Rattle.nm_edge.specs.declared.node.NodeId.{NodeId}
 use Rattle.nm_model.specs.Maps.{get}
 use Rattle.nm_steps.specs.Rules.{knowledge}

@@ -1,5 +1,5 @@
 -- A swap: what it needs, and what it leaves of the pass and of the worker's own queue.
-use Rattle.std.specs.Prelude.{◌≡◌, ◌≢◌, ◌≤◌, ◌==◌, ℕ, Bool, true, false, not, List, [], ◌∷◌, ◌++◌, length, option_map, Some, None, if◌then◌else◌}
+use Rattle.std.specs.Prelude.{◌≡◌, ◌==◌, ℕ, Bool, true, false, not, List, [], ◌∷◌, ◌++◌, length, option_map, Some, None, if◌then◌else◌}
 use Rattle.std.specs.List.{list_all}
 use Rattle.nm_edge.specs.Edges.{Edge}
 use Rattle.nm_edge.specs.Keys.{IsKey}

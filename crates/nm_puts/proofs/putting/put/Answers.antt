@@ -1,9 +1,8 @@
-use Rattle.std.proofs.Common.{◌≡◌, ◌≤◌, ◌+◌, ◌*◌, ℕ, inl, inr, refl, sym, ap, subst, ◌∙◌, arith}
-use Rattle.std.specs.Prelude.{None}
+use Rattle.std.proofs.Common.{◌+◌, ◌*◌, inl, inr, refl, ap, arith}
 use Rattle.nm_model.specs.declared.event.Op.TheVariants.{Insert}
 use Rattle.nm_model.specs.Maps.{get}
 use Rattle.nm_model.specs.Searches.{Search}
-use Rattle.nm_steps.proofs.Seeing.{same_then, seen_itself, seen_through, stores_same, stores_through}
+use Rattle.nm_steps.proofs.Seeing.{same_then, seen_through}
 use Rattle.nm_walks.proofs.KeptLedgers.{holds_on}
 use Rattle.nm_calls.specs.Moments.{HadNoCall}
 use Rattle.nm_calls.proofs.Adding.{has_won, moved_adds, pin_adds}
@@ -48,7 +47,12 @@ returns-clause-after c =
           c.requires.rests.unpinned
           c.pin_for.ensures.on c.put_pinned.ensures.does;
       moment = (
-          let pinned : HadNoCall o a = record { same = c.pin_for.ensures.on.same; past = c.pin_for.ensures.on.past; call = none_begun o c.know_run.ensures.seen c.know_run.ensures.fits (ap (λ (s : Search). s.call) c.requires.rests.idle) } in
+          let pinned : HadNoCall o a = record {
+            same = c.pin_for.ensures.on.same;
+            past = c.pin_for.ensures.on.past;
+            call = none_begun o c.know_run.ensures.seen c.know_run.ensures.fits
+                (ap (λ (s : Search). s.call) c.requires.rests.idle);
+          } in
           c.put_pinned.ensures.moment o pinned
           );
       won = put_wins fit L c.args.tries c.args.condition c.args.key o.view.log a.view.log q.view.log

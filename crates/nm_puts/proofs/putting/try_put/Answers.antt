@@ -1,18 +1,15 @@
-use Rattle.std.proofs.Common.{◌≡◌, ◌≤◌, ℕ, List, inl, inr, refl, sym, ap, subst, ◌∙◌}
-use Rattle.std.specs.Prelude.{None, Some}
+use Rattle.std.proofs.Common.{inl, inr, refl, ap}
+use Rattle.std.specs.Prelude.{Some}
 use Rattle.nm_model.specs.declared.event.Op.TheVariants.{Insert}
 use Rattle.nm_model.specs.Maps.{get}
-use Rattle.nm_steps.specs.Rules.{knowledge}
-use Rattle.nm_steps.specs.Steps.{PassView}
-use Rattle.nm_walks.specs.Growing.{HasNewNodes, HoldsNewNodes}
 use Rattle.nm_walks.specs.Telling.{Tells}
-use Rattle.nm_walks.proofs.GoingOn.{call_still, goes_then, own_still, pinned_in_still}
+use Rattle.nm_walks.proofs.GoingOn.{goes_then, own_still, pinned_in_still}
 use Rattle.nm_walks.proofs.KeptLedgers.{holds_on, holds_so}
 use Rattle.nm_walks.proofs.ShortWalks.{key_of_call}
 use Rattle.nm_walks.proofs.Standing.{at_kept}
 use Rattle.nm_calls.proofs.Adding.{link_counts, stops_adds}
 use Rattle.nm_calls.proofs.AddingInserts.{back_adds, fork_adds, grows_lost, grows_won}
-use Rattle.nm_calls.proofs.Forks.{kept_fork, linked_fork, lost_fork, may_grow, none_left}
+use Rattle.nm_calls.proofs.Forks.{linked_fork, lost_fork, may_grow, none_left}
 use Rattle.nm_calls.proofs.InsertedValues.{inserted}
 use Rattle.nm_calls.proofs.MadeLeaves.{put_by_link, put_earlier}
 use Rattle.nm_calls.proofs.Rooms.{fills_none}
@@ -84,7 +81,10 @@ returns-then-end-sought-clause-part c =
       c.stop.new.pass.view.log,
       c.in-Some.ensures.came.few,
       (rw c.get-sought.ensures.number at c.in-Some.ensures.walk),
-      inl (rw c.get-sought.ensures.number at c.if-end-sought.true, rw c.get-sought.ensures.number at c.replace_at.ensures.part),
+      inl (
+        rw c.get-sought.ensures.number at c.if-end-sought.true,
+        rw c.get-sought.ensures.number at c.replace_at.ensures.part,
+      ),
     )
 
 pub returns-then-end-sought-clause-does : goal.returns-then-end-sought-clause-does

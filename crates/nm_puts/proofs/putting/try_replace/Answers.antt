@@ -1,19 +1,12 @@
-use Rattle.std.proofs.Common.{◌≡◌, ◌≤◌, ℕ, List, inl, inr, refl, sym, ap, subst, ◌∙◌}
+use Rattle.std.proofs.Common.{inl, inr, refl, ap}
 use Rattle.nm_model.specs.declared.event.Op.TheVariants.{Insert}
 use Rattle.nm_model.specs.Maps.{get}
-use Rattle.nm_steps.specs.Rules.{knowledge}
-use Rattle.nm_steps.specs.Steps.{PassView}
 use Rattle.nm_walks.proofs.GoingOn.{goes_then, pinned_in_still}
 use Rattle.nm_walks.proofs.KeptLedgers.{holds_on}
 use Rattle.nm_walks.proofs.ShortWalks.{key_of_call}
 use Rattle.nm_calls.proofs.Adding.{seeks_adds}
 use Rattle.nm_calls.proofs.Rooms.{fills_none}
-use Rattle.nm_puts.specs.declared.putting.Condition.{Condition}
-use Rattle.nm_puts.specs.declared.putting.Condition.TheVariants as condition
-use Rattle.nm_puts.specs.Puts.{TriesAt, TryDoes, WalksFor}
-use Rattle.nm_puts.specs.Replaced.{HasReplaced}
-use Rattle.nm_puts.proofs.ReplacedValues.{replaced_since}
-use Rattle.nm_puts.proofs.TriedPuts.{does_since, ended_other, if_replaced, looks_nothing, looks_puts, may_replace, no_other, private_since, puts_then, replaced_does, shows_since, there_expects_none, walks_leaf}
+use Rattle.nm_puts.proofs.TriedPuts.{does_since, ended_other, looks_nothing, looks_puts, may_replace, private_since, puts_then, shows_since, walks_leaf}
 use Rattle.nm_puts.proofs.putting.try_replace.Goals as goal
 
 pub seek-requires-clause-key : goal.seek-requires-clause-key

@@ -1,17 +1,16 @@
-use Rattle.std.proofs.Common.{◌≡◌, ◌≤◌, ℕ, [], ◌∷◌, refl, sym, ap, subst, ◌∙◌, arith}
+use Rattle.std.proofs.Common.{◌≤◌, sym, ap, subst, ◌∙◌, arith}
 use Rattle.nm_edge.specs.Layouts.{IsLayout, Layout}
 use Rattle.nm_edge.specs.declared.node.NodeId.{NodeId}
-use Rattle.nm_model.specs.declared.event.Event.TheVariants.{Sight, Swap}
+use Rattle.nm_model.specs.declared.event.Event.TheVariants.{Sight}
 use Rattle.nm_model.specs.declared.event.Op.TheVariants.{Insert}
-use Rattle.nm_model.specs.declared.reply.Reply.TheVariants.{Cut, Labelled}
+use Rattle.nm_model.specs.declared.reply.Reply.TheVariants.{Labelled}
 use Rattle.nm_order.specs.Facts.Fact.{CallIs, IsBorn}
 use Rattle.nm_steps.specs.Rules.{value_of}
-use Rattle.nm_steps.specs.Steps.{PassView, TakesStep}
+use Rattle.nm_steps.specs.Steps.{PassView}
 use Rattle.nm_steps.proofs.Seeing.{continues_then}
-use Rattle.nm_walks.proofs.GoingOn.{goes_then, own_still, pinned_in_still}
+use Rattle.nm_walks.proofs.GoingOn.{goes_then, pinned_in_still}
 use Rattle.nm_walks.proofs.ValueLooks.{goes_by_value}
 use Rattle.nm_calls.proofs.Forks.{going_continues}
-use Rattle.nm_puts.specs.Swaps.{IsUnderPin, SwapWon, leaf_at}
 use Rattle.nm_puts.proofs.LaterValues.{value_later}
 use Rattle.nm_puts.proofs.ReplacedValues.{has_replaced, has_swapped_leaf, replaced_then}
 use Rattle.nm_puts.proofs.Retiring.{holds_then}
