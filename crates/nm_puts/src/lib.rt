@@ -11,3 +11,6 @@ mod swapping;
 
 pub use laws::replaced_values_have_puts;
 pub use putting::{Condition, PutOutcome, put};
+
+#[cfg(test)]
+mod tests;
