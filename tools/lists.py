@@ -38,7 +38,7 @@ WHERE = ("What is proved of it: [PROMISES](../../docs/PROMISES.md); what is open
 # Each crate is of one kind.
 KINDS = {
     "runs in a program": "nm_edge nm_lending nm_limbo nm_model nm_steps nm_pool nm_epoch nm_walks "
-                         "nm_calls nm_tree nm_set nm_shared nm_set_c",
+                         "nm_calls nm_puts nm_tree nm_set nm_shared nm_set_c",
     "proofs alone": "nm_laws nm_order nm_theorem nm_progress",
     "tools": "nm_core nm_files nm_replay nm_serial nm_stress",
     "tests, callers and benches": "nm_callers nm_tests refused_growths set_bench set_tests",

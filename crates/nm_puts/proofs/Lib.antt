@@ -1,0 +1,11 @@
+pub mod NewLeaves
+pub mod SwapSteps
+pub mod UnderPins
+pub mod Retiring
+pub mod LaterValues
+pub mod ReplacedValues
+pub mod TriedSwaps
+pub mod TriedPuts
+pub mod EndedPuts
+pub mod AddingPuts
+pub mod PutsOfSwaps

@@ -1,0 +1,4 @@
+pub mod Leaves
+pub mod Replaced
+pub mod Swaps
+pub mod Puts

@@ -1,0 +1,16 @@
+//! The calls of a map's worker that replace the value of a key, over a pass and a queue. They use
+//! the steps and walks of `nm_walks`, and the words of maps of `nm_calls`.
+#![tactic(auto, using(nm_steps::proofs::Seeing::seen_all))]
+
+mod helping;
+mod laws;
+mod leaves;
+mod leaving;
+mod putting;
+mod swapping;
+
+pub use laws::replaced_values_have_puts;
+pub use putting::{Condition, PutOutcome, put};
+
+#[cfg(test)]
+mod tests;
