@@ -376,22 +376,38 @@ fn a_worker_of_a_map_resigns(rt: HostRuntime) -> Result<(), Fail> {
     Ok(())
 }
 
-/// A map keeps the workers of members, and of members that were returned, and is closed with them.
+/// A map that keeps the worker of a member is closed with it.
 #[test]
-fn a_map_closes_with_the_workers_that_it_keeps(rt: HostRuntime) -> Result<(), Fail> {
-    let mut map = Map::new(rt.alloc(), 64, 2)?;
-    let mut first = map.member(0)?;
-    let second = map.member(1)?;
-    assert_eq!(rt; first.try_insert(key(&rt, 5), 50, TRIES), Ok(true));
-    assert!(rt; map.keep(first).is_ok());
-    let reason;
-    (reason, map) = match map.close() {
-        Ok(_) => panic!(rt; "the map was closed"),
-        Err(error) => (error.reason, error.set),
-    };
-    assert_eq!(rt; reason, CloseReason::Attached);
-    assert!(rt; map.keep_returned(second.close()).is_ok());
+fn a_map_closes_with_a_worker_that_it_keeps(rt: HostRuntime) -> Result<(), Fail> {
+    let mut map = Map::new(rt.alloc(), 64, 1)?;
+    let mut member = map.member(0)?;
+    assert_eq!(rt; member.try_insert(key(&rt, 5), 50, TRIES), Ok(true));
+    assert!(rt; map.keep(member).is_ok());
     assert_eq!(rt; keys_of(&rt, map), 1);
+    Ok(())
+}
+
+/// A map that keeps a worker which was returned is closed with it.
+#[test]
+fn a_map_closes_with_a_worker_that_was_returned(rt: HostRuntime) -> Result<(), Fail> {
+    let mut map = Map::new(rt.alloc(), 64, 1)?;
+    let mut member = map.member(0)?;
+    assert_eq!(rt; member.try_insert(key(&rt, 5), 50, TRIES), Ok(true));
+    assert!(rt; map.keep_returned(member.close()).is_ok());
+    assert_eq!(rt; keys_of(&rt, map), 1);
+    Ok(())
+}
+
+/// A map that has a member is not closed, and goes on.
+#[test]
+fn a_map_with_a_member_stays_open(rt: HostRuntime) -> Result<(), Fail> {
+    let map = Map::new(rt.alloc(), 64, 2)?;
+    let mut member = map.member(0)?;
+    let Err(error) = map.close() else {
+        panic!(rt; "the map was closed")
+    };
+    assert_eq!(rt; error.reason, CloseReason::Attached);
+    assert_eq!(rt; member.try_insert(key(&rt, 5), 50, TRIES), Ok(true));
     Ok(())
 }
 
