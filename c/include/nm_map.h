@@ -65,7 +65,8 @@ nm_outcome nm_map_lend(nm_handle *map, nm_map_counts *counts, nm_handle *worker,
 /* Returns a worker that is not pinned, in place of nm_drop: then the handle is closed, and
  * nm_map_lend lends the worker again. It stays attached. What waits with it is reclaimed by its
  * next user, and by each nm_map_put that finds the map full. Returns NM_DONE. Errors, after which the
- * handle owns the worker as before: NM_CLOSED, NM_KIND, NM_IN_USE. */
+ * handle owns the worker as before: NM_CLOSED, NM_KIND, NM_IN_USE, NM_NUMBER (the counts are of a
+ * map with fewer workers). */
 nm_outcome nm_map_return(nm_map_counts *counts, nm_handle *worker);
 
 /* Drops each worker that was returned, such as before nm_map_drain. */

@@ -377,6 +377,7 @@ nm_outcome nm_map_lend(nm_handle *map, nm_map_counts *counts, nm_handle *worker,
                        uint32_t timeout_ms) {
     nm_wait wait = {0, 0};
     nm_outcome outcome;
+    if (worker->at != NULL) return NM_OPEN;
     do {
         if (take_any_returned(counts, worker)) return NM_DONE;
         outcome = attach_soon(map, worker, NM_ANY);
