@@ -102,6 +102,22 @@ void all_are_taken() {
     CHECK(!one.is_open() && three.insert(5u, 7u) && *two.get(5u) == 7u);
 }
 
+// A handle that is open gets no other worker, and one that was returned does.
+void open_handles() {
+    nm_handle map = NM_CLOSED_HANDLE, one = NM_CLOSED_HANDLE, two = NM_CLOSED_HANDLE;
+    nm_map_counts *counts = nullptr;
+    CHECK(nm_map_new(&map, 64, 2) == NM_DONE && nm_map_counts_new(&counts, 64, 2) == NM_DONE);
+    CHECK(nm_map_lend(&map, counts, &one, 0) == NM_DONE);
+    CHECK(nm_map_lend(&map, counts, &two, 0) == NM_DONE);
+    CHECK(nm_map_return(counts, &two) == NM_DONE);
+    CHECK(nm_map_lend(&map, counts, &one, 0) == NM_OPEN);
+    CHECK(nm_map_lend(&map, counts, &two, 0) == NM_DONE);
+    CHECK(nm_map_return(counts, &one) == NM_DONE && nm_map_return(counts, &two) == NM_DONE);
+    nm_map_drop_returned(counts);
+    CHECK(nm_drop(&map) == NM_DONE);
+    nm_map_counts_free(counts);
+}
+
 }  // namespace
 
 int main() {
@@ -109,5 +125,6 @@ int main() {
     CHECK(objects == 0);
     a_full_map();
     all_are_taken();
+    open_handles();
     return 0;
 }
