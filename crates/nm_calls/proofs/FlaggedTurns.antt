@@ -31,7 +31,8 @@ use Rattle.nm_steps.specs.Rules.{answered_turn}
 use Rattle.nm_walks.proofs.Looks.{enough}
 use Rattle.nm_calls.proofs.NamedLeaves.{pin_not_left}
 
-module _ (L : Layout) (fits : IsLayout L) (events : List (ℕ × Event)) (keys : All (λ t. HasKey t.1) events) (w k : ℕ) (f : HasFlagged L events w k) where
+module _ (L : Layout) (fits : IsLayout L) (events : List (ℕ × Event)) (keys : All (λ t. HasKey t.1) events) (w k : ℕ)
+    (f : HasFlagged L events w k) where
   abbrev event : Event
   event = Flag f.parent f.side f.leaf
 
@@ -52,27 +53,33 @@ module _ (L : Layout) (fits : IsLayout L) (events : List (ℕ × Event)) (keys :
   then_is = ap (λ (o : Result Reply Refused). record { worker = w; event = event; outcome = o } ∷ rest) f.won
 
   pub are : trace_in (ordered L) events ≡ so_far ++ flag ∷ rest
-  are = ap (trace_in (ordered L)) f.is_run ∙ (trace_in-append (ordered L) f.before ((w, event) ∷ f.since) ∙ ap (λ (ts : List Turn). so_far ++ ts) then_is)
+  are = ap (trace_in (ordered L)) f.is_run ∙ (trace_in-append (ordered L) f.before ((w, event) ∷ f.since)
+      ∙ ap (λ (ts : List Turn). so_far ++ ts) then_is)
 
   pub first : All (λ t. HasKey t.1) f.before
-  first = first_keys f.before ((w, event) ∷ f.since) (subst (λ (ts : List (ℕ × Event)). All (λ t. HasKey t.1) ts) f.is_run keys)
+  first = first_keys f.before ((w, event) ∷ f.since)
+      (subst (λ (ts : List (ℕ × Event)). All (λ t. HasKey t.1) ts) f.is_run keys)
 
   -- ---- the pin of the call
 
   pub stands : PinStands w (flag ∷ rest)
-  stands = ap (λ (b : Bool). list_any begins_anew (cond b ((event, Flagged f.flagged) ∷ []) [] ++ log_of w rest)) (eq-eqb w w refl) ∙ f.stands
+  stands = ap (λ (b : Bool). list_any begins_anew (cond b ((event, Flagged f.flagged) ∷ []) [] ++ log_of w rest))
+      (eq-eqb w w refl) ∙ f.stands
 
   pub same_pin : pin_of L events w ≡ pin_of L f.before w
-  same_pin = ap (λ (ts : List (ℕ × Event)). pin_of L ts w) f.is_run ∙ pin_stays L f.before ((w, event) ∷ f.since) w (subst (PinStands w) (sym then_is) stands)
+  same_pin = ap (λ (ts : List (ℕ × Event)). pin_of L ts w) f.is_run
+      ∙ pin_stays L f.before ((w, event) ∷ f.since) w (subst (PinStands w) (sym then_is) stands)
 
   pub called_then : call_begun w so_far ≡ Some (record { pin = pin_of L f.before w; op = Delete; key = k })
   called_then = is_called L (enough L fits) w f.before first Delete k f.called
 
   has_pin : HasPin c w
-  has_pin = call_pinned L (enough L fits) f.before first w (record { op = Delete; key = k }) (is_own_call c w Delete k f.called)
+  has_pin = call_pinned L (enough L fits) f.before first w (record { op = Delete; key = k })
+      (is_own_call c w Delete k f.called)
 
   pub pinned_then : IsPinned w so_far
-  pinned_then = pinned_by_turns w so_far (subst (λ (p : Option ℕ). IsSome p) (sym has_pin.1 ∙ pin_is L fits true f.before w) refl)
+  pinned_then = pinned_by_turns w so_far (subst (λ (p : Option ℕ). IsSome p)
+      (sym has_pin.1 ∙ pin_is L fits true f.before w) refl)
 
   pub not_left : HasLeft w (flag ∷ rest) → ⊥
   not_left = pin_not_left w (flag ∷ rest) stands

@@ -36,7 +36,8 @@ key_of_walk p run k leaf ended =
     key_of_call p run a.call.op k (a.is_call ∙ ap (λ (n : ℕ). Some (record { op = a.call.op; key = n })) a.is_for)
 
 -- the leaf at which a walk for its key has ended is a slot above the fixed nodes
-pub leaf_within : (p : PassView) → IsLayout p.view.layout → HasSeen p.view → (k leaf : ℕ) → IsKey k → HasEndedAt p k leaf → (6 ≤ leaf) × (leaf ≤ p.view.layout.nodes)
+pub leaf_within : (p : PassView) → IsLayout p.view.layout → HasSeen p.view → (k leaf : ℕ) → IsKey k
+    → HasEndedAt p k leaf → (6 ≤ leaf) × (leaf ≤ p.view.layout.nodes)
 leaf_within p fits seen k leaf is_key ended =
     let low = enough p.view.layout fits in
     let small : k < infinity_1 = omega (arith, is_key) in
@@ -46,10 +47,13 @@ leaf_within p fits seen k leaf is_key ended =
       leaf_is_inside p.view.layout low [] seen.events seen.keys p.view.number k leaf ended.0 ended.1 small walk,
     )
 
-found_within : (p : PassView) → IsInRun p → HasSeen p.view → (k leaf : ℕ) → EndedWith p ThePin k leaf k → (6 ≤ leaf) × (leaf ≤ p.view.layout.nodes)
-found_within p run seen k leaf ended = leaf_within p run.fits seen k leaf (key_of_walk p run k leaf ended) (ended.0, ended.1, walk_ended p k leaf ended.0 ended.1 ended.2)
+found_within : (p : PassView) → IsInRun p → HasSeen p.view → (k leaf : ℕ) → EndedWith p ThePin k leaf k
+    → (6 ≤ leaf) × (leaf ≤ p.view.layout.nodes)
+found_within p run seen k leaf ended = leaf_within p run.fits seen k leaf (key_of_walk p run k leaf ended)
+    (ended.0, ended.1, walk_ended p k leaf ended.0 ended.1 ended.2)
 
-pub found_slot : (b : TreeView) (p : PassView) → IsOf b p → IsInRun p → HasSeen p.view → (leaf : ℕ) → ((k : ℕ) × EndedWith p ThePin k leaf k) → IsSlot b.layout leaf
+pub found_slot : (b : TreeView) (p : PassView) → IsOf b p → IsInRun p → HasSeen p.view → (leaf : ℕ)
+    → ((k : ℕ) × EndedWith p ThePin k leaf k) → IsSlot b.layout leaf
 found_slot b p own run seen leaf ended =
     let within = found_within p run seen ended.0 leaf ended.1 in
     let high = within.0 in
@@ -58,7 +62,8 @@ found_slot b p own run seen leaf ended =
 -- ---- after a look at its value
 
 -- the value was read at m
-pub read_found : (m : PassView) → IsInRun m → (k leaf v : ℕ) → EndedWith m ThePin k leaf k → HasSeenStores m.view → v ≡ value_of m.view.stores leaf → HasReadValue m k v
+pub read_found : (m : PassView) → IsInRun m → (k leaf v : ℕ) → EndedWith m ThePin k leaf k → HasSeenStores m.view
+    → v ≡ value_of m.view.stores leaf → HasReadValue m k v
 read_found m run k leaf v ended seen value =
     let within = found_within m run seen.run k leaf ended in
     record {
@@ -73,7 +78,8 @@ read_found m run k leaf v ended seen value =
     }
 
 -- only what the pass has seen is changed by the look
-module _ (o p q m : PassView) (same : m ≡ record q { view = record q.view { past = m.view.past; stores = m.view.stores } }) where
+module _ (o p q m : PassView) (same : m ≡ record q
+    { view = record q.view { past = m.view.past; stores = m.view.stores } }) where
   pub makes_and_looks : OnlyMakes p q → OnlyMakes p m
   makes_and_looks only = record {
     epochs = ap (λ (x : PassView). (knowledge x.view).brief) same ∙ only.epochs;
@@ -86,12 +92,14 @@ module _ (o p q m : PassView) (same : m ≡ record q { view = record q.view { pa
   given_and_looked given s = ap (λ (x : PassView). get (knowledge x.view).drafts s) same ∙ given s
 
   pub returned_and_looked : (f : Option NewNodes) → Returns f p.view.log q.view.log → Returns f p.view.log m.view.log
-  returned_and_looked f part = subst (λ (l : List Entry). Returns f p.view.log l) (sym (ap (λ (x : PassView). x.view.log) same)) part
+  returned_and_looked f part = subst (λ (l : List Entry). Returns f p.view.log l)
+      (sym (ap (λ (x : PassView). x.view.log) same)) part
 
 -- ---- the moment in the call
 
 -- the map had the key with the value, at a moment after one at which the worker was not pinned
-pub found_was : (o p q : PassView) → HasSeen o.view → IsLayout o.view.layout → (epochs o).pin ≡ None → Continues o p → (k v : ℕ) → HasReadFound p q k v → MapGave o q k (Some v)
+pub found_was : (o p q : PassView) → HasSeen o.view → IsLayout o.view.layout → (epochs o).pin ≡ None → Continues o p
+    → (k v : ℕ) → HasReadFound p q k v → MapGave o q k (Some v)
 found_was o p q first_seen first_fits unpinned pinning k v t =
     mapped_longer o.view.past t.at q (LeaveWith false) Departed t.leaves k (Some v)
     (value_was o p t.at first_seen first_fits unpinned pinning t.since k t.is_key v t.read)

@@ -73,13 +73,15 @@ pub passed : (p : NodeId → Bool) (ns : List NodeId) (n : NodeId) → Contains 
 passed p [] n at = absurd (let below = at.1 in omega (arith, below))
 passed p (m ∷ ms) n at = by (p m) refl at (passed p ms n)
   where
-    by : (b : Bool) → p m ≡ b → Contains (cond b (m ∷ filter p ms) (filter p ms)) n → (Contains (filter p ms) n → Contains ms n × (p n ≡ true)) → Contains (m ∷ ms) n × (p n ≡ true)
+    by : (b : Bool) → p m ≡ b → Contains (cond b (m ∷ filter p ms) (filter p ms)) n
+        → (Contains (filter p ms) n → Contains ms n × (p n ≡ true)) → Contains (m ∷ ms) n × (p n ≡ true)
     by true passes (zero, below, same) later = ((0, omega arith, same), ap p (sym same) ∙ passes)
     by true passes (suc i, below, same) later = further (later (i, omega (arith, below), same))
       where
         further : Contains ms n × (p n ≡ true) → Contains (m ∷ ms) n × (p n ≡ true)
         further r = let less = r.0.1 in ((suc r.0.0, omega (arith, less), r.0.2), r.1)
-    by false other there later = let r = later there in let below = r.0.1 in ((suc r.0.0, omega (arith, below), r.0.2), r.1)
+    by false other there later = let r = later there in let below = r.0.1 in
+        ((suc r.0.0, omega (arith, below), r.0.2), r.1)
 
 -- the turn that has cut a node off
 pub record CutBy (o : ℕ) (turns : List Turn) (n : NodeId) : Type 0 where
@@ -92,7 +94,8 @@ pub record CutBy (o : ℕ) (turns : List Turn) (n : NodeId) : Type 0 where
 
 -- ---- places of a slot from the cut of its node on
 
-module _ (L : Layout) (turns : List Turn) (h : Headline L turns) (o : ℕ) (n : NodeId) (low : 6 ≤ n.slot) (most : n.slot ≤ L.nodes) (c : CutBy o turns n) (kept : Contains (freed_by turns) n → ⊥) where
+module _ (L : Layout) (turns : List Turn) (h : Headline L turns) (o : ℕ) (n : NodeId) (low : 6 ≤ n.slot)
+    (most : n.slot ≤ L.nodes) (c : CutBy o turns n) (kept : Contains (freed_by turns) n → ⊥) where
   -- right before the cut
   reached : Reached (words_after L c.before) n.slot
   reached =
@@ -102,7 +105,8 @@ module _ (L : Layout) (turns : List Turn) (h : Headline L turns) (o : ℕ) (n : 
       slot_there : (ns : List NodeId) → Contains ns n → Contains (slots_of ns) n.slot
       slot_there [] at = absurd (let below = at.1 in omega (arith, below))
       slot_there (m ∷ ms) (zero, below, at) = (0, omega arith, ap (λ (x : NodeId). x.slot) at)
-      slot_there (m ∷ ms) (suc i, below, at) = let r = slot_there ms (i, omega (arith, below), at) in let less = r.1 in (suc r.0, omega (arith, less), r.2)
+      slot_there (m ∷ ms) (suc i, below, at) = let r = slot_there ms (i, omega (arith, below), at) in
+          let less = r.1 in (suc r.0, omega (arith, less), r.2)
 
   free_before : (w : ℕ) → has_after (opening L) w n.slot false c.before ≡ false
   free_before w = by (has_after (opening L) w n.slot false c.before) refl
@@ -111,10 +115,12 @@ module _ (L : Layout) (turns : List Turn) (h : Headline L turns) (o : ℕ) (n : 
       one = h.places c.before (c.cut ∷ c.since) c.are n.slot low most
 
       by : (b : Bool) → has_after (opening L) w n.slot false c.before ≡ b → b ≡ false
-      by true held = absurd (not_place w reached.path (one.only (InHands w) held ∙ sym (one.only (OnPath reached.path) reached.ends)))
+      by true held = absurd (not_place w reached.path
+          (one.only (InHands w) held ∙ sym (one.only (OnPath reached.path) reached.ends)))
       by false none' = refl
 
-  free_after : (mid late : List Turn) → c.since ≡ mid ++ late → (w : ℕ) → has_after (opening L) w n.slot false (c.before ++ c.cut ∷ mid) ≡ false
+  free_after : (mid late : List Turn) → c.since ≡ mid ++ late → (w : ℕ)
+      → has_after (opening L) w n.slot false (c.before ++ c.cut ∷ mid) ≡ false
   free_after mid late is w = by (has_after (opening L) w n.slot false (c.before ++ c.cut ∷ mid)) refl
     where
       all : turns ≡ (c.before ++ c.cut ∷ mid) ++ late
@@ -127,29 +133,37 @@ module _ (L : Layout) (turns : List Turn) (h : Headline L turns) (o : ℕ) (n : 
       among =
           subst (λ (ns : List NodeId). Contains ns n) (sym (cuts-append o c.before (c.cut ∷ mid)))
           (Contains-append_right (cuts_of o c.before) (cuts_of o (c.cut ∷ mid)) n
-          (subst (λ (b : Bool). Contains (cond b (nodes_cut_of c.cut.outcome) [] ++ cuts_of o mid) n) (sym (eq-eqb c.cut.worker o c.own)) (Contains-append_left (nodes_cut_of c.cut.outcome) (cuts_of o mid) n c.there)))
+          (subst (λ (b : Bool). Contains (cond b (nodes_cut_of c.cut.outcome) [] ++ cuts_of o mid) n)
+          (sym (eq-eqb c.cut.worker o c.own)) (Contains-append_left (nodes_cut_of c.cut.outcome) (cuts_of o mid) n
+          c.there)))
 
       not_freed : is_among (freed_by (c.before ++ c.cut ∷ mid)) n ≡ false
       not_freed = go (is_among (freed_by (c.before ++ c.cut ∷ mid)) n) refl
         where
           go : (b : Bool) → is_among (freed_by (c.before ++ c.cut ∷ mid)) n ≡ b → b ≡ false
-          go true is' = absurd (kept (subst (λ (l : List Turn). Contains (freed_by l) n) (sym all) (freed_longer (c.before ++ c.cut ∷ mid) late n (among_in (freed_by (c.before ++ c.cut ∷ mid)) n is'))))
+          go true is' = absurd (kept (subst (λ (l : List Turn). Contains (freed_by l) n) (sym all)
+              (freed_longer (c.before ++ c.cut ∷ mid) late n (among_in (freed_by (c.before ++ c.cut ∷ mid)) n is'))))
           go false is' = refl
 
       waits : (i : ℕ) × (slice_get (waits_of o (c.before ++ c.cut ∷ mid)) i ≡ Some n)
-      waits = in_filter (λ (m : NodeId). not (is_among (freed_by (c.before ++ c.cut ∷ mid)) m)) (cuts_of o (c.before ++ c.cut ∷ mid)) n among (ap not not_freed)
+      waits = in_filter (λ (m : NodeId). not (is_among (freed_by (c.before ++ c.cut ∷ mid)) m))
+          (cuts_of o (c.before ++ c.cut ∷ mid)) n among (ap not not_freed)
 
       by : (b : Bool) → has_after (opening L) w n.slot false (c.before ++ c.cut ∷ mid) ≡ b → b ≡ false
-      by true held = absurd (not_waiting w o waits.0 (one.only (InHands w) held ∙ sym (one.only (Waits o waits.0) (ap (option_map (λ (m : NodeId). m.slot)) waits.1))))
+      by true held = absurd (not_waiting w o waits.0
+          (one.only (InHands w) held ∙ sym (one.only (Waits o waits.0)
+          (ap (option_map (λ (m : NodeId). m.slot)) waits.1))))
       by false none' = refl
 
 pub in_among : (ns : List NodeId) (n : NodeId) → Contains ns n → is_among ns n ≡ true
 in_among [] n c = absurd (let below = c.1 in omega (arith, below))
-in_among (m ∷ ms) n (zero, below, at) = subst (λ (x : NodeId). is_among (m ∷ ms) x ≡ true) at (ap (λ (b : Bool). b || is_among ms m) (both m))
+in_among (m ∷ ms) n (zero, below, at) = subst (λ (x : NodeId). is_among (m ∷ ms) x ≡ true) at
+    (ap (λ (b : Bool). b || is_among ms m) (both m))
   where
     both : (x : NodeId) → ((x.slot == x.slot) && (x.birth == x.birth)) ≡ true
     both x = rw (eq-eqb x.slot x.slot refl) (eq-eqb x.birth x.birth refl)
-in_among (m ∷ ms) n (suc i, below, at) = or_later ((n.slot == m.slot) && (n.birth == m.birth)) (is_among ms n) (in_among ms n (i, omega (arith, below), at))
+in_among (m ∷ ms) n (suc i, below, at) = or_later ((n.slot == m.slot) && (n.birth == m.birth)) (is_among ms n)
+    (in_among ms n (i, omega (arith, below), at))
   where
     or_later : (a b : Bool) → b ≡ true → (a || b) ≡ true
     or_later true b is = refl
@@ -173,7 +187,8 @@ take_long (suc n) [] le = absurd (omega (arith, le))
 take_long (suc n) (x ∷ xs) le = ap suc (take_long n xs (omega (arith, le)))
 
 pub first_keys : (xs ys : List (ℕ × Event)) → All (λ t. HasKey t.1) (xs ++ ys) → All (λ t. HasKey t.1) xs
-first_keys xs ys all = λ i d below. All-contains (λ (t : ℕ × Event). HasKey t.1) (xs ++ ys) (slice_index_or xs i d) all (Contains-append_left xs ys (slice_index_or xs i d) (All-contains_itself xs i d below))
+first_keys xs ys all = λ i d below. All-contains (λ (t : ℕ × Event). HasKey t.1) (xs ++ ys) (slice_index_or xs i d)
+    all (Contains-append_left xs ys (slice_index_or xs i d) (All-contains_itself xs i d below))
 
 -- ---- what lasts of a slot that nobody has in hands
 
@@ -232,7 +247,15 @@ cut_by o (t ∷ ts) n c = by (t.worker == o) refl (cut_by o ts n)
     by : (b : Bool) → (t.worker == o) ≡ b → (Contains (cuts_of o ts) n → CutBy o ts n) → CutBy o (t ∷ ts) n
     by true is later = elim (Contains-append_cases (nodes_cut_of t.outcome) (cuts_of o ts) n
         (subst (λ (d : Bool). Contains (cond d (nodes_cut_of t.outcome) [] ++ cuts_of o ts) n) is c)) [
-          | inl here ↦ record { before = []; cut = t; since = ts; are = refl; own = eqb-true t.worker o is; there = here }
+          | inl here ↦ record {
+            before = [];
+            cut = t;
+            since = ts;
+            are = refl;
+            own = eqb-true t.worker o is;
+            there =
+                here;
+          }
           | inr there ↦ further (later there)
         ]
     by false is later = further (later (subst (λ (d : Bool). Contains
@@ -279,17 +302,26 @@ module _ (L : Layout) (fits : IsLayout L) (events : List (ℕ × Event)) (keys :
   nobody : NobodyHolds L events (length c.before) n.slot
   nobody now after is le v =
       let long = length_trace (ordered L) now in
-      let mid = begins_with c.before (c.cut ∷ c.since) (trace_in (ordered L) now) (trace_in (after_in (ordered L) now) after) (sym c.are ∙ traced) (omega (arith, le, long)) in
-      sym (run_hands v n.slot L fits true now) ∙ (ap (has_after (opening L) v n.slot false) mid.1 ∙ by mid.0 (append_cancel_left c.before (c.cut ∷ c.since) (mid.0 ++ (trace_in (after_in (ordered L) now) after)) (sym c.are ∙ (traced ∙ (ap (λ (l : List Turn). l ++ (trace_in (after_in (ordered L) now) after)) mid.1 ∙ append_assoc c.before mid.0 (trace_in (after_in (ordered L) now) after))))))
+      let mid = begins_with c.before (c.cut ∷ c.since) (trace_in (ordered L) now)
+      (trace_in (after_in (ordered L) now) after) (sym c.are ∙ traced) (omega (arith, le, long)) in
+      sym (run_hands v n.slot L fits true now) ∙ (ap (has_after (opening L) v n.slot false) mid.1
+      ∙ by mid.0 (append_cancel_left c.before (c.cut ∷ c.since)
+      (mid.0 ++ (trace_in (after_in (ordered L) now) after))
+      (sym c.are ∙ (traced ∙ (ap (λ (l : List Turn). l ++ (trace_in (after_in (ordered L) now) after)) mid.1
+      ∙ append_assoc c.before mid.0 (trace_in (after_in (ordered L) now) after))))))
     where
       traced : turns ≡ trace_in (ordered L) now ++ (trace_in (after_in (ordered L) now) after)
       traced = ap (trace_in (ordered L)) is ∙ trace_in-append (ordered L) now after
 
-      by : (mid : List Turn) → c.cut ∷ c.since ≡ mid ++ (trace_in (after_in (ordered L) now) after) → has_after (opening L) v n.slot false (c.before ++ mid) ≡ false
-      by [] rest = subst (λ (l : List Turn). has_after (opening L) v n.slot false l ≡ false) (sym (append-nil c.before)) (free_before L turns h o n pooled.0 pooled.1 c kept v)
+      by : (mid : List Turn) → c.cut ∷ c.since ≡ mid ++ (trace_in (after_in (ordered L) now) after)
+          → has_after (opening L) v n.slot false (c.before ++ mid) ≡ false
+      by [] rest = subst (λ (l : List Turn). has_after (opening L) v n.slot false l ≡ false)
+          (sym (append-nil c.before)) (free_before L turns h o n pooled.0 pooled.1 c kept v)
       by (t ∷ ts) rest =
-          subst (λ (x : Turn). has_after (opening L) v n.slot false (c.before ++ x ∷ ts) ≡ false) (head_of c.cut t c.since (ts ++ (trace_in (after_in (ordered L) now) after)) rest)
-          (free_after L turns h o n pooled.0 pooled.1 c kept ts (trace_in (after_in (ordered L) now) after) (tail_of c.cut t c.since (ts ++ (trace_in (after_in (ordered L) now) after)) rest) v)
+          subst (λ (x : Turn). has_after (opening L) v n.slot false (c.before ++ x ∷ ts) ≡ false)
+          (head_of c.cut t c.since (ts ++ (trace_in (after_in (ordered L) now) after)) rest)
+          (free_after L turns h o n pooled.0 pooled.1 c kept ts (trace_in (after_in (ordered L) now) after)
+          (tail_of c.cut t c.since (ts ++ (trace_in (after_in (ordered L) now) after)) rest) v)
 
   pub was_reached : Reached (words_after L c.before) n.slot
   was_reached = reached L turns h o n pooled.0 pooled.1 c kept
@@ -416,20 +448,26 @@ module _ (at : PassView) (run : IsInRun at) (seen : HasSeenStores at.view) (o : 
   ledger : (l : Ledger) × (held_ledger (knowledge at.view).ledgers o ≡ Some l) × (l.queue ≡ map queued (e ∷ later))
   ledger = go (held_ledger (knowledge at.view).ledgers o) refl waits
     where
-      go : (x : Option Ledger) → held_ledger (knowledge at.view).ledgers o ≡ x → option_map (λ (l : Ledger). l.queue) x ≡ Some (map queued (e ∷ later)) → (l : Ledger) × (held_ledger (knowledge at.view).ledgers o ≡ Some l) × (l.queue ≡ map queued (e ∷ later))
+      go : (x : Option Ledger) → held_ledger (knowledge at.view).ledgers o ≡ x
+          → option_map (λ (l : Ledger). l.queue) x ≡ Some (map queued (e ∷ later))
+          → (l : Ledger) × (held_ledger (knowledge at.view).ledgers o ≡ Some l) × (l.queue ≡ map queued (e ∷ later))
       go None is w = absurd (none-some (map queued (e ∷ later)) w)
       go (Some l) is w = (l, is, same_Some l.queue (map queued (e ∷ later)) w)
 
   known : of (after_in (ordered L') seen_events).state at.view.number ≡ knowledge at.view
-  known = logs_tell L' seen_events at.view.number seen.run.worker ∙ ap (known_by L' at.view.number) (ap (part_of at.view.number) (sym seen.run.are) ∙ seen.run.is_part)
+  known = logs_tell L' seen_events at.view.number seen.run.worker
+      ∙ ap (known_by L' at.view.number) (ap (part_of at.view.number) (sym seen.run.are) ∙ seen.run.is_part)
 
   waiting_are : waits_of o (trace_in (ordered L') seen_events) ≡ e.node ∷ map node_in (map queued later)
   waiting_are =
-      waits_is L' run.fits true seen_events at.view.number o ledger.0 (ap (λ (k : Knowledge). held_ledger k.ledgers o) known ∙ ledger.1)
+      waits_is L' run.fits true seen_events at.view.number o ledger.0
+      (ap (λ (k : Knowledge). held_ledger k.ledgers o) known ∙ ledger.1)
       ∙ ap (λ (q : List Queued). map node_in q) ledger.2
 
   pub first_pooled : IsPooled L' e.node.slot
-  first_pooled = (apart_in_run at run).waiting o 0 (queued e) (ap (λ (q : List Queued). slice_get q 0) (shown_queue (held_ledger (knowledge at.view).ledgers o) (map queued (e ∷ later)) waits))
+  first_pooled = (apart_in_run at run).waiting o 0 (queued e)
+      (ap (λ (q : List Queued). slice_get q 0) (shown_queue (held_ledger (knowledge at.view).ledgers o)
+      (map queued (e ∷ later)) waits))
 
   pub first_waits : Contains (waits_of o (trace_in (ordered L') seen_events)) e.node
   first_waits = subst (λ (ns : List NodeId). Contains ns e.node) (sym waiting_are) (0, omega arith, refl)
@@ -462,7 +500,9 @@ module _ (at : PassView) (run : IsInRun at) (seen : HasSeenStores at.view) (o : 
         there = c.there;
       })
       first_waits first_pooled leaf at.view.stores seen.held
-      (λ was from. subst (λ (ts : List Turn). HoldsStores L' was ts at.view.stores) seen.run.are (stores_in_turns at.view run.fits seen was (subst (λ (ts : List Turn). Extends ts was) (sym seen.run.are) from)))))
+      (λ was from. subst (λ (ts : List Turn). HoldsStores L' was ts at.view.stores) seen.run.are
+      (stores_in_turns at.view run.fits seen was (subst (λ (ts : List Turn). Extends ts was) (sym seen.run.are)
+      from)))))
 
 -- the cut of an entry that was found at the front of its queue
 record HasKind (o : ℕ) (at : PassView) (n : NodeId) (leaf : Bool) : Type 0 where
@@ -511,7 +551,8 @@ found_is_inner p q o e r =
     })
 
 -- what was read of a node is what its slot had before the cut, in all that was seen later
-pub read_is_cut : (p q : PassView) (o : ℕ) (e : Entry) (v : ℕ) → WasRead o p q e v → WasCutWith q.view.layout q.view.past q.view.stores e.node v
+pub read_is_cut : (p q : PassView) (o : ℕ) (e : Entry) (v : ℕ) → WasRead o p q e v
+    → WasCutWith q.view.layout q.view.past q.view.stores e.node v
 read_is_cut p q o e v r =
     let k = kind_found p q o e true (record {
       at = r.found.at;
@@ -533,7 +574,8 @@ read_is_cut p q o e v r =
       before = was.before;
       cut = was.cut;
       since = was.since ++ more.more;
-      are = more.is ∙ (ap (λ (l : List Turn). l ++ more.more) was.are ∙ append_assoc was.before (was.cut ∷ was.since) more.more);
+      are = more.is ∙ (ap (λ (l : List Turn). l ++ more.more) was.are
+          ∙ append_assoc was.before (was.cut ∷ was.since) more.more);
       cuts = was.cuts;
       high = was.high;
       reached = was.reached;

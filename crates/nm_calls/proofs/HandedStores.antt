@@ -51,7 +51,8 @@ module _ (L : Layout) (fits : IsLayout L) (events : List (ℕ × Event)) (keys :
     (before mid rest : List Turn) (w : ℕ) (e : Event) (r : Reply) (its : Turn) (its_is : its ≡ answered_turn w e r)
     (are : trace_in (ordered L) events ≡ (before ++ its ∷ []) ++ (mid ++ rest)) (s : ℕ)
     (reached : Reached (words_after L (before ++ its ∷ [])) s) (uncut : NoneCuts mid s)
-    (stores : List Stored) (held : WereHeld L events stores) (order : AllPairs ComesBefore stores) (at : IsStored stores w (length (part_of w before)) s) where
+    (stores : List Stored) (held : WereHeld L events stores) (order : AllPairs ComesBefore stores)
+    (at : IsStored stores w (length (part_of w before)) s) where
   a : Parts (ordered L) events (before ++ its ∷ []) (mid ++ rest)
   a = parts_of (ordered L) events (before ++ its ∷ []) (mid ++ rest) are
 
@@ -94,12 +95,15 @@ module _ (L : Layout) (fits : IsLayout L) (events : List (ℕ × Event)) (keys :
       ∙ ap (λ (ts : List Turn). length ts) (trace_in-append (ordered L) linked b.early ∙ (λ i. traced i ++ middle i))
 
   reached_here : Reached (after_in (ordered L) linked).state.memory s
-  reached_here = subst (λ (m : Memory). Reached m s) (ap (words_after L) (sym traced) ∙ run_words L fits true linked) reached
+  reached_here = subst (λ (m : Memory). Reached m s) (ap (words_after L) (sym traced) ∙ run_words L fits true linked)
+      reached
 
   free : NobodyHoldsUntil L events (length linked) (length (linked ++ b.early) + 1) s
   free =
-      subst (λ (ts : List (ℕ × Event)). NobodyHoldsUntil L ts (length linked) (length (linked ++ b.early) + 1) s) (sym all)
-      (unheld_until L (enough L fits) linked b.early b.late all_keys s reached_here (subst (λ (ts : List Turn). NoneCuts ts s) (sym middle) uncut))
+      subst (λ (ts : List (ℕ × Event)). NobodyHoldsUntil L ts (length linked) (length (linked ++ b.early) + 1) s)
+      (sym all)
+      (unheld_until L (enough L fits) linked b.early b.late all_keys s reached_here
+      (subst (λ (ts : List Turn). NoneCuts ts s) (sym middle) uncut))
 
   grows : entries L w l.first < entries L w linked
   grows =
@@ -123,7 +127,8 @@ module _ (L : Layout) (fits : IsLayout L) (events : List (ℕ × Event)) (keys :
   worker : w < L.workers
   worker =
       let c = after_in (ordered L) l.first in
-      subst (λ (M : Layout). w < M.workers) (layout_is L (enough L fits) l.first (first_keys l.first (event ∷ []) (first_keys linked (b.early ++ b.late) all_keys)))
+      subst (λ (M : Layout). w < M.workers) (layout_is L (enough L fits) l.first
+      (first_keys l.first (event ∷ []) (first_keys linked (b.early ++ b.late) all_keys)))
       (allowed c.state w e (allowed_by_state c w e (was_allowed c event r won))).worker
 
   pub value_until_cut : value_before (length ((before ++ its ∷ []) ++ mid)) stores s ≡ at.stored.value
@@ -137,8 +142,10 @@ module _ (L : Layout) (fits : IsLayout L) (events : List (ℕ × Event)) (keys :
 
 -- ---- a leaf that was cut
 
-module _ (L : Layout) (fits : IsLayout L) (events : List (ℕ × Event)) (keys : All (λ t. HasKey t.1) events) (from : List Turn) (stores : List Stored) (all_held : HoldsStores L from (trace_in (ordered L) events) stores)
-    (n : NodeId) (v : ℕ) (was : WasCutWith L (trace_in (ordered L) events) stores n v) (x : Stored) (there : Contains stores x) (is : IsStoreOf L (trace_in (ordered L) events) x n) where
+module _ (L : Layout) (fits : IsLayout L) (events : List (ℕ × Event)) (keys : All (λ t. HasKey t.1) events)
+    (from : List Turn) (stores : List Stored) (all_held : HoldsStores L from (trace_in (ordered L) events) stores)
+    (n : NodeId) (v : ℕ) (was : WasCutWith L (trace_in (ordered L) events) stores n v) (x : Stored)
+    (there : Contains stores x) (is : IsStoreOf L (trace_in (ordered L) events) x n) where
   abbrev turns : List Turn
   turns = trace_in (ordered L) events
 
@@ -174,27 +181,34 @@ module _ (L : Layout) (fits : IsLayout L) (events : List (ℕ × Event)) (keys :
   not_yet w first rest parts c =
       let born = ap (λ (m : NodeId). m.birth) (cut_has_birth (words_after L was.before) was.cut cuts n was.cuts) in
       let less = h.younger was.before (was.cut ∷ was.since) was.are w n
-      (subst (λ (ns : List NodeId). Contains ns n) (sym (ap (cuts_of w) parts ∙ cuts-append w first rest)) (Contains-append_left (cuts_of w first) (cuts_of w rest) n c)) was.reached in
+      (subst (λ (ns : List NodeId). Contains ns n) (sym (ap (cuts_of w) parts ∙ cuts-append w first rest))
+      (Contains-append_left (cuts_of w first) (cuts_of w rest) n c)) was.reached in
       omega (arith, born, less)
 
   -- nor between the turn that put it in and the cut
   uncut : (mid : List Turn) → was.before ≡ so_far ++ mid → NoneCuts mid n.slot
-  uncut mid parts before since t at c = by (node_fate_then L turns h n.slot (leaf_low L turns h x n is hands) (leaf_high L turns h x n is hands) so_far before (t ∷ (since ++ was.cut ∷ was.since)) moment reached_then)
+  uncut mid parts before since t at c = by (node_fate_then L turns h n.slot (leaf_low L turns h x n is hands)
+      (leaf_high L turns h x n is hands) so_far before (t ∷ (since ++ was.cut ∷ was.since)) moment reached_then)
     where
       inside : was.before ≡ (so_far ++ before) ++ t ∷ since
       inside = parts ∙ (ap (λ (ts : List Turn). so_far ++ ts) at ∙ sym (append_assoc so_far before (t ∷ since)))
 
       moment : turns ≡ (so_far ++ before) ++ t ∷ (since ++ was.cut ∷ was.since)
-      moment = was.are ∙ (ap (λ (ts : List Turn). ts ++ was.cut ∷ was.since) inside ∙ append_assoc (so_far ++ before) (t ∷ since) (was.cut ∷ was.since))
+      moment = was.are ∙ (ap (λ (ts : List Turn). ts ++ was.cut ∷ was.since) inside
+          ∙ append_assoc (so_far ++ before) (t ∷ since) (was.cut ∷ was.since))
 
       now : CutsItsNodes (words_after L (so_far ++ before)) t
       now = h.cuts (so_far ++ before) (since ++ was.cut ∷ was.since) t moment
 
       by : NodeFate L (so_far ++ before) (named (words_after L so_far) n.slot) → ⊥
       by (StaysIn r born) =
-          not_yet t.worker ((so_far ++ before) ++ t ∷ []) since (inside ∙ sym (append_assoc (so_far ++ before) (t ∷ []) since))
-          (now_cut (so_far ++ before) t n (subst (λ (m : NodeId). Contains (nodes_cut_of t.outcome) m) ((λ i. record { slot = n.slot; birth = born i }) ∙ named_then) (cut_is_named (words_after L (so_far ++ before)) t now n.slot c)))
-      by (WasCutOff w c') = not_yet w (so_far ++ before) (t ∷ since) inside (subst (λ (m : NodeId). Contains (cuts_of w (so_far ++ before)) m) named_then c')
+          not_yet t.worker ((so_far ++ before) ++ t ∷ []) since
+          (inside ∙ sym (append_assoc (so_far ++ before) (t ∷ []) since))
+          (now_cut (so_far ++ before) t n (subst (λ (m : NodeId). Contains (nodes_cut_of t.outcome) m)
+          ((λ i. record { slot = n.slot; birth = born i }) ∙ named_then)
+          (cut_is_named (words_after L (so_far ++ before)) t now n.slot c)))
+      by (WasCutOff w c') = not_yet w (so_far ++ before) (t ∷ since) inside
+          (subst (λ (m : NodeId). Contains (cuts_of w (so_far ++ before)) m) named_then c')
 
   value_by : (mid : List Turn) → was.before ≡ so_far ++ mid → v ≡ x.value
   value_by mid parts =
@@ -204,14 +218,17 @@ module _ (L : Layout) (fits : IsLayout L) (events : List (ℕ × Event)) (keys :
       (was.cut ∷ was.since) x.worker answered.event answered.reply turn answered.is
       (was.are ∙ (ap (λ (ts : List Turn). ts ++ was.cut ∷ was.since) parts
       ∙ append_assoc so_far mid (was.cut ∷ was.since)))
-      n.slot reached_then (uncut mid parts) was.first (were_held L fits events was.stored.until was.stored.ends.more was.stored.ends.is was.first was.stored.held) was.stored.order first_at
+      n.slot reached_then (uncut mid parts) was.first
+      (were_held L fits events was.stored.until was.stored.ends.more was.stored.ends.is was.first was.stored.held)
+      was.stored.order first_at
       ∙ ap (λ (y : Stored). y.value) same))
     where
       until_is : was.stored.until ≡ lk.before ++ turn ∷ (mid ++ was.stored.from.more)
       until_is =
           was.stored.from.is
           ∙ (ap (λ (ts : List Turn). ts ++ was.stored.from.more) parts
-          ∙ (append_assoc so_far mid was.stored.from.more ∙ append_assoc lk.before (turn ∷ []) (mid ++ was.stored.from.more)))
+          ∙ (append_assoc so_far mid was.stored.from.more
+          ∙ append_assoc lk.before (turn ∷ []) (mid ++ was.stored.from.more)))
 
       first_at : IsStored was.first x.worker (length (part_of x.worker lk.before)) n.slot
       first_at = by lk.way
@@ -230,7 +247,9 @@ module _ (L : Layout) (fits : IsLayout L) (events : List (ℕ × Event)) (keys :
 
       same : first_at.stored ≡ x
       same = one_store stores all_held.order first_at.stored x
-          (subst (λ (ys : List Stored). Contains ys first_at.stored) (sym was.extends.is) (Contains-append_left was.first was.extends.more first_at.stored first_at.there)) there first_at.by_worker (first_at.at_own ∙ sym is.own)
+          (subst (λ (ys : List Stored). Contains ys first_at.stored) (sym was.extends.is)
+          (Contains-append_left was.first was.extends.more first_at.stored first_at.there)) there
+          first_at.by_worker (first_at.at_own ∙ sym is.own)
 
   pub value_as_stored : v ≡ x.value
   value_as_stored = by (two_places lk.before lk.since was.before was.since turn was.cut (sym lk.are ∙ was.are))
@@ -246,11 +265,18 @@ module _ (L : Layout) (fits : IsLayout L) (events : List (ℕ × Event)) (keys :
           ∙ sym (place.only (OnPath r.path) r.ends)))
       by (IsLater mid rest parts) = value_by mid (parts ∙ sym (append_assoc lk.before (turn ∷ []) mid))
       by (IsEarlier mid rest parts) = absurd (
-          let less = h.younger so_far lk.since (lk.are ∙ sym (append_assoc lk.before (turn ∷ []) lk.since)) was.cut.worker n
-          (subst (λ (ns : List NodeId). Contains ns n) (sym (ap (cuts_of was.cut.worker) (ap (λ (ts : List Turn). ts ++ turn ∷ []) parts ∙ (append_assoc was.before (was.cut ∷ mid) (turn ∷ []) ∙ sym (append_assoc was.before (was.cut ∷ []) (mid ++ turn ∷ [])))) ∙ cuts-append was.cut.worker (was.before ++ was.cut ∷ []) (mid ++ turn ∷ [])))
-          (Contains-append_left (cuts_of was.cut.worker (was.before ++ was.cut ∷ [])) (cuts_of was.cut.worker (mid ++ turn ∷ [])) n (now_cut was.before was.cut n was.cuts))) reached_then in
+          let less = h.younger so_far lk.since (lk.are ∙ sym (append_assoc lk.before (turn ∷ []) lk.since))
+          was.cut.worker n
+          (subst (λ (ns : List NodeId). Contains ns n)
+          (sym (ap (cuts_of was.cut.worker) (ap (λ (ts : List Turn). ts ++ turn ∷ []) parts
+          ∙ (append_assoc was.before (was.cut ∷ mid) (turn ∷ [])
+          ∙ sym (append_assoc was.before (was.cut ∷ []) (mid ++ turn ∷ []))))
+          ∙ cuts-append was.cut.worker (was.before ++ was.cut ∷ []) (mid ++ turn ∷ [])))
+          (Contains-append_left (cuts_of was.cut.worker (was.before ++ was.cut ∷ []))
+          (cuts_of was.cut.worker (mid ++ turn ∷ [])) n (now_cut was.before was.cut n was.cuts))) reached_then in
           let born = ap (λ (m : NodeId). m.birth) named_then in
           omega (arith, less, born))
 
 pub values_come_back_as_stored : ValuesComeBackAsStored
-values_come_back_as_stored L fits events keys from stores held n v was x there is = value_as_stored L fits events keys from stores held n v was x there is
+values_come_back_as_stored L fits events keys from stores held n v was x there is = value_as_stored L fits events
+    keys from stores held n v was x there is

@@ -77,7 +77,14 @@ module _ {m : ℕ} (what : What) (from : ℕ) (p q : PassView) (le : from ≤ le
       (all_still what from p q le a n on queries all)
     where
       sooner : IsUnderWay what from (n + 1) q y → IsUnderWay what from n q y
-      sooner u = record { is_key = u.is_key; comes = λ some. let h = u.comes some in (h.0, h.1, h.2, (let many = h.3 in omega (arith, many))); known = u.known; ends = u.ends; leaf = u.leaf }
+      sooner u = record {
+        is_key = u.is_key;
+        comes = λ some. let h = u.comes some in
+            (h.0, h.1, h.2, (let many = h.3 in omega (arith, many)));
+        known = u.known;
+        ends = u.ends;
+        leaf = u.leaf;
+      }
 
   pub turned_so_far : (n : ℕ) → All (IsUnderWay what from n p) queries
       → AllWithin (IsUnderWay what from (n + 1) p) queries 0 i
@@ -102,7 +109,8 @@ begun_so what from p q le e step told queries all i d below = by (slice_index_or
       is_key = b.0;
       comes = λ some. subst (HasPassed 0 (after_entries from q).view.log query.key) (sym b.1)
           (comes_first_after from p q e step le (λ null. some (b.1 ∙ null)) query.key);
-      known = λ some. subst (λ (x : ℕ). Tells q (KnowsSlot x)) (sym b.1) (told.learned.leads (λ null. some (b.1 ∙ null)));
+      known = λ some. subst (λ (x : ℕ). Tells q (KnowsSlot x)) (sym b.1)
+          (told.learned.leads (λ null. some (b.1 ∙ null)));
       ends = λ null. absurd (told.root refl refl (sym b.1 ∙ null));
       leaf = λ values null. absurd (told.root refl refl (sym b.1 ∙ null));
     }
@@ -110,10 +118,17 @@ begun_so what from p q le e step told queries all i d below = by (slice_index_or
 -- ---- and goes on
 
 -- the leaf with the key is kept
-leaf_kept : (what : What) (p q : PassView) (n : ℕ) (query : Query) (on : Onward) → Reads query.key query.node p.view.log q.view.log on → what ≡ Entries → HasPassed n p.view.log query.key query.node → on.next.slot ≡ 0 → on.found ≡ query.key → HasEndedAt q query.key (slot_kept what query)
+leaf_kept : (what : What) (p q : PassView) (n : ℕ) (query : Query) (on : Onward)
+    → Reads query.key query.node p.view.log q.view.log on → what ≡ Entries
+    → HasPassed n p.view.log query.key query.node → on.next.slot ≡ 0 → on.found ≡ query.key
+    → HasEndedAt q query.key (slot_kept what query)
 leaf_kept what p q n query on r values came null same =
-    subst (λ (w : What). HasEndedAt q query.key (slot_kept w query)) (sym values)
-    (came.0, came.1, subst (λ (v : ℕ). WalkEnds query.key (since_pin [] q.view.log) query.node came.0 came.1 v) same (ends_at p q n query.key query.node on r came null))
+    subst (λ (w : What). HasEndedAt q query.key (slot_kept w query)) (sym values) (
+      came.0,
+      came.1,
+      subst (λ (v : ℕ). WalkEnds query.key (since_pin [] q.view.log) query.node came.0 came.1 v) same
+          (ends_at p q n query.key query.node on r came null),
+    )
 
 pub gone_on : (what : What) (from : ℕ) (p q : PassView) → from ≤ length p.view.log
     → (n : ℕ) (query : Query) (on : Onward) → Reads query.key query.node p.view.log q.view.log on
@@ -174,10 +189,12 @@ all_in_all what from n p queries all i d below =
 
 -- ---- a walk that is broken off
 
-key_among : (queries : List Query) (i : ℕ) (d : Query) → i < length queries → Contains (map key_of queries) (slice_index_or queries i d).key
+key_among : (queries : List Query) (i : ℕ) (d : Query) → i < length queries
+    → Contains (map key_of queries) (slice_index_or queries i d).key
 key_among [] i d below = absurd (omega (arith, below))
 key_among (q ∷ qs) zero d below = (0, omega arith, refl)
-key_among (q ∷ qs) (suc i) d below = let rest = key_among qs i d (omega (arith, below)) in (suc rest.0, (let less = rest.1 in omega (arith, less)), rest.2)
+key_among (q ∷ qs) (suc i) d below = let rest = key_among qs i d (omega (arith, below)) in
+    (suc rest.0, (let less = rest.1 in omega (arith, less)), rest.2)
 
 -- a fact of one query
 pub one_of : (P : Query → Type 0) (q : Query) → P q → All P (q ∷ [])
@@ -188,8 +205,10 @@ one_of P q is (suc i) d below = absurd (omega (arith, below))
 pub given_up : (what : What) (b : TreeView) (old : List Entry) (q : PassView) → IsPinnedIn b q
     → (n : ℕ) (queries : List Query) (keys : List ℕ) → map key_of queries ≡ keys → All (IsUnderWay what 0 n q) queries
     → (i : ℕ) × (i < length queries) × HoldsAt (λ x. x.node ≢ 0) queries i
-    → suc n ≡ reach b.layout → AddsLooks (most_looks (reach b.layout) (length keys)) old q.view.log → GiveUp b.layout keys old q.view.log
-given_up what b old q pinned n queries keys same all (i, below, left) far looks = of (slice_index_or queries i none) (all i none below) (left none) (key_among queries i none below)
+    → suc n ≡ reach b.layout → AddsLooks (most_looks (reach b.layout) (length keys)) old q.view.log
+    → GiveUp b.layout keys old q.view.log
+given_up what b old q pinned n queries keys same all (i, below, left) far looks = of (slice_index_or queries i none)
+    (all i none below) (left none) (key_among queries i none below)
   where
     none : Query
     none = record { key = 0; found = false; value = 0; node = 0 }
@@ -198,18 +217,33 @@ given_up what b old q pinned n queries keys same all (i, below, left) far looks 
         → GiveUp b.layout keys old q.view.log
     of x u some among = by b.layout.radix refl (u.comes some)
       where
-        by : (radix : Bool) → b.layout.radix ≡ radix → HasPassed n q.view.log x.key x.node → GiveUp b.layout keys old q.view.log
-        by false plain passed = (looks, plain, x.key, x.node, n, subst (λ (ks : List ℕ). Contains ks x.key) same among, passed, far ∙ far_of b.layout false plain)
+        by : (radix : Bool) → b.layout.radix ≡ radix → HasPassed n q.view.log x.key x.node
+            → GiveUp b.layout keys old q.view.log
+        by false plain passed = (
+          looks,
+          plain,
+          x.key,
+          x.node,
+          n,
+          subst (λ (ks : List ℕ). Contains ks x.key) same
+              among,
+          passed,
+          far ∙ far_of b.layout false plain,
+        )
         by true radix passed =
             let key = u.is_key in
-            let short = walks_are_short q.view.layout (enough q.view.layout pinned.run.fits) (ap (λ (L : Layout). L.radix) pinned.own.layout ∙ radix) q.view.number q.view.log pinned.run.run.is_part x.key x.node passed.0 passed.1 (omega (arith, key)) passed.2 in
+            let short = walks_are_short q.view.layout (enough q.view.layout pinned.run.fits)
+            (ap (λ (L : Layout). L.radix) pinned.own.layout ∙ radix) q.view.number q.view.log
+            pinned.run.run.is_part x.key x.node passed.0 passed.1 (omega (arith, key)) passed.2 in
             let all = far ∙ far_of b.layout true radix in
             let many = passed.3 in
             absurd (omega (arith, short, all, many))
 
 -- ---- the answers
 
-pub all_were_so : (what : What) (p : PassView) (Was : ℕ → Bool → Type 0) → ((k : ℕ) (answer : Bool) → IsKey k → HasEndedSo p k answer → Was k answer)
+pub all_were_so : (what : What) (p : PassView) (Was : ℕ → Bool → Type 0)
+    → ((k : ℕ) (answer : Bool) → IsKey k → HasEndedSo p k answer → Was k answer)
     → (queries : List Query) → All (IsUnderWay what 0 0 p) queries → All (λ x. x.node ≡ 0) queries
     → All (λ x. Was x.key x.found) queries
-all_were_so what p Was so queries all ended i d below = let u = all i d below in so (slice_index_or queries i d).key (slice_index_or queries i d).found u.is_key (u.ends (ended i d below))
+all_were_so what p Was so queries all ended i d below = let u = all i d below in
+    so (slice_index_or queries i d).key (slice_index_or queries i d).found u.is_key (u.ends (ended i d below))

@@ -13,11 +13,15 @@ use Rattle.nm_walks.specs.Growing.{HasGrown, HasLinkedValue}
 use Rattle.nm_walks.specs.Making.{fills}
 use Rattle.nm_calls.specs.Maps.{HasInserted, answered}
 
-pub inserted : (radix : Bool) (p q : PassView) (k v : ℕ) (r : WalkEnd) (f : NewNodes) → HasGrown radix p q k r f → HasLinkedValue q f.leaf.slot v → HasInserted [] q k v
+pub inserted : (radix : Bool) (p q : PassView) (k v : ℕ) (r : WalkEnd) (f : NewNodes) → HasGrown radix p q k r f
+    → HasLinkedValue q f.leaf.slot v → HasInserted [] q k v
 inserted radix p q k v r f g s =
     let before : List Entry = p.view.log ++ fills f.internal.slot g.part.0.key g.part.0.left g.part.0.right in
     let long : s.own ≡ length (before ++ fills f.leaf.slot k 0 0) =
-    (let whole = ap (λ (l : List Entry). length l) g.part.3 ∙ length-append (before ++ fills f.leaf.slot k 0 0) ((Link r.seek_record.parent r.seek_record.side r.seek_record.edge.slot f.internal.slot, Linked f.internal) ∷ []) in let last = s.last in omega (arith, whole, last)) in
+    (let whole = ap (λ (l : List Entry). length l) g.part.3
+    ∙ length-append (before ++ fills f.leaf.slot k 0 0)
+    ((Link r.seek_record.parent r.seek_record.side r.seek_record.edge.slot f.internal.slot, Linked f.internal)
+    ∷ []) in let last = s.last in omega (arith, whole, last)) in
     record {
       before = before;
       slot = f.leaf.slot;
@@ -29,12 +33,20 @@ inserted radix p q k v r f g s =
       log = g.part.3;
       earlier = s.earlier;
       at = s.at;
-      stores = s.is ∙ ap (λ (n : ℕ). s.earlier ++ record { at = s.at; worker = q.view.number; own = n; slot = f.leaf.slot; value = v } ∷ []) long;
+      stores = s.is ∙ ap (λ (n : ℕ). s.earlier ++ record {
+        at = s.at;
+        worker = q.view.number;
+        own = n;
+        slot =
+            f.leaf.slot;
+        value = v;
+      } ∷ []) long;
       early = s.early;
     }
 
 -- and stays so over the answer
-pub inserted_then : (q z : PassView) (answer : Bool) (k v : ℕ) → HasInserted [] q k v → TakesStep q z (LeaveWith answer) Departed → HasInserted (answered answer) z k v
+pub inserted_then : (q z : PassView) (answer : Bool) (k v : ℕ) → HasInserted [] q k v
+    → TakesStep q z (LeaveWith answer) Departed → HasInserted (answered answer) z k v
 inserted_then q z answer k v s took = record {
   before = s.before;
   slot = s.slot;
@@ -43,13 +55,20 @@ inserted_then q z answer k v s took = record {
   old = s.old;
   new = s.new;
   node = s.node;
-  log = ap (λ (x : PassView). x.view.log) took.step ∙ (ap (λ (l : List Entry). l ++ answered answer) s.log ∙ append_assoc (s.before ++ fills s.slot k 0 0) ((Link s.parent s.side s.old s.new, Linked s.node) ∷ []) (answered answer));
+  log = ap (λ (x : PassView). x.view.log) took.step
+      ∙ (ap (λ (l : List Entry). l ++ answered answer) s.log
+      ∙ append_assoc (s.before ++ fills s.slot k 0 0) ((Link s.parent s.side s.old s.new, Linked s.node) ∷ [])
+      (answered answer));
   earlier = s.earlier;
   at = s.at;
-  stores = took.stores ∙ (s.stores ∙ ap (λ (n : ℕ). s.earlier ++ record { at = s.at; worker = n; own = length (s.before ++ fills s.slot k 0 0); slot = s.slot; value = v } ∷ []) (sym (ap (λ (x : PassView). x.view.number) took.step)));
+  stores = took.stores ∙ (s.stores ∙ ap (λ (n : ℕ). s.earlier
+      ++ record { at = s.at; worker = n; own = length (s.before ++ fills s.slot k 0 0); slot = s.slot; value = v }
+      ∷ []) (sym (ap (λ (x : PassView). x.view.number) took.step)));
   early = (
-      let whole = ap (λ (l : List Turn). length l) took.past.is ∙ length-append took.past.before (answered_turn q.view.number (LeaveWith answer) Departed ∷ []) in
-      let first = ap (λ (l : List Turn). length l) took.past.extends.is ∙ length-append q.view.past took.past.extends.more in
+      let whole = ap (λ (l : List Turn). length l) took.past.is
+      ∙ length-append took.past.before (answered_turn q.view.number (LeaveWith answer) Departed ∷ []) in
+      let first = ap (λ (l : List Turn). length l) took.past.extends.is
+      ∙ length-append q.view.past took.past.extends.more in
       let less = s.early in
       omega (arith, whole, first, less)
       );

@@ -24,7 +24,8 @@ ledgers_then o p q same a b =
     let number : p.view.number ≡ o.view.number = ap (λ (x : PassView). x.view.number) same in
     record {
       others = λ x other. b.others x (λ is. other (is ∙ number)) ∙ a.others x other;
-      freed = subst (λ (n : ℕ). freed_of_origin (knowledge q.view) n ≡ freed_of_origin (knowledge p.view) n) number b.freed ∙ a.freed;
+      freed = subst (λ (n : ℕ). freed_of_origin (knowledge q.view) n ≡ freed_of_origin (knowledge p.view) n) number
+          b.freed ∙ a.freed;
     }
 
 -- and where the pin is left
@@ -38,9 +39,18 @@ left_adds Leave old new leaves is = adds_these _ old new is
 left_adds (LeaveWith answer) old new leaves is = adds_these _ old new is
 left_adds _ old new leaves is = absurd leaves
 
-pub holds_left : (p q : PassView) (h : HeldQueue) (e : Event) → IsLeave e → TakesStep p q e Departed → KeepsHands p q → (epochs p).unlabelled ≡ false → HoldsCuts p h → HoldsCuts q h
-holds_left p q h e leaves took hands labelled is = holds_on p q h (same_by_step p q e Departed took.step) (hands.ledgers labelled) (left_adds e p.view.log q.view.log leaves (ap (λ (s : PassView). s.view.log) took.step)) is
+pub holds_left : (p q : PassView) (h : HeldQueue) (e : Event) → IsLeave e → TakesStep p q e Departed → KeepsHands p q
+    → (epochs p).unlabelled ≡ false → HoldsCuts p h → HoldsCuts q h
+holds_left p q h e leaves took hands labelled is = holds_on p q h (same_by_step p q e Departed took.step)
+    (hands.ledgers labelled) (left_adds e p.view.log q.view.log leaves (ap (λ (s : PassView). s.view.log) took.step)) is
 
 -- and where there is more room
-pub holds_with_room : (p : PassView) (h : HeldQueue) (r : BlockQueue Waiting) → r.items ≡ h.queue.items → HoldsCuts p h → HoldsCuts p (record h { queue = r })
-holds_with_room p h r same is = record { own = is.own; queue = subst (λ (es : List Waiting). IsQueueOf (knowledge p.view) p.view.number es) (sym same) is.queue; counted = is.counted; freed = is.freed }
+pub holds_with_room : (p : PassView) (h : HeldQueue) (r : BlockQueue Waiting) → r.items ≡ h.queue.items
+    → HoldsCuts p h → HoldsCuts p (record h { queue = r })
+holds_with_room p h r same is = record {
+  own = is.own;
+  queue = subst
+      (λ (es : List Waiting). IsQueueOf (knowledge p.view) p.view.number es) (sym same) is.queue;
+  counted = is.counted;
+  freed = is.freed;
+}

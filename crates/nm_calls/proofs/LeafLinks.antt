@@ -96,14 +96,17 @@ pub record WasPutIn (L : Layout) (events : List (ℕ × Event)) (s : ℕ) : Type
   pub won : outcome_in (after_in (ordered L) before) (worker, event) ≡ Ok reply
   pub way : ByLink (of (after_in (ordered L) before).state worker) event reply s ⊎ BySwap event reply s
   pub below : worker < L.workers
-  pub born : (node_at (after_in (ordered L) before).state.memory s).birth ≡ (node_at (after_in (ordered L) events).state.memory s).birth
+  pub born : (node_at (after_in (ordered L) before).state.memory s).birth
+      ≡ (node_at (after_in (ordered L) events).state.memory s).birth
   pub free : NobodyHoldsUntil L events (length before + 1) (length events + 1) s
 
 -- ---- a slot that a turn has put into the tree
 
 null_child : (m : Memory) (s : ℕ) → is_leaf (node m s) ≡ true → (d : Side) → child m s d ≡ 0
-null_child m s leaf Left = eqb-true (node m s).left.slot 0 (and_parts ((node m s).left.slot == 0) ((node m s).right.slot == 0) leaf).0
-null_child m s leaf Right = eqb-true (node m s).right.slot 0 (and_parts ((node m s).left.slot == 0) ((node m s).right.slot == 0) leaf).1
+null_child m s leaf Left = eqb-true (node m s).left.slot 0
+    (and_parts ((node m s).left.slot == 0) ((node m s).right.slot == 0) leaf).0
+null_child m s leaf Right = eqb-true (node m s).right.slot 0
+    (and_parts ((node m s).left.slot == 0) ((node m s).right.slot == 0) leaf).1
 
 -- the turn is a link that finds the edge which it is to exchange
 pub record IsFoundLink (c : Configuration) (t : ℕ × Event) : Type 0 where
@@ -123,7 +126,8 @@ pub record IsFoundSwap (c : Configuration) (t : ℕ × Event) : Type 0 where
   pub is : t.1 ≡ Swap parent side old new
   pub unmarked : edge c.state.memory parent side ≡ to old
 
-module _ (L : Layout) (fits : IsLayout L) (c : Configuration) (t : ℕ × Event) (has : HasKey t.1) (o : IsOrdered L c) (s : ℕ) where
+module _ (L : Layout) (fits : IsLayout L) (c : Configuration) (t : ℕ × Event) (has : HasKey t.1) (o : IsOrdered L c)
+    (s : ℕ) where
   next_ordered : IsOrdered L (next_in c t)
   next_ordered = ordered_next L (enough L fits) c t has o
 
@@ -144,10 +148,13 @@ module _ (L : Layout) (fits : IsLayout L) (c : Configuration) (t : ℕ × Event)
       by (inr e) = on (turn_origin L (enough L fits) c t o e.parent e.reached e.side)
         where
           on : EdgeOrigin c.state t.0 t.1 (next_in c t).state.memory e.parent e.side → WasOrIsPut
-          on (WasThere p d reached leads flag) = inl (subst (Reached c.state.memory) (leads ∙ e.leads) (step_down c.state.memory p d reached (λ z. r.is_slot (sym e.leads ∙ (sym leads ∙ z)))))
+          on (WasThere p d reached leads flag) = inl (subst (Reached c.state.memory) (leads ∙ e.leads)
+              (step_down c.state.memory p d reached (λ z. r.is_slot (sym e.leads ∙ (sym leads ∙ z)))))
           on (IsFlaggedNow leaf is reached unmarked marked) =
-              let same : child c.state.memory e.parent e.side ≡ s = ap (λ (k : Edge). k.slot) unmarked ∙ (sym (ap (λ (k : Edge). k.slot) marked) ∙ e.leads) in
-              inl (subst (Reached c.state.memory) same (step_down c.state.memory e.parent e.side reached (λ z. r.is_slot (sym same ∙ z))))
+              let same : child c.state.memory e.parent e.side ≡ s = ap (λ (k : Edge). k.slot) unmarked
+              ∙ (sym (ap (λ (k : Edge). k.slot) marked) ∙ e.leads) in
+              inl (subst (Reached c.state.memory) same (step_down c.state.memory e.parent e.side reached
+              (λ z. r.is_slot (sym same ∙ z))))
           on (LeadsToNew p d leaf new (inr is) unmarked held flag) =
               inr (
                 ap (is_private (of c.state t.0)) (sym e.leads) ∙ held,
@@ -171,7 +178,8 @@ module _ (L : Layout) (fits : IsLayout L) (c : Configuration) (t : ℕ × Event)
           (subst (λ (d : Configuration). Reached d.state.memory s) (refused_next c t x is) r) t.0))
 
   -- the link is won: it put in a slot that was in hands
-  module _ (r : Reached (next_in c t).state.memory s) (held : is_private (of c.state t.0) s ≡ true) (f : IsFoundLink c t) where
+  module _ (r : Reached (next_in c t).state.memory s) (held : is_private (of c.state t.0) s ≡ true)
+      (f : IsFoundLink c t) where
     abbrev k : Knowledge
     k = of c.state t.0
 
@@ -179,11 +187,13 @@ module _ (L : Layout) (fits : IsLayout L) (c : Configuration) (t : ℕ × Event)
     n = node_linked k f.new
 
     found : is_to (edge c.state.memory f.parent f.side) f.old ≡ true
-    found = ap (λ (e : Edge). is_to e f.old) f.unmarked ∙ ap (λ (b : Bool). b && (not false && not false)) (eq-eqb f.old f.old refl)
+    found = ap (λ (e : Edge). is_to e f.old) f.unmarked
+        ∙ ap (λ (b : Bool). b && (not false && not false)) (eq-eqb f.old f.old refl)
 
     replied : reply_of c.state t.0 (Link f.parent f.side f.old f.new) ≡ Linked n
     unfolding reply
-    replied = ap (λ (b : Bool). cond b (Linked (node_linked k f.new)) (Lost (edge c.state.memory f.parent f.side))) found
+    replied = ap (λ (b : Bool). cond b (Linked (node_linked k f.new)) (Lost (edge c.state.memory f.parent f.side)))
+        found
 
     link_accepted : refused_in c t.0 (Link f.parent f.side f.old f.new) ≡ None
     link_accepted = ap (refused_in c t.0) (sym f.is) ∙ accepted r held
@@ -192,31 +202,40 @@ module _ (L : Layout) (fits : IsLayout L) (c : Configuration) (t : ℕ × Event)
     link_won = allowed_outcome c (t.0, Link f.parent f.side f.old f.new) link_accepted ∙ ap Ok replied
 
     link_allowed : Allowed c.state t.0 (Link f.parent f.side f.old f.new)
-    link_allowed = allowed c.state t.0 (Link f.parent f.side f.old f.new) (allowed_by_state c t.0 (Link f.parent f.side f.old f.new) link_accepted)
+    link_allowed = allowed c.state t.0 (Link f.parent f.side f.old f.new)
+        (allowed_by_state c t.0 (Link f.parent f.side f.old f.new) link_accepted)
 
     -- what the worker has in hands after it
     left : of (next_in c t).state t.0 ≡ learn t.0 k (Link f.parent f.side f.old f.new) (Linked n)
     unfolding applied_in
     left =
         ap (λ (e : Event). of (next_in c (t.0, e)).state t.0) f.is
-        ∙ (ap (λ (d : Configuration). of d.state t.0) (allowed_next c (t.0, Link f.parent f.side f.old f.new) link_accepted)
-        ∙ (partaking c.state (law_of_state L (enough L fits) c o).1.staffed t.0 t.0 (Link f.parent f.side f.old f.new) link_allowed (ap (λ (b : Bool). b || is_leaver t.0 (Link f.parent f.side f.old f.new)) (eq-eqb t.0 t.0 refl))
+        ∙ (ap (λ (d : Configuration). of d.state t.0)
+        (allowed_next c (t.0, Link f.parent f.side f.old f.new) link_accepted)
+        ∙ (partaking c.state (law_of_state L (enough L fits) c o).1.staffed t.0 t.0
+        (Link f.parent f.side f.old f.new) link_allowed
+        (ap (λ (b : Bool). b || is_leaver t.0 (Link f.parent f.side f.old f.new)) (eq-eqb t.0 t.0 refl))
         ∙ ap (learn t.0 k (Link f.parent f.side f.old f.new)) replied))
 
     let_go : is_some (get (without (without k.drafts f.new) (new_leaf k f.old f.new)) s) ≡ false
-    let_go = sym (ap (λ (x : Knowledge). is_private x s) (left ∙ learn_linked t.0 k f.parent f.side f.old f.new n)) ∙ reached_unheld L (enough L fits) (next_in c t) next_ordered s r t.0
+    let_go = sym (ap (λ (x : Knowledge). is_private x s) (left ∙ learn_linked t.0 k f.parent f.side f.old f.new n))
+        ∙ reached_unheld L (enough L fits) (next_in c t) next_ordered s r t.0
 
     -- so the slot is the new leaf or the new node
     new_or_leaf : (s ≡ new_leaf k f.old f.new) ⊎ (s ≡ f.new)
     new_or_leaf = go (s == new_leaf k f.old f.new) refl (s == f.new) refl
       where
-        drafts : (s == new_leaf k f.old f.new) ≡ false → (s == f.new) ≡ false → get (without (without k.drafts f.new) (new_leaf k f.old f.new)) s ≡ get k.drafts s
+        drafts : (s == new_leaf k f.old f.new) ≡ false → (s == f.new) ≡ false
+            → get (without (without k.drafts f.new) (new_leaf k f.old f.new)) s ≡ get k.drafts s
         drafts p q =
-            get-without (without k.drafts f.new) (new_leaf k f.old f.new) s (ascends-without k.drafts f.new ((law_of_state L (enough L fits) c o).1.drafts t.0))
+            get-without (without k.drafts f.new) (new_leaf k f.old f.new) s
+            (ascends-without k.drafts f.new ((law_of_state L (enough L fits) c o).1.drafts t.0))
             ∙ ((λ i. cond (p i) None (get (without k.drafts f.new) s))
-            ∙ (get-without k.drafts f.new s ((law_of_state L (enough L fits) c o).1.drafts t.0) ∙ (λ i. cond (q i) None (get k.drafts s))))
+            ∙ (get-without k.drafts f.new s ((law_of_state L (enough L fits) c o).1.drafts t.0)
+            ∙ (λ i. cond (q i) None (get k.drafts s))))
 
-        go : (a : Bool) → (s == new_leaf k f.old f.new) ≡ a → (b : Bool) → (s == f.new) ≡ b → (s ≡ new_leaf k f.old f.new) ⊎ (s ≡ f.new)
+        go : (a : Bool) → (s == new_leaf k f.old f.new) ≡ a → (b : Bool) → (s == f.new) ≡ b
+            → (s ≡ new_leaf k f.old f.new) ⊎ (s ≡ f.new)
         go true p b q = inl (eqb-true s (new_leaf k f.old f.new) p)
         go false p true q = inr (eqb-true s f.new q)
         go false p false q = absurd (true≢false (sym held ∙ (sym (ap is_some (drafts p q)) ∙ let_go)))
@@ -286,21 +305,29 @@ fixed_path L (Left ∷ Left ∷ []) = omega arith
 fixed_path L (Left ∷ Right ∷ []) = omega arith
 fixed_path L (Right ∷ Left ∷ q) = let none = follow_none (child (opening L)) (null_start L) q in omega (arith, none)
 fixed_path L (Right ∷ Right ∷ q) = let none = follow_none (child (opening L)) (null_start L) q in omega (arith, none)
-fixed_path L (Left ∷ Left ∷ Left ∷ q) = let none = follow_none (child (opening L)) (null_start L) q in omega (arith, none)
-fixed_path L (Left ∷ Left ∷ Right ∷ q) = let none = follow_none (child (opening L)) (null_start L) q in omega (arith, none)
-fixed_path L (Left ∷ Right ∷ Left ∷ q) = let none = follow_none (child (opening L)) (null_start L) q in omega (arith, none)
-fixed_path L (Left ∷ Right ∷ Right ∷ q) = let none = follow_none (child (opening L)) (null_start L) q in omega (arith, none)
+fixed_path L (Left ∷ Left ∷ Left ∷ q) = let none = follow_none (child (opening L)) (null_start L) q in
+    omega (arith, none)
+fixed_path L (Left ∷ Left ∷ Right ∷ q) = let none = follow_none (child (opening L)) (null_start L) q in
+    omega (arith, none)
+fixed_path L (Left ∷ Right ∷ Left ∷ q) = let none = follow_none (child (opening L)) (null_start L) q in
+    omega (arith, none)
+fixed_path L (Left ∷ Right ∷ Right ∷ q) = let none = follow_none (child (opening L)) (null_start L) q in
+    omega (arith, none)
 
 -- ---- the events of a run
 
 -- a slot is in nobody's hands at the last moment of a run
-none_at_end : (L : Layout) (before : List (ℕ × Event)) (t : ℕ × Event) (s : ℕ) → ((w : ℕ) → is_private (of (after_in (ordered L) (before ++ t ∷ [])).state w) s ≡ false)
+none_at_end : (L : Layout) (before : List (ℕ × Event)) (t : ℕ × Event) (s : ℕ)
+    → ((w : ℕ) → is_private (of (after_in (ordered L) (before ++ t ∷ [])).state w) s ≡ false)
     → NobodyHoldsUntil L (before ++ t ∷ []) (length before + 1) (length (before ++ t ∷ []) + 1) s
 none_at_end L before t s free now since is least most w =
     let long = length-append before (t ∷ []) in
-    let part = begins_with (before ++ t ∷ []) [] now since (append-nil (before ++ t ∷ []) ∙ is) (omega (arith, least, long)) in
+    let part = begins_with (before ++ t ∷ []) [] now since (append-nil (before ++ t ∷ []) ∙ is)
+    (omega (arith, least, long)) in
     let long' = ap (λ (l : List (ℕ × Event)). length l) part.1 ∙ length-append (before ++ t ∷ []) part.0 in
-    ap (λ (ts : List (ℕ × Event)). is_private (of (after_in (ordered L) ts).state w) s) (part.1 ∙ (ap (λ (ts : List (ℕ × Event)). (before ++ t ∷ []) ++ ts) (none part.0 (omega (arith, long, long', most))) ∙ append-nil (before ++ t ∷ [])))
+    ap (λ (ts : List (ℕ × Event)). is_private (of (after_in (ordered L) ts).state w) s)
+    (part.1 ∙ (ap (λ (ts : List (ℕ × Event)). (before ++ t ∷ []) ++ ts)
+    (none part.0 (omega (arith, long, long', most))) ∙ append-nil (before ++ t ∷ [])))
     ∙ free w
   where
     none : (ts : List (ℕ × Event)) → length ts ≡ 0 → ts ≡ []
@@ -308,16 +335,20 @@ none_at_end L before t s free now since is least most w =
     none (x ∷ xs) is = absurd (omega (arith, is))
 
 -- a moment more
-free_longer : (L : Layout) (events : List (ℕ × Event)) (t : ℕ × Event) (m s : ℕ) → NobodyHoldsUntil L events m (length events + 1) s → ((w : ℕ) → is_private (of (after_in (ordered L) (events ++ t ∷ [])).state w) s ≡ false)
+free_longer : (L : Layout) (events : List (ℕ × Event)) (t : ℕ × Event) (m s : ℕ)
+    → NobodyHoldsUntil L events m (length events + 1) s
+    → ((w : ℕ) → is_private (of (after_in (ordered L) (events ++ t ∷ [])).state w) s ≡ false)
     → NobodyHoldsUntil L (events ++ t ∷ []) m (length (events ++ t ∷ []) + 1) s
 free_longer L events t m s free last now since is least most w = by (cases_lt (length events) (length now))
   where
     long : length (events ++ t ∷ []) ≡ length events + 1
     long = length-append events (t ∷ [])
 
-    by : (length events < length now) ⊎ (length now ≤ length events) → is_private (of (after_in (ordered L) now).state w) s ≡ false
+    by : (length events < length now) ⊎ (length now ≤ length events)
+        → is_private (of (after_in (ordered L) now).state w) s ≡ false
     by (inl late) = none_at_end L events t s last now since is (omega (arith, late)) most w
-    by (inr early) = let part = begins_with now since events (t ∷ []) (sym is) early in free now part.0 part.1 least (omega (arith, early)) w
+    by (inr early) = let part = begins_with now since events (t ∷ []) (sym is) early in
+        free now part.0 part.1 least (omega (arith, early)) w
 
 module _ (L : Layout) (fits : IsLayout L) where
   abbrev memory_after : List (ℕ × Event) → Memory
@@ -341,15 +372,18 @@ module _ (L : Layout) (fits : IsLayout L) where
     unfolding after_in
     now_is = after_in-append (ordered L) before (t ∷ [])
 
-    unheld : (s : ℕ) → Reached (memory_after (before ++ t ∷ [])) s → (w : ℕ) → is_private (of (after_in (ordered L) (before ++ t ∷ [])).state w) s ≡ false
-    unheld s r w = reached_unheld L (enough L fits) (after_in (ordered L) (before ++ t ∷ [])) (each_ordered L (enough L fits) (before ++ t ∷ []) keys) s r w
+    unheld : (s : ℕ) → Reached (memory_after (before ++ t ∷ [])) s → (w : ℕ)
+        → is_private (of (after_in (ordered L) (before ++ t ∷ [])).state w) s ≡ false
+    unheld s r w = reached_unheld L (enough L fits) (after_in (ordered L) (before ++ t ∷ []))
+        (each_ordered L (enough L fits) (before ++ t ∷ []) keys) s r w
 
     module _ (s : ℕ) (is : IsUserLeaf (memory_after (before ++ t ∷ [])) s) where
       r : Reached (next_in c t).state.memory s
       r = subst (λ (d : Configuration). Reached d.state.memory s) now_is is.reached
 
       lasts : Reached c.state.memory s → lasting (memory_after (before ++ t ∷ [])) s ≡ lasting c.state.memory s
-      lasts was = ap (λ (d : Configuration). lasting d.state.memory s) now_is ∙ turn_lasts L (enough L fits) c t has o s was
+      lasts was = ap (λ (d : Configuration). lasting d.state.memory s) now_is
+          ∙ turn_lasts L (enough L fits) c t has o s was
 
       -- it was one before
       was_leaf : Reached c.state.memory s → IsUserLeaf c.state.memory s
@@ -423,14 +457,27 @@ module _ (L : Layout) (fits : IsLayout L) where
         won = link_won L fits c t has o s r held f
 
         abbrev side_of_leaf : Side
-        side_of_leaf = other (link L fits before first t.0 f.parent f.side f.old f.new (node_linked (of c.state t.0) f.new) won).drafts.side
+        side_of_leaf = other (link L fits before first t.0 f.parent f.side f.old f.new
+            (node_linked (of c.state t.0) f.new) won).drafts.side
 
         abbrev turn : Turn
-        turn = record { worker = t.0; event = Link f.parent f.side f.old f.new; outcome = Ok (Linked (node_linked (of c.state t.0) f.new)) }
+        turn = record {
+          worker = t.0;
+          event = Link f.parent f.side f.old f.new;
+          outcome = Ok
+              (Linked (node_linked (of c.state t.0) f.new));
+        }
 
         turns_are : trace_in (ordered L) (before ++ t ∷ []) ≡ trace_in (ordered L) before ++ turn ∷ []
         unfolding trace_in
-        turns_are = trace_in-append (ordered L) before (t ∷ []) ∙ (λ i. trace_in (ordered L) before ++ record { worker = t.0; event = f.is i; outcome = outcome_in c (t.0, f.is i) } ∷ []) ∙ (λ i. trace_in (ordered L) before ++ record { worker = t.0; event = Link f.parent f.side f.old f.new; outcome = won i } ∷ [])
+        turns_are = trace_in-append (ordered L) before (t ∷ [])
+            ∙ (λ i. trace_in (ordered L) before ++ record {
+              worker = t.0;
+              event = f.is i;
+              outcome = outcome_in c
+                  (t.0, f.is i);
+            } ∷ []) ∙ (λ i. trace_in (ordered L) before
+            ++ record { worker = t.0; event = Link f.parent f.side f.old f.new; outcome = won i } ∷ [])
 
         linked_memory : memory_after (before ++ t ∷ []) ≡ put_edge c.state.memory f.parent f.side (to f.new)
         linked_memory = sym (run_words L fits true (before ++ t ∷ []))
@@ -440,8 +487,10 @@ module _ (L : Layout) (fits : IsLayout L) where
         -- the new node is no leaf
         no_leaf : s ≡ f.new → ⊥
         no_leaf same =
-            let leads = new_leads_to_far L fits before first t.0 f.parent f.side f.old f.new (node_linked (of c.state t.0) f.new) won in
-            let high = far_is_high L fits before first t.0 f.parent f.side f.old f.new (node_linked (of c.state t.0) f.new) won in
+            let leads = new_leads_to_far L fits before first t.0 f.parent f.side f.old f.new
+            (node_linked (of c.state t.0) f.new) won in
+            let high = far_is_high L fits before first t.0 f.parent f.side f.old f.new
+            (node_linked (of c.state t.0) f.new) won in
             let null = null_child (memory_after (before ++ t ∷ [])) s is.leaf side_of_leaf in
             let led : child (memory_after (before ++ t ∷ [])) s side_of_leaf ≡ child
             (put_edge c.state.memory f.parent f.side (to f.new)) f.new side_of_leaf = λ i. child (linked_memory i)
@@ -494,7 +543,8 @@ module _ (L : Layout) (fits : IsLayout L) where
       (known s (subst (λ (ts : List (ℕ × Event)). IsUserLeaf (memory_after ts) s) (append-nil before) is))
   from_there before (t ∷ ts) keys s known is =
       let whole : (before ++ t ∷ []) ++ ts ≡ before ++ t ∷ ts = append_assoc before (t ∷ []) ts in
-      let keys' : All (λ t. HasKey t.1) ((before ++ t ∷ []) ++ ts) = subst (λ (l : List (ℕ × Event)). All (λ t. HasKey t.1) l) (sym whole) keys in
+      let keys' : All (λ t. HasKey t.1) ((before ++ t ∷ []) ++ ts) = subst
+      (λ (l : List (ℕ × Event)). All (λ t. HasKey t.1) l) (sym whole) keys in
       subst (λ (l : List (ℕ × Event)). WasPutIn L l s) whole
       (from_there (before ++ t ∷ []) ts keys' s
       (λ x there. put_then before t (first_keys (before ++ t ∷ []) ts keys') x there (known x))
@@ -509,5 +559,7 @@ module _ (L : Layout) (fits : IsLayout L) where
       nothing x there = by there.high
         where
           by : (6 ≤ x) ⊎ IsKey (node (opening L) x).key → WasPutIn L [] x
-          by (inl high) = let low = fixed_path L there.reached.path in let ends = there.reached.ends in absurd (omega (arith, high, low, ends))
-          by (inr is_key) = absurd (empty_first L (node (opening L) x).key is_key (record { slot = x; reached = there.reached; leaf = there.leaf; has_key = refl }))
+          by (inl high) = let low = fixed_path L there.reached.path in let ends = there.reached.ends in
+              absurd (omega (arith, high, low, ends))
+          by (inr is_key) = absurd (empty_first L (node (opening L) x).key is_key
+              (record { slot = x; reached = there.reached; leaf = there.leaf; has_key = refl }))

@@ -22,7 +22,8 @@ use Rattle.nm_walks.specs.Telling.{Tells, IsPinnedSomewhere}
 
 -- ---- what a pin for a call tells
 
-module _ (p : PassView) (epoch : ℕ) (op : Op) (key : ℕ) (at : IsPinnedAt epoch (Some (record { op = op; key = key })) p) where
+module _ (p : PassView) (epoch : ℕ) (op : Op) (key : ℕ)
+    (at : IsPinnedAt epoch (Some (record { op = op; key = key })) p) where
   pub is_pinned : IsPinnedSomewhere p
   is_pinned = (epoch, at.pin)
 
@@ -34,15 +35,26 @@ module _ (p : PassView) (epoch : ℕ) (op : Op) (key : ℕ) (at : IsPinnedAt epo
 
 -- ---- answers
 
-pub shows_found : (p : PassView) (k v leaf parent : ℕ) (side : Side) (present : Bool) → Tells p (CallIs Has k) → Tells p (EndedAt ThePin k leaf parent side v) → present ≡ (v == k) → IsItsAnswer p present
+pub shows_found : (p : PassView) (k v leaf parent : ℕ) (side : Side) (present : Bool) → Tells p (CallIs Has k)
+    → Tells p (EndedAt ThePin k leaf parent side v) → present ≡ (v == k) → IsItsAnswer p present
 shows_found p k v leaf parent side present call ended is = (Has, k, call, by present is)
   where
     by : (b : Bool) → b ≡ (v == k) → ShowsAnswer p Has k b
-    by true is = (leaf, (parent, side, subst (λ (n : ℕ). Tells p (EndedAt ThePin k leaf parent side n)) (eqb-true v k (sym is)) ended))
+    by true is = (
+      leaf,
+      (
+        parent,
+        side,
+        subst (λ (n : ℕ). Tells p (EndedAt ThePin k leaf parent side n))
+            (eqb-true v k (sym is)) ended,
+      ),
+    )
     by false is = (leaf, v, eqb-false v k (sym is), (parent, side, ended))
 
 -- ---- all walks broken off
 
-pub missed : (L : Layout) (tries k : ℕ) (old a z new : List Entry) (epoch : ℕ) → tries ≢ 0 → IsPinnedBy (SightFor Has k) tries old a epoch → LostWalks L k tries a z → new ≡ z ++ (Leave, Departed) ∷ [] → HasMissed L tries k old new
+pub missed : (L : Layout) (tries k : ℕ) (old a z new : List Entry) (epoch : ℕ) → tries ≢ 0
+    → IsPinnedBy (SightFor Has k) tries old a epoch → LostWalks L k tries a z → new ≡ z ++ (Leave, Departed) ∷ []
+    → HasMissed L tries k old new
 missed L zero k old a z new epoch some pin lost leaves = absurd (some refl)
 missed L (suc t) k old a z new epoch some pin lost leaves = inr (a, z, epoch, pin, lost, leaves)

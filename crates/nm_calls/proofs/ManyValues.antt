@@ -64,7 +64,12 @@ module _ (p q : PassView) (log : q.view.log ≡ p.view.log) (n : ℕ) where
 
   module _ (stays : (k v : ℕ) → IsKey k → HasReadLater n p k v → HasReadLater n q k v) where
     answer_still : (x : Query) → HasAnswer n p x → HasAnswer n q x
-    answer_still x a = record { is_key = a.is_key; ends = so_still x.key x.found a.ends; read = λ found. stays x.key x.value a.is_key (a.read found) }
+    answer_still x a = record {
+      is_key = a.is_key;
+      ends = so_still x.key x.found a.ends;
+      read = λ found. stays x.key
+          x.value a.is_key (a.read found);
+    }
 
     pub read_more : (xs : List Query) (i : ℕ) → i < length xs → (x : Query) → HasAnswer n q x
         → AllWithin (HasAnswer n p) xs 0 i → AllWithin (HasAnswer n q) (set xs i x) 0 (i + 1)

@@ -67,13 +67,21 @@ drop-past {A = A} xs ys = drop-append-le (length xs) xs ys (omega arith)
     ∙ ap (λ (l : List A). l ++ ys) (drop_all (length xs) xs (omega arith))
 
 -- a walk ends at the leaf that it has read
-pub ends_at : (p q : PassView) (n k x : ℕ) (on : Onward) → Reads k x p.view.log q.view.log on → (c : HasPassed n p.view.log k x) → on.next.slot ≡ 0 → WalkEnds k (since_pin [] q.view.log) x c.0 c.1 on.found
-ends_at p q n k x on r c null = record { looks = c.2.looks; leads = c.2.leads; null = on.next; is_null = null; is_part = looks_longer p.view.log q.view.log k x on r c.2.looks c.2.is_part }
+pub ends_at : (p q : PassView) (n k x : ℕ) (on : Onward) → Reads k x p.view.log q.view.log on
+    → (c : HasPassed n p.view.log k x) → on.next.slot ≡ 0 → WalkEnds k (since_pin [] q.view.log) x c.0 c.1 on.found
+ends_at p q n k x on r c null = record {
+  looks = c.2.looks;
+  leads = c.2.leads;
+  null = on.next;
+  is_null = null;
+  is_part = looks_longer p.view.log q.view.log k x on r c.2.looks c.2.is_part;
+}
 
 -- ---- stores that are seen later
 
 -- the same stores, after more turns
-pub holds_longer : (L : Layout) (was now later : List Turn) (stores : List Stored) → Extends later now → HoldsStores L was now stores → HoldsStores L was later stores
+pub holds_longer : (L : Layout) (was now later : List Turn) (stores : List Stored) → Extends later now
+    → HoldsStores L was now stores → HoldsStores L was later stores
 holds_longer L was now later stores more s = record {
   until = s.until;
   from = s.from;
@@ -84,14 +92,20 @@ holds_longer L was now later stores more s = record {
   order = s.order;
 }
 
-stored_longer : (answer : Option ℕ) (L : Layout) (was now later : List Turn) (stores : List Stored) → Extends later now → IfSome answer (λ v. HoldsStores L was now stores) → IfSome answer (λ v. HoldsStores L was later stores)
+stored_longer : (answer : Option ℕ) (L : Layout) (was now later : List Turn) (stores : List Stored)
+    → Extends later now → IfSome answer (λ v. HoldsStores L was now stores)
+    → IfSome answer (λ v. HoldsStores L was later stores)
 stored_longer None L was now later stores more s = tt
 stored_longer (Some v) L was now later stores more s = holds_longer L was now later stores more s
 
 -- ---- where nobody has had the leaf in hands, by events
 
-module _ (L : Layout) (fits : IsLayout L) (turns : List (ℕ × Event)) (keys : All (λ t. HasKey t.1) turns) (w slot : ℕ) (high : 6 ≤ slot) (within : slot ≤ L.nodes)
-    (before since : List (ℕ × Event)) (is_run : turns ≡ before ++ since) (pinned : IsPinned w (trace_in (ordered L) before)) (stays : HasLeft w (trace_in (after_in (ordered L) before) since) → ⊥) (reached : Reached (words_after L (trace_in (ordered L) before)) slot) where
+module _ (L : Layout) (fits : IsLayout L) (turns : List (ℕ × Event)) (keys : All (λ t. HasKey t.1) turns)
+    (w slot : ℕ) (high : 6 ≤ slot) (within : slot ≤ L.nodes)
+    (before since : List (ℕ × Event)) (is_run : turns ≡ before ++ since)
+    (pinned : IsPinned w (trace_in (ordered L) before))
+    (stays : HasLeft w (trace_in (after_in (ordered L) before) since) → ⊥)
+    (reached : Reached (words_after L (trace_in (ordered L) before)) slot) where
   abbrev first : List Turn
   first = trace_in (ordered L) before
 
@@ -105,12 +119,17 @@ module _ (L : Layout) (fits : IsLayout L) (turns : List (ℕ × Event)) (keys : 
   nobody_holds now later is le v =
       let long = length_trace (ordered L) before in
       let mid = begins_with before since now later (sym is_run ∙ is) (omega (arith, le, long)) in
-      let after : since ≡ mid.0 ++ later = append_cancel_left before since (mid.0 ++ later) (sym is_run ∙ (is ∙ (ap (λ (l : List (ℕ × Event)). l ++ later) mid.1 ∙ append_assoc before mid.0 later))) in
+      let after : since ≡ mid.0 ++ later = append_cancel_left before since (mid.0 ++ later)
+      (sym is_run ∙ (is ∙ (ap (λ (l : List (ℕ × Event)). l ++ later) mid.1 ∙ append_assoc before mid.0 later))) in
       let turns_mid : List Turn = trace_in (after_in (ordered L) before) mid.0 in
-      let held = unheld L (trace_in (ordered L) turns) (each_run_has_it L fits true turns keys) w slot high within first rest whole pinned stays reached turns_mid (trace_in (after_in (after_in (ordered L) before) mid.0) later)
-      (ap (trace_in (after_in (ordered L) before)) after ∙ trace_in-append (after_in (ordered L) before) mid.0 later) v in
+      let held = unheld L (trace_in (ordered L) turns) (each_run_has_it L fits true turns keys) w slot high within
+      first rest whole pinned stays reached turns_mid
+      (trace_in (after_in (after_in (ordered L) before) mid.0) later)
+      (ap (trace_in (after_in (ordered L) before)) after ∙ trace_in-append (after_in (ordered L) before) mid.0 later)
+      v in
       sym (run_hands v slot L fits true now)
-      ∙ (ap (has_after (opening L) v slot false) (ap (trace_in (ordered L)) mid.1 ∙ trace_in-append (ordered L) before mid.0) ∙ held)
+      ∙ (ap (has_after (opening L) v slot false) (ap (trace_in (ordered L)) mid.1
+      ∙ trace_in-append (ordered L) before mid.0) ∙ held)
 
 -- ---- the moment of a value that was read, under the pin that the worker still has
 
@@ -147,7 +166,8 @@ module _ (m : PassView) (fits : IsLayout m.view.layout) (k : ℕ) (is_key : IsKe
     parts_are = seen.are ∙ (ap (trace_in (ordered L)) is_run ∙ trace_in-append (ordered L) before since)
 
     pub pinned_at : HasPin (after_in (ordered L) before) w → IsPinned w (trace_in (ordered L) before)
-    pinned_at pinned = pinned_by_turns w (trace_in (ordered L) before) (subst (λ (p : Option ℕ). IsSome p) (sym pinned.1 ∙ pin_is L fits true before w) refl)
+    pinned_at pinned = pinned_by_turns w (trace_in (ordered L) before)
+        (subst (λ (p : Option ℕ). IsSome p) (sym pinned.1 ∙ pin_is L fits true before w) refl)
 
   -- a walk, in the run that the pass has seen: what it looked at after the turns that an earlier pass
   -- had seen
@@ -321,11 +341,18 @@ module _ (o m : PassView) (first_seen : HasSeen o.view) (fits : IsLayout m.view.
     where
       none_there : {turns : List Turn} → Gives (InSet (words_after m.view.layout turns)) Has k false → (v : ℕ)
           → IsInMap m.view.layout turns m.view.stores k v → ⊥
-      none_there gives v in_map = gives (record { slot = in_map.slot; reached = in_map.reached; leaf = in_map.leaf; has_key = in_map.has_key })
+      none_there gives v in_map = gives (record {
+        slot = in_map.slot;
+        reached = in_map.reached;
+        leaf = in_map.leaf;
+        has_key = in_map.has_key;
+      })
 
 -- ---- it is later than an earlier moment at which the worker was not pinned
 
-module _ (o m : PassView) (first_seen : HasSeen o.view) (first_fits : IsLayout o.view.layout) (unpinned : (epochs o).pin ≡ None) (same : IsSamePass o m) (past : HasSeenAllOf m o) (k : ℕ) (is_key : IsKey k) where
+module _ (o m : PassView) (first_seen : HasSeen o.view) (first_fits : IsLayout o.view.layout)
+    (unpinned : (epochs o).pin ≡ None) (same : IsSamePass o m) (past : HasSeenAllOf m o) (k : ℕ)
+    (is_key : IsKey k) where
   pub fits_later : IsLayout m.view.layout
   fits_later = subst (λ (s : PassView). IsLayout s.view.layout) (sym same) first_fits
 
@@ -335,14 +362,18 @@ module _ (o m : PassView) (first_seen : HasSeen o.view) (first_fits : IsLayout o
   abbrev more : List (ℕ × Event)
   more = events_of past.goes_on.more
 
-  unpinned_then : (known_by m.view.layout m.view.number (part_of m.view.number (trace_in (ordered m.view.layout) earlier))).brief.pin ≡ None
+  unpinned_then : (known_by m.view.layout m.view.number
+      (part_of m.view.number (trace_in (ordered m.view.layout) earlier))).brief.pin ≡ None
   unpinned_then =
-      subst (λ (s : PassView). (known_by s.view.layout s.view.number (part_of s.view.number (trace_in (ordered s.view.layout) earlier))).brief.pin ≡ None) (sym same)
-      (subst (λ (l : List Entry). (known_by o.view.layout o.view.number l).brief.pin ≡ None) (sym (as_events o.view first_seen).is_part) unpinned)
+      subst (λ (s : PassView). (known_by s.view.layout s.view.number
+      (part_of s.view.number (trace_in (ordered s.view.layout) earlier))).brief.pin ≡ None) (sym same)
+      (subst (λ (l : List Entry). (known_by o.view.layout o.view.number l).brief.pin ≡ None)
+      (sym (as_events o.view first_seen).is_part) unpinned)
 
   module _ (v : ℕ) (r : HasReadValue m k v) where
     grown : r.seen.run.events ≡ earlier ++ more
-    grown = sym (ap events_of r.seen.run.are ∙ events_of_trace (ordered m.view.layout) r.seen.run.events) ∙ events_go_on m.view.past o.view.past past.goes_on
+    grown = sym (ap events_of r.seen.run.are ∙ events_of_trace (ordered m.view.layout) r.seen.run.events)
+        ∙ events_go_on m.view.past o.view.past past.goes_on
 
     abbrev at : ReadAt m [] r.seen.run.events k v r.slot
     at = read_in_run m fits_later k is_key v r
@@ -361,7 +392,10 @@ module _ (o m : PassView) (first_seen : HasSeen o.view) (first_fits : IsLayout o
 -- ---- the moment of a value that was read, in its call
 
 -- a moment of the map stays, by the same stores
-pub mapped_later : (was : List Turn) (m q : PassView) → IsSamePass m q → Extends q.view.past m.view.past → (stores : List Stored) (k : ℕ) (answer : Option ℕ) → WasMapped m.view.layout was m.view.past stores m.view.number k answer → WasMapped q.view.layout was q.view.past stores q.view.number k answer
+pub mapped_later : (was : List Turn) (m q : PassView) → IsSamePass m q → Extends q.view.past m.view.past
+    → (stores : List Stored) (k : ℕ) (answer : Option ℕ)
+    → WasMapped m.view.layout was m.view.past stores m.view.number k answer
+    → WasMapped q.view.layout was q.view.past stores q.view.number k answer
 mapped_later was m q same more stores k answer so =
     subst (λ (s : PassView). WasMapped s.view.layout was q.view.past stores s.view.number k answer) (sym same) (record {
       so_far = so.so_far;
@@ -374,12 +408,16 @@ mapped_later was m q same more stores k answer so =
     })
 
 -- a step leaves it as it was
-pub mapped_longer : (was : List Turn) (m q : PassView) (e : Event) (r : Reply) → TakesStep m q e r → (k : ℕ) (answer : Option ℕ) → WasMapped m.view.layout was m.view.past m.view.stores m.view.number k answer → WasMapped q.view.layout was q.view.past q.view.stores q.view.number k answer
+pub mapped_longer : (was : List Turn) (m q : PassView) (e : Event) (r : Reply) → TakesStep m q e r
+    → (k : ℕ) (answer : Option ℕ) → WasMapped m.view.layout was m.view.past m.view.stores m.view.number k answer
+    → WasMapped q.view.layout was q.view.past q.view.stores q.view.number k answer
 mapped_longer was m q e r step k answer so =
     subst (λ (st : List Stored). WasMapped q.view.layout was q.view.past st q.view.number k answer) (sym step.stores)
-    (mapped_later was m q (same_by_step m q e r step.step) (seen_by_turn m q e r step.past).goes_on m.view.stores k answer so)
+    (mapped_later was m q (same_by_step m q e r step.step) (seen_by_turn m q e r step.past).goes_on m.view.stores k
+    answer so)
 
-module _ (o a m : PassView) (first_seen : HasSeen o.view) (first_fits : IsLayout o.view.layout) (unpinned : (epochs o).pin ≡ None) (pinning : Continues o a) (walked : GoesOn a m) (k : ℕ) (is_key : IsKey k) where
+module _ (o a m : PassView) (first_seen : HasSeen o.view) (first_fits : IsLayout o.view.layout)
+    (unpinned : (epochs o).pin ≡ None) (pinning : Continues o a) (walked : GoesOn a m) (k : ℕ) (is_key : IsKey k) where
   same : IsSamePass o m
   same = same_then o a m pinning.same walked.same
 
@@ -389,7 +427,8 @@ module _ (o a m : PassView) (first_seen : HasSeen o.view) (first_fits : IsLayout
   abbrev fits : IsLayout m.view.layout
   fits = fits_later o m first_seen first_fits unpinned same past k is_key
 
-  pub value_was : (v : ℕ) → HasReadValue m k v → WasMapped m.view.layout o.view.past m.view.past m.view.stores m.view.number k (Some v)
+  pub value_was : (v : ℕ) → HasReadValue m k v → WasMapped m.view.layout o.view.past m.view.past m.view.stores
+      m.view.number k (Some v)
   value_was v r = record {
     so_far = trace_in (ordered m.view.layout) at.before;
     rest = trace_in (after_in (ordered m.view.layout) at.before) at.since;
@@ -417,7 +456,12 @@ module _ (o a m : PassView) (first_seen : HasSeen o.view) (first_fits : IsLayout
         are = so.are;
         later = so.later;
         pinned = so.pinned;
-        gives = λ v in_map. so.gives (record { slot = in_map.slot; reached = in_map.reached; leaf = in_map.leaf; has_key = in_map.has_key });
+        gives = λ v in_map. so.gives (record {
+          slot = in_map.slot;
+          reached = in_map.reached;
+          leaf = in_map.leaf;
+          has_key = in_map.has_key;
+        });
         stored = tt;
       }
   was_mapped q leaves seen n (Some v) r =
@@ -426,7 +470,8 @@ module _ (o a m : PassView) (first_seen : HasSeen o.view) (first_fits : IsLayout
 -- ---- the whole call
 
 -- each try of the pin was lost
-pub get_without_pin : (L : Layout) (tries k : ℕ) (o a : PassView) → tries ≢ 0 → Continues o a → IsMoved Sight tries o.view.log a.view.log → IsResting a → KeepsHands o a → AfterGet L tries k o a (Err fault.Busy)
+pub get_without_pin : (L : Layout) (tries k : ℕ) (o a : PassView) → tries ≢ 0 → Continues o a
+    → IsMoved Sight tries o.view.log a.view.log → IsResting a → KeepsHands o a → AfterGet L tries k o a (Err fault.Busy)
 get_without_pin L tries k o a some pinning moved rests kept =
     let added = plain_moved_adds tries o.view.log a.view.log moved in
     record {
@@ -449,18 +494,33 @@ pub get_after_walk : (L : Layout) (tries k epoch : ℕ) (o a p q : PassView) (r 
     → Continues o a → IsPinnedBy Sight tries o.view.log a.view.log epoch → KeepsHands o a
     → GoesOn a p → OnlyLooks a p → AddsLooks (most_looks (reach L) 1) a.view.log p.view.log
     → TakesStep p q Leave Departed → IsResting q → KeepsHands p q
-    → IfOk r (WasMapped q.view.layout o.view.past q.view.past q.view.stores q.view.number k) → IfErr r (λ e. GiveUp L (k ∷ []) a.view.log p.view.log) → IfErr r (λ e. e ≡ fault.Busy) → AfterGet L tries k o q r
+    → IfOk r (WasMapped q.view.layout o.view.past q.view.past q.view.stores q.view.number k)
+    → IfErr r (λ e. GiveUp L (k ∷ []) a.view.log p.view.log) → IfErr r (λ e. e ≡ fault.Busy)
+    → AfterGet L tries k o q r
 get_after_walk L tries k epoch o a p q r pinning pinned hands walked only looks leaves rests kept moment given_up busy =
-    let did : LooksUnderPin tries (most_looks (reach L) 1) o.view.log q.view.log = record { pinned = a.view.log; epoch = epoch; pin = pinned; looked = p.view.log; looks = looks; leaves = ap (λ (s : PassView). s.view.log) leaves.step } in
+    let did : LooksUnderPin tries (most_looks (reach L) 1) o.view.log q.view.log =
+    record {
+      pinned = a.view.log;
+      epoch = epoch;
+      pin = pinned;
+      looked = p.view.log;
+      looks = looks;
+      leaves = ap
+          (λ (s : PassView). s.view.log) leaves.step;
+    } in
     let added = call_adds tries (most_looks (reach L) 1) o.view.log q.view.log did in
     record {
       same = same_then o p q (same_then o a p pinning.same walked.same) (same_by_step p q Leave Departed leaves.step);
-      past = seen_through o p q (seen_through o a p pinning.past walked.past) (seen_by_turn p q Leave Departed leaves.past);
-      stores = stores_through o.view.stores p.view.stores q.view.stores (stores_through o.view.stores a.view.stores p.view.stores pinning.stores walked.stores) (stores_same q.view.stores p.view.stores leaves.stores);
+      past = seen_through o p q (seen_through o a p pinning.past walked.past)
+          (seen_by_turn p q Leave Departed leaves.past);
+      stores = stores_through o.view.stores p.view.stores q.view.stores
+          (stores_through o.view.stores a.view.stores p.view.stores pinning.stores walked.stores)
+          (stores_same q.view.stores p.view.stores leaves.stores);
       did = any_ok r did;
       moment = moment;
       busy = busy;
-      missed = IfErr-weaker r _ _ (λ e gives. walks_missed (GiveUp L (k ∷ [])) tries o.view.log a.view.log p.view.log q.view.log epoch pinned gives did.leaves) given_up;
+      missed = IfErr-weaker r _ _ (λ e gives. walks_missed (GiveUp L (k ∷ [])) tries o.view.log a.view.log p.view.log
+          q.view.log epoch pinned gives did.leaves) given_up;
       won = has_won _ _ added;
       steps = (let few = added.steps in omega (arith, few));
       uncut = cuts_none _ _ added;
@@ -473,4 +533,9 @@ get_after_walk L tries k epoch o a p q r pinning pinned hands walked only looks 
     any_ok (Err e) did = tt
 
     looks_keep : KeepsHands a p
-    looks_keep = record { private = only.private; labelled = λ was. ap (λ (b : Brief). b.unlabelled) only.epochs ∙ was; ledgers = λ was. only.ledgers }
+    looks_keep = record {
+      private = only.private;
+      labelled = λ was. ap (λ (b : Brief). b.unlabelled) only.epochs
+          ∙ was;
+      ledgers = λ was. only.ledgers;
+    }

@@ -209,7 +209,8 @@ module _ (L : Layout) (fits : IsLayout L) (events : List (ℕ × Event)) (keys :
   there_or_not so_far rest is k is_key = by (map_after no_map v.xs k) refl
     where
       v : Valued no_map (early (length so_far) acts) (InSet (words_after L so_far)) (λ a u. Unit {0})
-      v = valued (λ a u. Unit {0}) (early (length so_far) acts) nothing (InSet (words_after L so_far)) no_map agree_empty
+      v = valued (λ a u. Unit {0}) (early (length so_far) acts) nothing (InSet (words_after L so_far)) no_map
+          agree_empty
           (h.moments so_far rest is) (λ a among. (0, tt))
 
       by : (o : Option ℕ) → map_after no_map v.xs k ≡ o
@@ -254,7 +255,8 @@ module _ (L : Layout) (fits : IsLayout L) (events : List (ℕ × Event)) (keys :
       → i.slot ≡ s.old → ⊥)
       → IsInMap L (so_far ++ t ∷ []) stores k v
   kept_over so_far rest t is k v i still other =
-      let was = same_over_turn L fits events keys turns stores held so_far rest t is k (in_set so_far k v i) still other in
+      let was = same_over_turn L fits events keys turns stores held so_far rest t is k (in_set so_far k v i) still
+      other in
       subst (λ (u : ℕ). IsInMap L (so_far ++ t ∷ []) stores k u)
       (one_value so_far (t ∷ rest) is k (value_at (length (so_far ++ t ∷ [])) stores still.slot) v was i)
       (with_value (so_far ++ t ∷ []) k still)
@@ -301,13 +303,33 @@ module _ (L : Layout) (fits : IsLayout L) (events : List (ℕ × Event)) (keys :
     new_value = value_at (length now) stores new
 
     abbrev found_old : IsInMap L so_far stores shown.of_key old_value
-    found_old = record { slot = old; reached = shown.old_reached; leaf = shown.old_leaf; has_key = shown.old_key; has_value = refl }
+    found_old = record {
+      slot = old;
+      reached = shown.old_reached;
+      leaf = shown.old_leaf;
+      has_key = shown.old_key;
+      has_value = refl;
+    }
 
     abbrev left_new : IsInMap L now stores shown.of_key new_value
-    left_new = record { slot = new; reached = shown.new_reached; leaf = shown.new_leaf; has_key = shown.new_key; has_value = refl }
+    left_new = record {
+      slot = new;
+      reached = shown.new_reached;
+      leaf = shown.new_leaf;
+      has_key = shown.new_key;
+      has_value = refl;
+    }
 
     abbrev act : Act
-    act = record { worker = w; pin = shown.pin; op = Insert; key = shown.of_key; answer = false; moment = length so_far + 1 }
+    act = record {
+      worker = w;
+      pin = shown.pin;
+      op = Insert;
+      key = shown.of_key;
+      answer = false;
+      moment = length
+          so_far + 1;
+    }
 
     abbrev its_put : MapAct
     its_put = record { act = act; value = old_value; left = Some new_value }
@@ -327,7 +349,8 @@ module _ (L : Layout) (fits : IsLayout L) (events : List (ℕ × Event)) (keys :
       where
         none_cut : NoneCuts [] new
         none_cut before since t e c =
-            absurd (let long = ap (λ (ts : List Turn). length ts) e ∙ length-append before (t ∷ since) in omega (arith, long))
+            absurd (let long = ap (λ (ts : List Turn). length ts) e ∙ length-append before (t ∷ since) in
+            omega (arith, long))
 
     is_put : IsPutOf L stores so_far w old new swap its_put
     is_put = record {
@@ -371,7 +394,8 @@ module _ (L : Layout) (fits : IsLayout L) (events : List (ℕ × Event)) (keys :
       gives = ((had shown.of_key old_value shown.is_key).1 found_old, tt);
       order = ((λ y at. absurd at), tt);
       at = at;
-      agree = agree_put (InSet (words_after L so_far)) m act old_value new_value (in_set so_far shown.of_key old_value found_old)
+      agree = agree_put (InSet (words_after L so_far)) m act old_value new_value
+          (in_set so_far shown.of_key old_value found_old)
           (agree_of so_far m had);
       kept = kept_then;
       back = λ plain. absurd (true≢false plain);
@@ -461,7 +485,8 @@ module _ (L : Layout) (fits : IsLayout L) (events : List (ℕ × Event)) (keys :
     puts = λ x at. absurd at;
     takes = λ x at. absurd at;
     swaps = λ before since w p side old new ns is.
-        absurd (let long = ap (λ (ts : List Turn). length ts) is ∙ length-append before (answered_turn w (Swap p side old new) (Cut ns) ∷ since) in omega (arith, long));
+        absurd (let long = ap (λ (ts : List Turn). length ts) is
+        ∙ length-append before (answered_turn w (Swap p side old new) (Cut ns) ∷ since) in omega (arith, long));
     replaces = λ x at. absurd at;
   }
     where
@@ -545,7 +570,8 @@ module _ (L : Layout) (fits : IsLayout L) (events : List (ℕ × Event)) (keys :
     m2 = map_after m1 calls.xs
 
     of_these : (x : MapAct) → In calls.xs x → IsAmong acts x.act × (x.act.moment ≡ length next)
-    of_these x at = from_just_at (length next) acts x.act (subst (λ (l : List Act). IsAmong l x.act) calls.are (act_in calls.xs x at))
+    of_these x at = from_just_at (length next) acts x.act
+        (subst (λ (l : List Act). IsAmong l x.act) calls.are (act_in calls.xs x at))
 
     is_call : (x : MapAct) → In calls.xs x → is_plain x ≡ true
     is_call x at = ap (λ (l : Option ℕ). is_none l) (calls.plain x at)
@@ -617,7 +643,8 @@ module _ (L : Layout) (fits : IsLayout L) (events : List (ℕ × Event)) (keys :
         ∙ ((λ i. b.are i ++ calls.are i) ∙ sym acts_are))
 
     all_gives : GivesEach no_map all
-    all_gives = gives_join b.xs (part.ys ++ calls.xs) no_map b.gives (gives_join part.ys calls.xs m0 part.gives calls.gives)
+    all_gives = gives_join b.xs (part.ys ++ calls.xs) no_map b.gives
+        (gives_join part.ys calls.xs m0 part.gives calls.gives)
 
     all_order : Sorted all
     all_order =
@@ -649,7 +676,8 @@ module _ (L : Layout) (fits : IsLayout L) (events : List (ℕ × Event)) (keys :
             (subst (λ (l : List MapAct). HasJust next (map_after no_map l))
             (sym (all_kept (up_to (length next)) all
             (λ x at. le-leb x.act.moment (length next) (all_within x at))))
-            (subst (HasJust next) (sym (after_join b.xs (part.ys ++ calls.xs) no_map ∙ after_join part.ys calls.xs m0)) has_just))
+            (subst (HasJust next) (sym (after_join b.xs (part.ys ++ calls.xs) no_map
+            ∙ after_join part.ys calls.xs m0)) has_just))
         by (inr le) =
             let mid = begins_with first last so_far (t ∷ []) (sym e) le in
             subst (λ (l : List MapAct). HasJust first (map_after no_map l))
@@ -815,7 +843,11 @@ module _ (L : Layout) (fits : IsLayout L) (events : List (ℕ × Event)) (keys :
   )
 
 pub histories_are_of_maps : HistoriesAreOfMaps
-histories_are_of_maps L fits events keys was stores held = (subst (HasHistory L) (sym p.first_is) (history_of_run L fits p.early first), λ acts h. of_acts acts (subst (λ (ts : List Turn). IsHistory L ts acts) p.first_is h))
+histories_are_of_maps L fits events keys was stores held = (
+  subst (HasHistory L) (sym p.first_is) (history_of_run L fits p.early first),
+  λ acts h. of_acts acts
+      (subst (λ (ts : List Turn). IsHistory L ts acts) p.first_is h),
+)
   where
     p : Parts (ordered L) events held.until held.ends.more
     p = parts_of (ordered L) events held.until held.ends.more held.ends.is
@@ -834,15 +866,19 @@ histories_are_of_maps L fits events keys was stores held = (subst (HasHistory L)
       order = held.order;
     }
 
-    of_acts : (acts : List Act) → IsHistory L (trace_in (ordered L) p.early) acts → (xs : List MapAct) × IsMapHistory L held.until stores acts xs
+    of_acts : (acts : List Act) → IsHistory L (trace_in (ordered L) p.early) acts
+        → (xs : List MapAct) × IsMapHistory L held.until stores acts xs
     of_acts acts h =
-        let holds : HoldsStores L (trace_in (ordered L) p.early) (trace_in (ordered L) p.early) stores = subst (λ (ts : List Turn). HoldsStores L ts ts stores) p.first_is whole in
+        let holds : HoldsStores L (trace_in (ordered L) p.early) (trace_in (ordered L) p.early) stores = subst
+        (λ (ts : List Turn). HoldsStores L ts ts stores) p.first_is whole in
         let r = map_history L fits p.early first stores holds acts h in
         (r.0, subst (λ (ts : List Turn). IsMapHistory L ts stores acts r.0) (sym p.first_is) r.1)
 
 pub gets_are_of_the_map : GetsAreOfTheMap
-gets_are_of_the_map L ts stores acts valued h so_far rest is k is_key (Some v) gives = (h.moments so_far rest is k v is_key).1 gives
-gets_are_of_the_map L ts stores acts valued h so_far rest is k is_key None gives = go (map_at valued (length so_far) k) refl
+gets_are_of_the_map L ts stores acts valued h so_far rest is k is_key (Some v) gives =
+    (h.moments so_far rest is k v is_key).1 gives
+gets_are_of_the_map L ts stores acts valued h so_far rest is k is_key None gives = go
+    (map_at valued (length so_far) k) refl
   where
     go : (o : Option ℕ) → map_at valued (length so_far) k ≡ o → o ≡ None
     go None at = refl
@@ -858,7 +894,8 @@ values_were_put valued n k v has = by (last_of now no_map k)
     by (Untouched none') = absurd (none-some v (sym (untouched now no_map k none') ∙ has))
     by (Taken gone) = absurd (none-some v (sym gone ∙ has))
     by (Put front back a u are puts e none') =
-        let there = from_filter (up_to n) valued a (subst (λ (l : List MapAct). In l a) (sym are) (in_right front (a ∷ back) a (inl refl))) in
+        let there = from_filter (up_to n) valued a (subst (λ (l : List MapAct). In l a) (sym are)
+        (in_right front (a ∷ back) a (inl refl))) in
         let same : u ≡ v = same_Some u v (sym (put_last front back a no_map k u puts e none')
         ∙ (ap (λ (l : List MapAct). map_after no_map l k) (sym are) ∙ has)) in (
           a,

@@ -42,7 +42,8 @@ use Rattle.nm_calls.proofs.ReachedNodes.{cut_births, cut_outcome, in_named}
 use Rattle.nm_calls.proofs.LinkedLeaves.{far_is_other, far_was_child}
 use Rattle.nm_calls.proofs.WonLinks.{link}
 
-module _ (L : Layout) (fits : IsLayout L) (events : List (ℕ × Event)) (keys : All (λ t. HasKey t.1) events) (so_far rest : List Turn) (are : trace_in (ordered L) events ≡ so_far ++ rest) where
+module _ (L : Layout) (fits : IsLayout L) (events : List (ℕ × Event)) (keys : All (λ t. HasKey t.1) events)
+    (so_far rest : List Turn) (are : trace_in (ordered L) events ≡ so_far ++ rest) where
   p : Parts (ordered L) events so_far rest
   p = parts_of (ordered L) events so_far rest are
 
@@ -64,13 +65,15 @@ module _ (L : Layout) (fits : IsLayout L) (events : List (ℕ × Event)) (keys :
     event = (l.worker, l.event)
 
     before_keys : All (λ t. HasKey t.1) l.before
-    before_keys = first_keys l.before (event ∷ l.since) (subst (λ (ts : List (ℕ × Event)). All (λ t. HasKey t.1) ts) l.are early_keys)
+    before_keys = first_keys l.before (event ∷ l.since)
+        (subst (λ (ts : List (ℕ × Event)). All (λ t. HasKey t.1) ts) l.are early_keys)
 
     abbrev turn : Turn
     turn = answered_turn l.worker l.event l.reply
 
     all_are : events ≡ l.before ++ event ∷ (l.since ++ p.late)
-    all_are = p.all ∙ (ap (λ (ts : List (ℕ × Event)). ts ++ p.late) l.are ∙ append_assoc l.before (event ∷ l.since) p.late)
+    all_are = p.all ∙ (ap (λ (ts : List (ℕ × Event)). ts ++ p.late) l.are
+        ∙ append_assoc l.before (event ∷ l.since) p.late)
 
     abbrev after_put : List Turn
     after_put = trace_in (after_in (ordered L) (l.before ++ event ∷ [])) l.since
@@ -99,7 +102,8 @@ module _ (L : Layout) (fits : IsLayout L) (events : List (ℕ × Event)) (keys :
     long = sym p.size
 
     later : length l.before < length so_far
-    later = let size = ap (λ (ts : List (ℕ × Event)). length ts) l.are ∙ length-append l.before (event ∷ l.since) in omega (arith, size, long)
+    later = let size = ap (λ (ts : List (ℕ × Event)). length ts) l.are ∙ length-append l.before (event ∷ l.since) in
+        omega (arith, size, long)
 
     free : NobodyHoldsUntil L events (length l.before + 1) (length so_far) s
     free now since is least most w =
@@ -137,7 +141,8 @@ module _ (L : Layout) (fits : IsLayout L) (events : List (ℕ × Event)) (keys :
       turn_is_link i = answered_turn l.worker (k.is i) (k.replied i)
 
     -- it has a store by stores that hold from that moment on
-    stored : (first : List Stored) → HoldsStores L so_far (trace_in (ordered L) events) first → IsStored first l.worker (entries L l.worker l.before) s
+    stored : (first : List Stored) → HoldsStores L so_far (trace_in (ordered L) events) first
+        → IsStored first l.worker (entries L l.worker l.before) s
     stored first h = by l.way
       where
         until_is : (t : Turn) → turn ≡ t → h.until ≡ trace_in (ordered L) l.before ++ t ∷ (after_put ++ h.from.more)
@@ -161,21 +166,27 @@ module _ (L : Layout) (fits : IsLayout L) (events : List (ℕ × Event)) (keys :
             (λ i. answered_turn l.worker (k.is i) (k.replied i)))
 
     -- the value is the one of this store
-    value_is : (stores : List Stored) → WereHeld L events stores → AllPairs ComesBefore stores → (at : IsStored stores l.worker (entries L l.worker l.before) s) → value_before (length so_far) stores s ≡ at.stored.value
+    value_is : (stores : List Stored) → WereHeld L events stores → AllPairs ComesBefore stores
+        → (at : IsStored stores l.worker (entries L l.worker l.before) s)
+        → value_before (length so_far) stores s ≡ at.stored.value
     value_is stores held order at = value_since_link L events stores held order l.before
         (l.since ++ p.late) l.worker s l.event all_are l.below took (one_holds L (enough L fits) events keys s) at
         (length so_far) later free
 
-    pub same_by_more : (first stores : List Stored) → HoldsStores L so_far (trace_in (ordered L) events) first → ExtendsStores stores first → (from : List Turn) → HoldsStores L from (trace_in (ordered L) events) stores → value_before (length so_far) stores s ≡ value_before (length so_far) first s
+    pub same_by_more : (first stores : List Stored) → HoldsStores L so_far (trace_in (ordered L) events) first
+        → ExtendsStores stores first → (from : List Turn) → HoldsStores L from (trace_in (ordered L) events) stores
+        → value_before (length so_far) stores s ≡ value_before (length so_far) first s
     same_by_more first stores h on from h' =
         let at = stored first h in
         value_is stores (held_in_all L fits from events stores h') h'.order (later_store at)
         ∙ sym (value_is first (held_in_all L fits so_far events first h) h.order at)
       where
-        later_store : IsStored first l.worker (entries L l.worker l.before) s → IsStored stores l.worker (entries L l.worker l.before) s
+        later_store : IsStored first l.worker (entries L l.worker l.before) s
+            → IsStored stores l.worker (entries L l.worker l.before) s
         later_store at = record {
           stored = at.stored;
-          there = subst (λ (st : List Stored). Contains st at.stored) (sym on.is) (Contains-append_left first on.more at.stored at.there);
+          there = subst (λ (st : List Stored). Contains st at.stored) (sym on.is)
+              (Contains-append_left first on.more at.stored at.there);
           by_worker = at.by_worker;
           at_own = at.at_own;
           for_slot = at.for_slot;
@@ -183,7 +194,8 @@ module _ (L : Layout) (fits : IsLayout L) (events : List (ℕ × Event)) (keys :
 
 -- ---- the value that a leaf had when it was cut off
 
-module _ (L : Layout) (fits : IsLayout L) (events : List (ℕ × Event)) (keys : All (λ t. HasKey t.1) events) (stores : List Stored) (n : NodeId) (v : ℕ) (b : WasCutWith L (trace_in (ordered L) events) stores n v) where
+module _ (L : Layout) (fits : IsLayout L) (events : List (ℕ × Event)) (keys : All (λ t. HasKey t.1) events)
+    (stores : List Stored) (n : NodeId) (v : ℕ) (b : WasCutWith L (trace_in (ordered L) events) stores n v) where
   abbrev turns : List Turn
   turns = trace_in (ordered L) events
 
@@ -194,7 +206,8 @@ module _ (L : Layout) (fits : IsLayout L) (events : List (ℕ × Event)) (keys :
   n_is : n ≡ named (words_after L b.before) n.slot
   n_is = by (cut_outcome b.cut.outcome n b.cuts)
     where
-      by : (ns : List NodeId) × (b.cut.outcome ≡ Ok (Cut ns)) × Contains ns n → n ≡ named (words_after L b.before) n.slot
+      by : (ns : List NodeId) × (b.cut.outcome ≡ Ok (Cut ns)) × Contains ns n
+          → n ≡ named (words_after L b.before) n.slot
       by (ns, o, among) = in_named (words_after L b.before) (slots_of ns) n
           (subst (λ (ks : List NodeId). Contains ks n)
           (cut_births (words_after L b.before) b.cut (h.cuts b.before b.since b.cut b.are) ns o) among)
@@ -218,7 +231,8 @@ module _ (L : Layout) (fits : IsLayout L) (events : List (ℕ × Event)) (keys :
   born =
       ap (λ (m : Memory). (node m n.slot).birth)
       (words_before L fits events keys b.before (b.cut ∷ b.since) b.are n.slot b.reached b.leaf (inl b.high))
-      ∙ (k.born ∙ sym (ap (λ (m : Memory). (node m n.slot).birth) (words L fits events keys b.before (b.cut ∷ b.since) b.are)))
+      ∙ (k.born ∙ sym (ap (λ (m : Memory). (node m n.slot).birth)
+      (words L fits events keys b.before (b.cut ∷ b.since) b.are)))
 
   named_early : n ≡ named (words_after L early) n.slot
   named_early = n_is ∙ (λ i. record { slot = n.slot; birth = sym born i })
@@ -261,7 +275,8 @@ module _ (L : Layout) (fits : IsLayout L) (events : List (ℕ × Event)) (keys :
   pub was_stored_for : WasStoredFor L turns stores n v
   was_stored_for = record {
     stored = at.stored;
-    there = subst (λ (st : List Stored). Contains st at.stored) (sym b.extends.is) (Contains-append_left b.first b.extends.more at.stored at.there);
+    there = subst (λ (st : List Stored). Contains st at.stored) (sym b.extends.is)
+        (Contains-append_left b.first b.extends.more at.stored at.there);
     of = record {
       put_in = put_in at.stored.worker (sym at.by_worker);
       own = at.at_own ∙ ap (λ (w : ℕ). length (part_of w early)) (sym at.by_worker);

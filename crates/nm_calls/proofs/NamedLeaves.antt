@@ -56,7 +56,9 @@ module _ (L : Layout) (enough : 5 ≤ L.nodes) (past more : List (ℕ × Event))
   comes = record {
     looks = walk.looks;
     leads = walk.leads;
-    is_part = part_within walk.is_part walk.looks (part_grows ((Look slot Key, KeyIs k) ∷ (Look slot (EdgeOn (side_of k k)), EdgeIs walk.null) ∷ []) (part_itself walk.looks));
+    is_part = part_within walk.is_part walk.looks (part_grows
+        ((Look slot Key, KeyIs k) ∷ (Look slot (EdgeOn (side_of k k)), EdgeIs walk.null) ∷ [])
+        (part_itself walk.looks));
   }
 
   pub leaf_was : WasReachedLater L past (past ++ more) u k slot
@@ -98,26 +100,37 @@ module _ (L : Layout) (enough : 5 ≤ L.nodes) (past more : List (ℕ × Event))
 
       too_low : slot ≤ 5 → ⊥
       too_low fixed =
-          let high : infinity_0 ≤ key then'.state.memory slot = sentinel_is_high then'.state (sentinels_of L then' ordered_then) slot positive fixed in
+          let high : infinity_0 ≤ key then'.state.memory slot = sentinel_is_high then'.state
+          (sentinels_of L then' ordered_then) slot positive fixed in
           let is = leaf_has_key in
           omega (arith, high, is, low)
 
 -- ---- the moment is later than an earlier run at whose end the worker was not pinned
 
-module _ (L : Layout) (enough : 5 ≤ L.nodes) (w : ℕ) (below : w < L.workers) (past more : List (ℕ × Event)) (keys : All (λ t. HasKey t.1) (past ++ more)) (unpinned : (known_by L w (part_of w (trace_in (ordered L) past))).brief.pin ≡ None)
-    (before since : List (ℕ × Event)) (is_run : past ++ more ≡ before ++ since) (pinned : HasPin (after_in (ordered L) before) w) (pin_stands : PinStands w (trace_in (after_in (ordered L) before) since)) where
+module _ (L : Layout) (enough : 5 ≤ L.nodes) (w : ℕ) (below : w < L.workers) (past more : List (ℕ × Event))
+    (keys : All (λ t. HasKey t.1) (past ++ more)) (unpinned : (known_by L w
+    (part_of w (trace_in (ordered L) past))).brief.pin ≡ None)
+    (before since : List (ℕ × Event)) (is_run : past ++ more ≡ before ++ since)
+    (pinned : HasPin (after_in (ordered L) before) w)
+    (pin_stands : PinStands w (trace_in (after_in (ordered L) before) since)) where
   not_earlier : (mid : List (ℕ × Event)) → past ≡ before ++ mid → ⊥
-  not_earlier mid is = none-some pinned.0 (sym unpinned ∙ (ap (λ (l : Knowledge). l.brief.pin) (sym (logs_tell L past w below)) ∙ (ap (λ (ts : List (ℕ × Event)). (of (after_in (ordered L) ts).state w).brief.pin) is
-      ∙ (ap (λ (c : Configuration). (of c.state w).brief.pin) (after_in-append (ordered L) before mid) ∙ (pin_lasts L enough w mid mid_keys (after_in (ordered L) before) then' still ∙ pinned.1)))))
+  not_earlier mid is = none-some pinned.0 (sym unpinned
+      ∙ (ap (λ (l : Knowledge). l.brief.pin) (sym (logs_tell L past w below))
+      ∙ (ap (λ (ts : List (ℕ × Event)). (of (after_in (ordered L) ts).state w).brief.pin) is
+      ∙ (ap (λ (c : Configuration). (of c.state w).brief.pin) (after_in-append (ordered L) before mid)
+      ∙ (pin_lasts L enough w mid mid_keys (after_in (ordered L) before) then' still ∙ pinned.1)))))
     where
       since_is : since ≡ mid ++ more
-      since_is = append_cancel_left before since (mid ++ more) (sym is_run ∙ (ap (λ (l : List (ℕ × Event)). l ++ more) is ∙ append_assoc before mid more))
+      since_is = append_cancel_left before since (mid ++ more)
+          (sym is_run ∙ (ap (λ (l : List (ℕ × Event)). l ++ more) is ∙ append_assoc before mid more))
 
       mid_keys : All (λ t. HasKey t.1) mid
-      mid_keys = later_keys before mid (first_keys (before ++ mid) more (subst (λ (l : List (ℕ × Event)). All (λ t. HasKey t.1) (l ++ more)) is keys))
+      mid_keys = later_keys before mid (first_keys (before ++ mid) more
+          (subst (λ (l : List (ℕ × Event)). All (λ t. HasKey t.1) (l ++ more)) is keys))
 
       then' : IsOrdered L (after_in (ordered L) before)
-      then' = each_ordered L enough before (first_keys before since (subst (λ (l : List (ℕ × Event)). All (λ t. HasKey t.1) l) is_run keys))
+      then' = each_ordered L enough before (first_keys before since
+          (subst (λ (l : List (ℕ × Event)). All (λ t. HasKey t.1) l) is_run keys))
 
       first : List Turn
       first = trace_in (after_in (ordered L) before) mid
@@ -127,8 +140,12 @@ module _ (L : Layout) (enough : 5 ≤ L.nodes) (w : ℕ) (below : w < L.workers)
 
       still : PinStands w (trace_in (after_in (ordered L) before) mid)
       still = (or_parts (list_any begins_anew (log_of w first)) (list_any begins_anew (log_of w rest))
-          (sym (list_any-append begins_anew (log_of w first) (log_of w rest)) ∙ (ap (list_any begins_anew) (sym (log-append w first rest)) ∙ (ap (λ (l : List Turn). list_any begins_anew (log_of w l)) (sym (trace_in-append (after_in (ordered L) before) mid more))
-          ∙ (ap (λ (l : List (ℕ × Event)). list_any begins_anew (log_of w (trace_in (after_in (ordered L) before) l))) (sym since_is) ∙ pin_stands))))).0
+          (sym (list_any-append begins_anew (log_of w first) (log_of w rest))
+          ∙ (ap (list_any begins_anew) (sym (log-append w first rest))
+          ∙ (ap (λ (l : List Turn). list_any begins_anew (log_of w l))
+          (sym (trace_in-append (after_in (ordered L) before) mid more))
+          ∙ (ap (λ (l : List (ℕ × Event)). list_any begins_anew
+          (log_of w (trace_in (after_in (ordered L) before) l))) (sym since_is) ∙ pin_stands))))).0
 
   pub moment_is_later : length past < length before
   moment_is_later = elim (cases_lt (length past) (length before)) [
@@ -147,17 +164,21 @@ pub pin_not_left : (w : ℕ) (ts : List Turn) → PinStands w ts → HasLeft w t
 pin_not_left w [] still left = true≢false (sym left)
 pin_not_left w (t ∷ ts) still left = by (pin_not_left w ts) (t.worker == w) refl t.outcome refl
   where
-    any_parts : (list_any begins_anew (cond (t.worker == w) (logged_by t) []) ≡ false) × (list_any begins_anew (log_of w ts) ≡ false)
-    any_parts = or_parts _ _ (sym (list_any-append begins_anew (cond (t.worker == w) (logged_by t) []) (log_of w ts)) ∙ still)
+    any_parts : (list_any begins_anew (cond (t.worker == w) (logged_by t) []) ≡ false)
+        × (list_any begins_anew (log_of w ts) ≡ false)
+    any_parts = or_parts _ _ (sym (list_any-append begins_anew (cond (t.worker == w) (logged_by t) []) (log_of w ts))
+        ∙ still)
 
     later : (PinStands w ts → HasLeft w ts → ⊥) → leaves w t ≡ false → ⊥
     later rec none' = rec any_parts.1 (sym (ap (λ (b : Bool). b || list_any (leaves w) ts) none') ∙ left)
 
-    by : (PinStands w ts → HasLeft w ts → ⊥) → (b : Bool) → (t.worker == w) ≡ b → (o : Result Reply Refused) → t.outcome ≡ o → ⊥
+    by : (PinStands w ts → HasLeft w ts → ⊥) → (b : Bool) → (t.worker == w) ≡ b → (o : Result Reply Refused)
+        → t.outcome ≡ o → ⊥
     by rec false other o is = later rec (ap (λ (b : Bool). b && departs t.event t.outcome) other)
     by rec true own (Err x) is = later rec (refused (t.worker == w) t.event t.outcome x is)
       where
-        refused : (b : Bool) (e : Event) (o : Result Reply Refused) (x : Refused) → o ≡ Err x → (b && departs e o) ≡ false
+        refused : (b : Bool) (e : Event) (o : Result Reply Refused) (x : Refused) → o ≡ Err x
+            → (b && departs e o) ≡ false
         refused b e o x is = ap (λ (q : Result Reply Refused). b && departs e q) is ∙ none' b e
           where
             none' : (b : Bool) (e : Event) → (b && departs e (Err x)) ≡ false
@@ -168,4 +189,6 @@ pin_not_left w (t ∷ ts) still left = by (pin_not_left w ts) (t.worker == w) re
       where
         go : (d : Bool) → departs t.event (Ok r) ≡ d → ⊥
         go false none' = later rec ((λ i. own i && departs t.event (is i)) ∙ none')
-        go true gone = true≢false (sym (ap (λ (b : Bool). b || false) (anew_by_leave t.event r gone)) ∙ (sym (λ i. list_any begins_anew (cond (own i) (logged_by (record { worker = t.worker; event = t.event; outcome = is i })) [])) ∙ any_parts.0))
+        go true gone = true≢false (sym (ap (λ (b : Bool). b || false) (anew_by_leave t.event r gone))
+            ∙ (sym (λ i. list_any begins_anew (cond (own i)
+            (logged_by (record { worker = t.worker; event = t.event; outcome = is i })) [])) ∙ any_parts.0))

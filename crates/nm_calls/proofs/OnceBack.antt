@@ -24,8 +24,10 @@ use Rattle.nm_calls.proofs.ComingBack.{nodes_are_freed_once}
 -- they are one place, or the second one is after the first, or before it
 pub data TwoPlaces {X : Type 0} (first since first' since' : List X) (x y : X) : Type 0 where
   AreOne : first ≡ first' → x ≡ y → TwoPlaces first since first' since' x y
-  IsLater : (between : List X) → since ≡ between ++ y ∷ since' → first' ≡ first ++ x ∷ between → TwoPlaces first since first' since' x y
-  IsEarlier : (between : List X) → since' ≡ between ++ x ∷ since → first ≡ first' ++ y ∷ between → TwoPlaces first since first' since' x y
+  IsLater : (between : List X) → since ≡ between ++ y ∷ since' → first' ≡ first ++ x ∷ between
+      → TwoPlaces first since first' since' x y
+  IsEarlier : (between : List X) → since' ≡ between ++ x ∷ since → first ≡ first' ++ y ∷ between
+      → TwoPlaces first since first' since' x y
 
 head_is : {X : Type 0} (x y : X) (xs ys : List X) → x ∷ xs ≡ y ∷ ys → x ≡ y
 head_is x y xs ys e = cc
@@ -33,11 +35,15 @@ head_is x y xs ys e = cc
 tail_is : {X : Type 0} (x y : X) (xs ys : List X) → x ∷ xs ≡ y ∷ ys → xs ≡ ys
 tail_is x y xs ys e = cc
 
-pub two_places : {X : Type 0} (first since first' since' : List X) (x y : X) → first ++ x ∷ since ≡ first' ++ y ∷ since' → TwoPlaces first since first' since' x y
+pub two_places : {X : Type 0} (first since first' since' : List X) (x y : X)
+    → first ++ x ∷ since ≡ first' ++ y ∷ since' → TwoPlaces first since first' since' x y
 two_places [] since [] since' x y e = AreOne refl (head_is x y since since' e)
-two_places [] since (z ∷ zs) since' x y e = IsLater zs (tail_is x z since (zs ++ y ∷ since') e) (λ i. sym (head_is x z since (zs ++ y ∷ since') e) i ∷ zs)
-two_places (z ∷ zs) since [] since' x y e = IsEarlier zs (sym (tail_is z y (zs ++ x ∷ since) since' e)) (λ i. head_is z y (zs ++ x ∷ since) since' e i ∷ zs)
-two_places (z ∷ zs) since (u ∷ us) since' x y e = further (two_places zs since us since' x y (tail_is z u (zs ++ x ∷ since) (us ++ y ∷ since') e))
+two_places [] since (z ∷ zs) since' x y e = IsLater zs (tail_is x z since (zs ++ y ∷ since') e)
+    (λ i. sym (head_is x z since (zs ++ y ∷ since') e) i ∷ zs)
+two_places (z ∷ zs) since [] since' x y e = IsEarlier zs (sym (tail_is z y (zs ++ x ∷ since) since' e))
+    (λ i. head_is z y (zs ++ x ∷ since) since' e i ∷ zs)
+two_places (z ∷ zs) since (u ∷ us) since' x y e = further
+    (two_places zs since us since' x y (tail_is z u (zs ++ x ∷ since) (us ++ y ∷ since') e))
   where
     head : z ≡ u
     head = head_is z u (zs ++ x ∷ since) (us ++ y ∷ since') e
@@ -49,7 +55,8 @@ two_places (z ∷ zs) since (u ∷ us) since' x y e = further (two_places zs sin
 
 -- ---- the entries of a worker's log before a turn of its own
 
-pub part_append : (w : ℕ) (ts us : List Turn) → length (part_of w (ts ++ us)) ≡ length (part_of w ts) + length (part_of w us)
+pub part_append : (w : ℕ) (ts us : List Turn) → length (part_of w (ts ++ us))
+    ≡ length (part_of w ts) + length (part_of w us)
 part_append w [] us = omega arith
 part_append w (t ∷ ts) us =
     let rest = part_append w ts us in
@@ -57,14 +64,20 @@ part_append w (t ∷ ts) us =
     let there = length-append (cond (takes_part w t.worker t.event) (logged_by t) []) (part_of w ts) in
     omega (arith, rest, here, there)
 
-pub one_entry : (w : ℕ) (e : Event) (r : Reply) (us : List Turn) → length (part_of w (answered_turn w e r ∷ us)) ≡ suc (length (part_of w us))
-one_entry w e r us = ap (λ (b : Bool). length (cond (b || is_leaver w e) (logged_by (answered_turn w e r)) [] ++ part_of w us)) (eq-eqb w w refl)
+pub one_entry : (w : ℕ) (e : Event) (r : Reply) (us : List Turn)
+    → length (part_of w (answered_turn w e r ∷ us)) ≡ suc (length (part_of w us))
+one_entry w e r us = ap (λ (b : Bool). length (cond (b || is_leaver w e) (logged_by (answered_turn w e r)) []
+    ++ part_of w us)) (eq-eqb w w refl)
 
 -- a worker's turns that were not refused have different numbers of its entries before them
-pub same_place : (w : ℕ) (e e' : Event) (r r' : Reply) (turns before since before' since' : List Turn) → turns ≡ before ++ answered_turn w e r ∷ since → turns ≡ before' ++ answered_turn w e' r' ∷ since' → length (part_of w before) ≡ length (part_of w before') → before ≡ before'
-same_place w e e' r r' turns before since before' since' is is' same = by (two_places before since before' since' (answered_turn w e r) (answered_turn w e' r') (sym is ∙ is'))
+pub same_place : (w : ℕ) (e e' : Event) (r r' : Reply) (turns before since before' since' : List Turn)
+    → turns ≡ before ++ answered_turn w e r ∷ since → turns ≡ before' ++ answered_turn w e' r' ∷ since'
+    → length (part_of w before) ≡ length (part_of w before') → before ≡ before'
+same_place w e e' r r' turns before since before' since' is is' same = by
+    (two_places before since before' since' (answered_turn w e r) (answered_turn w e' r') (sym is ∙ is'))
   where
-    longer : (xs ys mid : List Turn) (f : Event) (s : Reply) → ys ≡ xs ++ answered_turn w f s ∷ mid → length (part_of w xs) ≡ length (part_of w ys) → ⊥
+    longer : (xs ys mid : List Turn) (f : Event) (s : Reply) → ys ≡ xs ++ answered_turn w f s ∷ mid
+        → length (part_of w xs) ≡ length (part_of w ys) → ⊥
     longer xs ys mid f s at long =
         let sum = ap (λ (ts : List Turn). length (part_of w ts)) at ∙ part_append w xs (answered_turn w f s ∷ mid) in
         let one = one_entry w f s mid in
@@ -117,7 +130,8 @@ named_slot : (L : Layout) (turns : List Turn) (x : Stored) (n : NodeId) (s : IsS
 named_slot L turns x n s = put_named L turns x.worker n s.put_in
     ∙ ap (named (words_after L s.put_in.before)) (sym s.slot)
 
-pub one_leaf : (L : Layout) (turns : List Turn) (x : Stored) (n m : NodeId) → IsStoreOf L turns x n → IsStoreOf L turns x m → n ≡ m
+pub one_leaf : (L : Layout) (turns : List Turn) (x : Stored) (n m : NodeId) → IsStoreOf L turns x n
+    → IsStoreOf L turns x m → n ≡ m
 one_leaf L turns x n m one other = named_slot L turns x n one
     ∙ (ap (λ (ts : List Turn). named (words_after L ts) x.slot) (one_put L turns x n m one other)
     ∙ sym (named_slot L turns x m other))
@@ -125,7 +139,11 @@ one_leaf L turns x n m one other = named_slot L turns x n one
 -- ---- and this leaf is freed once
 
 pub values_come_back_once : ValuesComeBackOnce
-values_come_back_once L turns h x one other = (by (two_places one.so_far one.rest other.so_far other.rest one.free other.free (sym one.are ∙ other.are)), same)
+values_come_back_once L turns h x one other = (
+  by
+      (two_places one.so_far one.rest other.so_far other.rest one.free other.free (sym one.are ∙ other.are)),
+  same,
+)
   where
     same : one.leaf ≡ other.leaf
     same = one_leaf L turns x one.leaf other.leaf one.stored other.stored
@@ -135,5 +153,7 @@ values_come_back_once L turns h x one other = (by (two_places one.so_far one.res
 
     by : TwoPlaces one.so_far one.rest other.so_far other.rest one.free other.free → one.so_far ≡ other.so_far
     by (AreOne is it) = is
-    by (IsLater mid rest at) = absurd (nodes_are_freed_once L turns h one.so_far mid other.rest one.free other.free one.leaf (one.are ∙ ap (λ (ts : List Turn). one.so_far ++ one.free ∷ ts) rest) one.frees frees)
-    by (IsEarlier mid rest at) = absurd (nodes_are_freed_once L turns h other.so_far mid one.rest other.free one.free one.leaf (other.are ∙ ap (λ (ts : List Turn). other.so_far ++ other.free ∷ ts) rest) frees one.frees)
+    by (IsLater mid rest at) = absurd (nodes_are_freed_once L turns h one.so_far mid other.rest one.free other.free
+        one.leaf (one.are ∙ ap (λ (ts : List Turn). one.so_far ++ one.free ∷ ts) rest) one.frees frees)
+    by (IsEarlier mid rest at) = absurd (nodes_are_freed_once L turns h other.so_far mid one.rest other.free one.free
+        one.leaf (other.are ∙ ap (λ (ts : List Turn). other.so_far ++ other.free ∷ ts) rest) frees one.frees)

@@ -25,13 +25,16 @@ use Rattle.nm_calls.proofs.ReachedNodes.NodeFate.{StaysIn, WasCutOff}
 use Rattle.nm_calls.proofs.Unheld.{not_place}
 
 -- in their order two stores of one worker, made when its log had as many entries, are one
-pub one_store : (stores : List Stored) → AllPairs ComesBefore stores → (x y : Stored) → Contains stores x → Contains stores y → x.worker ≡ y.worker → x.own ≡ y.own → x ≡ y
+pub one_store : (stores : List Stored) → AllPairs ComesBefore stores → (x y : Stored) → Contains stores x
+    → Contains stores y → x.worker ≡ y.worker → x.own ≡ y.own → x ≡ y
 one_store stores order x y (i, below, at) (j, below', at') who own = by (cases_lt i j) (cases_lt j i)
   where
-    later : (a b : Stored) (k l : ℕ) → k < l → l < length stores → get_or stores k a ≡ a → get_or stores l b ≡ b → a.worker ≡ b.worker → a.own ≡ b.own → ⊥
+    later : (a b : Stored) (k l : ℕ) → k < l → l < length stores → get_or stores k a ≡ a → get_or stores l b ≡ b
+        → a.worker ≡ b.worker → a.own ≡ b.own → ⊥
     later a b k l less inside is is' same mine =
         let first : get_or stores k b ≡ a = get_or_default stores k b a (omega (arith, less, inside)) ∙ is in
-        let c : ComesBefore a b = subst (λ (z : Stored). ComesBefore z b) first (subst (ComesBefore (get_or stores k b)) is' (order k l b less inside)) in
+        let c : ComesBefore a b = subst (λ (z : Stored). ComesBefore z b) first
+        (subst (ComesBefore (get_or stores k b)) is' (order k l b less inside)) in
         let least = c.1 same in omega (arith, least, mine)
 
     by : (i < j) ⊎ (j ≤ i) → (j < i) ⊎ (i ≤ j) → x ≡ y
@@ -43,7 +46,9 @@ one_store stores order x y (i, below, at) (j, below', at') who own = by (cases_l
 
 -- ---- a leaf is put in once
 
-module _ (L : Layout) (turns : List Turn) (h : Headline L turns) (x y : Stored) (leaf : NodeId) (one : IsStoreOf L turns x leaf) (other : IsStoreOf L turns y leaf) (hands : WasInHands L turns x) (hands' : WasInHands L turns y)
+module _ (L : Layout) (turns : List Turn) (h : Headline L turns) (x y : Stored) (leaf : NodeId)
+    (one : IsStoreOf L turns x leaf) (other : IsStoreOf L turns y leaf) (hands : WasInHands L turns x)
+    (hands' : WasInHands L turns y)
     (mid : List Turn) (at : other.put_in.before ≡ one.put_in.before ++ one.put_in.put ∷ mid) where
   abbrev so_far : List Turn
   so_far = one.put_in.before ++ one.put_in.put ∷ []

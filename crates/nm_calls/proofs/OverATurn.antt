@@ -35,13 +35,16 @@ use Rattle.nm_calls.proofs.ReachedNodes.{words_push}
 
 -- a turn alone
 none_in_one : (t : Turn) (s : ℕ) → (Contains (slots_of (nodes_cut_of t.outcome)) s → ⊥) → NoneCuts (t ∷ []) s
-none_in_one t s uncut [] since u is c = uncut (subst (λ (x : Turn). Contains (slots_of (nodes_cut_of x.outcome)) s) (sym (head is)) c)
+none_in_one t s uncut [] since u is c = uncut (subst (λ (x : Turn). Contains (slots_of (nodes_cut_of x.outcome)) s)
+    (sym (head is)) c)
   where
     head : {x y : Turn} {xs ys : List Turn} → x ∷ xs ≡ y ∷ ys → x ≡ y
     head e = cc
-none_in_one t s uncut (b ∷ before) since u is c = let long = ap (λ (l : List Turn). length l) is in let size = length-append before (u ∷ since) in omega (arith, long, size)
+none_in_one t s uncut (b ∷ before) since u is c = let long = ap (λ (l : List Turn). length l) is in
+    let size = length-append before (u ∷ since) in omega (arith, long, size)
 
-module _ (L : Layout) (fits : IsLayout L) (events : List (ℕ × Event)) (keys : All (λ t. HasKey t.1) events) (from : List Turn) (stores : List Stored) (held : HoldsStores L from (trace_in (ordered L) events) stores)
+module _ (L : Layout) (fits : IsLayout L) (events : List (ℕ × Event)) (keys : All (λ t. HasKey t.1) events)
+    (from : List Turn) (stores : List Stored) (held : HoldsStores L from (trace_in (ordered L) events) stores)
     (so_far rest : List Turn) (t : Turn) (are : trace_in (ordered L) events ≡ so_far ++ t ∷ rest)
     (k : ℕ) (there : InSet (words_after L so_far) k) (still : InSet (words_after L (so_far ++ t ∷ [])) k)
     (other : (ns : List NodeId) (s : IsWonSwap (words_after L so_far) t.event ns) → t.outcome ≡ Ok (Cut ns)
@@ -56,7 +59,8 @@ module _ (L : Layout) (fits : IsLayout L) (events : List (ℕ × Event)) (keys :
   e = head_of (after_in (ordered L) p.early) p.late t rest (sym p.rest_is)
 
   all_keys : All (λ t. HasKey t.1) (p.early ++ e.event ∷ e.others)
-  all_keys = subst (λ (ts : List (ℕ × Event)). All (λ t. HasKey t.1) ts) (p.all ∙ ap (λ (ts : List (ℕ × Event)). p.early ++ ts) e.all) keys
+  all_keys = subst (λ (ts : List (ℕ × Event)). All (λ t. HasKey t.1) ts)
+      (p.all ∙ ap (λ (ts : List (ℕ × Event)). p.early ++ ts) e.all) keys
 
   has : HasKey e.event.1
   has = later_keys p.early (e.event ∷ e.others) all_keys 0 e.event (omega arith)
@@ -70,19 +74,23 @@ module _ (L : Layout) (fits : IsLayout L) (events : List (ℕ × Event)) (keys :
   words_then : words_after L (so_far ++ t ∷ []) ≡ (next_in c e.event).state.memory
   unfolding trace_in
   words_then =
-      ap (words_after L) ((λ i. p.first_is i ++ e.turn_is i ∷ []) ∙ sym (trace_in-append (ordered L) p.early (e.event ∷ [])))
-      ∙ (run_words L fits true (p.early ++ e.event ∷ []) ∙ ap (λ (d : Configuration). d.state.memory) (one_more L (enough L fits) p.early e.event))
+      ap (words_after L) ((λ i. p.first_is i ++ e.turn_is i ∷ [])
+      ∙ sym (trace_in-append (ordered L) p.early (e.event ∷ [])))
+      ∙ (run_words L fits true (p.early ++ e.event ∷ [])
+      ∙ ap (λ (d : Configuration). d.state.memory) (one_more L (enough L fits) p.early e.event))
 
   set_of : (m n : Memory) → m ≡ n → InSet m k → InSet n k
   set_of m n is s = subst (λ (x : Memory). InSet x k) is s
 
   kept : NoneCuts (t ∷ []) there.slot
-  kept = none_in_one t there.slot (λ cut. by (cut_or_not L (enough L fits) c e.event has o there.slot (subst (λ (m : Memory). Reached m there.slot) words there.reached)) cut)
+  kept = none_in_one t there.slot (λ cut. by (cut_or_not L (enough L fits) c e.event has o there.slot
+      (subst (λ (m : Memory). Reached m there.slot) words there.reached)) cut)
     where
       by : CutOrNot L (enough L fits) c e.event there.slot → Contains (slots_of (nodes_cut_of t.outcome)) there.slot → ⊥
       by (StaysReached now) cut =
           let cuts = (each_run_has_it L fits true events keys).cuts so_far rest t are in
-          ((cuts.just there.slot).1 cut).gone (subst (λ (m : Memory). Reached m there.slot) (sym words_then ∙ words_push (opening L) so_far t) now)
+          ((cuts.just there.slot).1 cut).gone (subst (λ (m : Memory). Reached m there.slot)
+          (sym words_then ∙ words_push (opening L) so_far t) now)
       by (IsCutNow ns is among gone) cut =
           let won = (λ i. (e.turn_is i).outcome) ∙ is in
           elim (((each_run_has_it L fits true events keys).cuts so_far rest t are).splices ns won) [
@@ -96,7 +104,8 @@ module _ (L : Layout) (fits : IsLayout L) (events : List (ℕ × Event)) (keys :
               → e.event.1 ≡ Splice a side s p keep → ⊥
           by_splice ns is among event =
               let after = (cut_takes L (enough L fits) c e.event has o ns is (ap is_splice event)).now k in
-              (after.0 (set_of (words_after L (so_far ++ t ∷ [])) (next_in c e.event).state.memory words_then still)).1 (record {
+              (after.0 (set_of (words_after L (so_far ++ t ∷ [])) (next_in c e.event).state.memory words_then
+              still)).1 (record {
                 leaf = named c.state.memory there.slot;
                 among = among;
                 childless = ap (λ (m : Memory). is_leaf (node m there.slot)) (sym words) ∙ there.leaf;
@@ -116,8 +125,19 @@ module _ (L : Layout) (fits : IsLayout L) (events : List (ℕ × Event)) (keys :
   pub same_over_turn : IsInMap L so_far stores k (value_at (length (so_far ++ t ∷ [])) stores still.slot)
   same_over_turn =
       let was : IsInMap L so_far stores k (value_at (length so_far) stores there.slot)
-      = record { slot = there.slot; reached = there.reached; leaf = there.leaf; has_key = there.has_key; has_value = refl } in
+      = record {
+        slot = there.slot;
+        reached = there.reached;
+        leaf = there.leaf;
+        has_key = there.has_key;
+        has_value =
+            refl;
+      } in
       let stays : StaysInMap L so_far (t ∷ []) stores k (value_at (length so_far) stores there.slot) was
-      = leaves_keep_their_values L fits events keys so_far (t ∷ []) rest are stores from held k (value_at (length so_far) stores there.slot) was kept in
-      let same = one_slot L fits events keys (so_far ++ t ∷ []) rest (are ∙ sym (append_assoc so_far (t ∷ []) rest)) stays.now.slot still.slot stays.now.reached still.reached stays.now.leaf still.leaf (stays.now.has_key ∙ sym still.has_key) in
-      subst (λ (v : ℕ). IsInMap L so_far stores k v) (sym stays.now.has_value ∙ ap (value_at (length (so_far ++ t ∷ [])) stores) same) was
+      = leaves_keep_their_values L fits events keys so_far (t ∷ []) rest are stores from held k
+      (value_at (length so_far) stores there.slot) was kept in
+      let same = one_slot L fits events keys (so_far ++ t ∷ []) rest (are ∙ sym (append_assoc so_far (t ∷ []) rest))
+      stays.now.slot still.slot stays.now.reached still.reached stays.now.leaf still.leaf
+      (stays.now.has_key ∙ sym still.has_key) in
+      subst (λ (v : ℕ). IsInMap L so_far stores k v)
+      (sym stays.now.has_value ∙ ap (value_at (length (so_far ++ t ∷ [])) stores) same) was

@@ -61,13 +61,16 @@ pub no_looks : (old : List Entry) → AddsLooks 0 old old
 no_looks old = record { looks = []; grown = sym (append-nil old); only = refl; few = omega arith }
 
 pub looks_in : {n : ℕ} (m : ℕ) (old new : List Entry) → n ≤ m → AddsLooks n old new → AddsLooks m old new
-looks_in m old new le a = let few = a.few in record { looks = a.looks; grown = a.grown; only = a.only; few = omega (arith, le, few) }
+looks_in m old new le a = let few = a.few in
+    record { looks = a.looks; grown = a.grown; only = a.only; few = omega (arith, le, few) }
 
-pub looks_then : {n m : ℕ} (old mid new : List Entry) → AddsLooks n old mid → AddsLooks m mid new → AddsLooks (n + m) old new
+pub looks_then : {n m : ℕ} (old mid new : List Entry) → AddsLooks n old mid → AddsLooks m mid new
+    → AddsLooks (n + m) old new
 looks_then {n} {m} old mid new a b = record {
   looks = a.looks ++ b.looks;
   grown = b.grown ∙ (ap (λ (l : List Entry). l ++ b.looks) a.grown ∙ append_assoc old a.looks b.looks);
-  only = list_all-append is_look a.looks b.looks ∙ and_from (list_all is_look a.looks) (list_all is_look b.looks) a.only b.only;
+  only = list_all-append is_look a.looks b.looks ∙ and_from (list_all is_look a.looks) (list_all is_look b.looks)
+      a.only b.only;
   few = let x = a.few in let y = b.few in let l = length-append a.looks b.looks in omega (arith, x, y, l);
 }
 
@@ -76,13 +79,21 @@ not_shorter p q a = let long = ap length a.grown in let sum =
     length-append p.view.log a.looks in omega (arith, long, sum)
 
 -- one look, and the three by which a node is read
-abbrev pub look_added : (p q : PassView) (x : ℕ) (side : Side) (e : Edge) → Stepped p q (Look x (EdgeOn side)) (EdgeIs e) → AddsLooks 1 p.view.log q.view.log
-look_added p q x side e step = record { looks = (Look x (EdgeOn side), EdgeIs e) ∷ []; grown = ap (λ (s : PassView). s.view.log) step; only = refl; few = omega arith }
+abbrev pub look_added : (p q : PassView) (x : ℕ) (side : Side) (e : Edge)
+    → Stepped p q (Look x (EdgeOn side)) (EdgeIs e) → AddsLooks 1 p.view.log q.view.log
+look_added p q x side e step = record {
+  looks = (Look x (EdgeOn side), EdgeIs e)
+      ∷ [];
+  grown = ap (λ (s : PassView). s.view.log) step;
+  only = refl;
+  few = omega arith;
+}
 
 -- ---- looks win nothing
 
 -- of none of them the test is true
-none_of : (test : Entry → Bool) → ((e : Entry) → is_look e ≡ true → test e ≡ false) → (looks : List Entry) → list_all is_look looks ≡ true → filter test looks ≡ []
+none_of : (test : Entry → Bool) → ((e : Entry) → is_look e ≡ true → test e ≡ false) → (looks : List Entry)
+    → list_all is_look looks ≡ true → filter test looks ≡ []
 none_of test fails [] only = refl
 none_of test fails (e ∷ es) only =
     let parts = and_parts (is_look e) (list_all is_look es) only in
@@ -104,17 +115,52 @@ looks_add {n} old new a =
 -- ---- a walk stays in the log
 
 module _ {n : ℕ} (p q : PassView) (a : AddsLooks n p.view.log q.view.log) where
-  pub part_still : (looks : List Entry) → IsPart looks (since_pin [] p.view.log) → IsPart looks (since_pin [] q.view.log)
+  pub part_still : (looks : List Entry) → IsPart looks (since_pin [] p.view.log)
+      → IsPart looks (since_pin [] q.view.log)
   part_still looks part = subst (IsPart looks) (sym (since_grows p.view.log q.view.log a)) (part_grows a.looks part)
 
   pub come_still : (m k slot : ℕ) → HasPassed m p.view.log k slot → HasPassed m q.view.log k slot
-  come_still m k slot c = (c.0, c.1, record { looks = c.2.looks; leads = c.2.leads; is_part = part_still c.2.looks c.2.is_part }, c.3)
+  come_still m k slot c = (
+    c.0,
+    c.1,
+    record {
+      looks = c.2.looks;
+      leads = c.2.leads;
+      is_part = part_still c.2.looks
+          c.2.is_part;
+    },
+    c.3,
+  )
 
   pub ended_still : (k : ℕ) (answer : Bool) → HasEndedSo p k answer → HasEndedSo q k answer
-  ended_still k answer e = (e.0, e.1, e.2, e.3, record { looks = e.4.looks; leads = e.4.leads; null = e.4.null; is_null = e.4.is_null; is_part = part_still _ e.4.is_part }, e.5)
+  ended_still k answer e = (
+    e.0,
+    e.1,
+    e.2,
+    e.3,
+    record {
+      looks = e.4.looks;
+      leads = e.4.leads;
+      null = e.4.null;
+      is_null = e.4.is_null;
+      is_part = part_still _ e.4.is_part;
+    },
+    e.5,
+  )
 
   pub ended_at_still : (k leaf : ℕ) → HasEndedAt p k leaf → HasEndedAt q k leaf
-  ended_at_still k leaf e = (e.0, e.1, record { looks = e.2.looks; leads = e.2.leads; null = e.2.null; is_null = e.2.is_null; is_part = part_still _ e.2.is_part })
+  ended_at_still k leaf e = (
+    e.0,
+    e.1,
+    record {
+      looks = e.2.looks;
+      leads = e.2.leads;
+      null = e.2.null;
+      is_null =
+          e.2.is_null;
+      is_part = part_still _ e.2.is_part;
+    },
+  )
 
 -- ---- the log after its first entries
 
@@ -204,14 +250,16 @@ comes_first_after n p q e step le some k = (
   omega arith,
 )
 
-pub comes_first : (p q : PassView) (e : Edge) → Stepped p q (Look 2 (EdgeOn Left)) (EdgeIs e) → e.slot ≢ 0 → (k : ℕ) → HasPassed 0 q.view.log k e.slot
+pub comes_first : (p q : PassView) (e : Edge) → Stepped p q (Look 2 (EdgeOn Left)) (EdgeIs e) → e.slot ≢ 0 → (k : ℕ)
+    → HasPassed 0 q.view.log k e.slot
 comes_first p q e step some k = (
   2,
   Left,
   record {
     looks = (Look 2 (EdgeOn Left), EdgeIs e) ∷ [];
     leads = begins e some;
-    is_part = subst (λ (log : List Entry). IsPart ((Look 2 (EdgeOn Left), EdgeIs e) ∷ []) (since_pin [] log)) (sym (ap (λ (s : PassView). s.view.log) step)) (first_look p.view.log e);
+    is_part = subst (λ (log : List Entry). IsPart ((Look 2 (EdgeOn Left), EdgeIs e) ∷ []) (since_pin [] log))
+        (sym (ap (λ (s : PassView). s.view.log) step)) (first_look p.view.log e);
   },
   omega arith,
 )
@@ -236,12 +284,31 @@ module _ (p q : PassView) (n k x : ℕ) (on : Onward) (r : Reads k x p.view.log 
   comes_on c some = (
     x,
     side_of k on.found,
-    record { looks = c.2.looks ++ walk_looks k x on; leads = leads_on c.2.leads on.found on.next some; is_part = looks_longer p.view.log q.view.log k x on r c.2.looks c.2.is_part },
+    record {
+      looks = c.2.looks ++ walk_looks k x on;
+      leads = leads_on c.2.leads on.found on.next some;
+      is_part =
+          looks_longer p.view.log q.view.log k x on r c.2.looks c.2.is_part;
+    },
     (let many = c.3 in let more = length-append c.2.looks (walk_looks k x on) in omega (arith, many, more)),
   )
 
   pub ends_so : HasPassed n p.view.log k x → on.next.slot ≡ 0 → HasEndedSo q k (on.found == k)
-  ends_so c null = (x, c.0, on.found, c.1, record { looks = c.2.looks; leads = c.2.leads; null = on.next; is_null = null; is_part = looks_longer p.view.log q.view.log k x on r c.2.looks c.2.is_part }, refl)
+  ends_so c null = (
+    x,
+    c.0,
+    on.found,
+    c.1,
+    record {
+      looks = c.2.looks;
+      leads = c.2.leads;
+      null = on.next;
+      is_null =
+          null;
+      is_part = looks_longer p.view.log q.view.log k x on r c.2.looks c.2.is_part;
+    },
+    refl,
+  )
 
 -- ---- the answer
 
@@ -258,18 +325,22 @@ events_of_trace c (t ∷ ts) = ap (λ (us : List (ℕ × Event)). t ∷ us) (eve
 
 pub as_events : (v : View) → HasSeen v → AreEvents v
 as_events v seen =
-    let same : events_of v.past ≡ seen.events = ap events_of seen.are ∙ events_of_trace (ordered v.layout) seen.events in
+    let same : events_of v.past ≡ seen.events = ap events_of seen.are
+    ∙ events_of_trace (ordered v.layout) seen.events in
     record {
       keys = subst (λ (ts : List (ℕ × Event)). All (λ t. HasKey t.1) ts) (sym same) seen.keys;
       are = seen.are ∙ ap (trace_in (ordered v.layout)) (sym same);
-      is_part = ap (λ (ts : List (ℕ × Event)). part_of v.number (trace_in (ordered v.layout) ts)) same ∙ (ap (part_of v.number) (sym seen.are) ∙ seen.is_part);
+      is_part = ap (λ (ts : List (ℕ × Event)). part_of v.number (trace_in (ordered v.layout) ts)) same
+          ∙ (ap (part_of v.number) (sym seen.are) ∙ seen.is_part);
     }
 
 -- the events of turns that go on
-pub events_go_on : (run earlier : List Turn) → (e : Extends run earlier) → events_of run ≡ events_of earlier ++ events_of e.more
+pub events_go_on : (run earlier : List Turn) → (e : Extends run earlier)
+    → events_of run ≡ events_of earlier ++ events_of e.more
 events_go_on run earlier e = ap events_of e.is ∙ map-append turn_of earlier e.more
 
-was_so_longer : (L : Layout) (past turns later : List Turn) (w k : ℕ) (answer : Bool) → Extends later turns → WasSoBehind L past turns w k answer → WasSoBehind L past later w k answer
+was_so_longer : (L : Layout) (past turns later : List Turn) (w k : ℕ) (answer : Bool) → Extends later turns
+    → WasSoBehind L past turns w k answer → WasSoBehind L past later w k answer
 was_so_longer L past turns later w k answer more was = record {
   so_far = was.so_far;
   rest = was.rest ++ more.more;
@@ -280,24 +351,37 @@ was_so_longer L past turns later w k answer more was = record {
 }
 
 -- a walk has ended under the pin that a has taken behind o, and q is where the worker has left it
-pub was_so : (o a p q : PassView) → HasSeen o.view → IsLayout o.view.layout → (epochs o).pin ≡ None → Continues o a → GoesOn a p → HasSeen p.view → TakesStep p q Leave Departed
+pub was_so : (o a p q : PassView) → HasSeen o.view → IsLayout o.view.layout → (epochs o).pin ≡ None → Continues o a
+    → GoesOn a p → HasSeen p.view → TakesStep p q Leave Departed
     → (k : ℕ) (answer : Bool) → IsKey k → HasEndedSo p k answer → WasSo o q k answer
 was_so o a p q first fits unpinned pinned walked mid leaves k answer key e =
     let same = same_then o a p pinned.same walked.same in
     let past = seen_through o a p pinned.past walked.past in
     let seen : AreEvents p.view = as_events p.view mid in
-    let grown : events_of p.view.past ≡ events_of o.view.past ++ events_of past.goes_on.more = events_go_on p.view.past o.view.past past.goes_on in
-    subst (λ (s : PassView). WasSoBehind s.view.layout o.view.past q.view.past s.view.number k answer) (sym (same_by_step p q Leave Departed leaves.step))
-    (was_so_longer p.view.layout o.view.past p.view.past q.view.past p.view.number k answer (seen_by_turn p q Leave Departed leaves.past).goes_on
-    (was_behind p.view.layout (subst IsLayout (sym (ap (λ (s : PassView). s.view.layout) same)) fits) (events_of o.view.past) (events_of p.view.past) o.view.past p.view.past (sym (length-map o.view.past turn_of)) seen.are p.view.number k answer
-    (subst (λ (s : PassView). WasSoSince s.view.layout (events_of o.view.past) (events_of p.view.past) s.view.number k answer) (sym same)
-    (subst (λ (b : Bool). WasSoSince o.view.layout (events_of o.view.past) (events_of p.view.past) o.view.number k b) (sym e.5)
-    (subst (λ (turns : List (ℕ × Event)). WasSoSince o.view.layout (events_of o.view.past) turns o.view.number k (e.2 == k)) (sym grown)
-    (walks_tell_of_their_pin o.view.layout (enough o.view.layout fits) o.view.number first.worker (events_of o.view.past) (events_of past.goes_on.more)
+    let grown : events_of p.view.past ≡ events_of o.view.past
+    ++ events_of past.goes_on.more = events_go_on p.view.past o.view.past past.goes_on in
+    subst (λ (s : PassView). WasSoBehind s.view.layout o.view.past q.view.past s.view.number k answer)
+    (sym (same_by_step p q Leave Departed leaves.step))
+    (was_so_longer p.view.layout o.view.past p.view.past q.view.past p.view.number k answer
+    (seen_by_turn p q Leave Departed leaves.past).goes_on
+    (was_behind p.view.layout (subst IsLayout (sym (ap (λ (s : PassView). s.view.layout) same)) fits)
+    (events_of o.view.past) (events_of p.view.past) o.view.past p.view.past (sym (length-map o.view.past turn_of))
+    seen.are p.view.number k answer
+    (subst (λ (s : PassView). WasSoSince s.view.layout (events_of o.view.past) (events_of p.view.past) s.view.number
+    k answer) (sym same)
+    (subst (λ (b : Bool). WasSoSince o.view.layout (events_of o.view.past) (events_of p.view.past) o.view.number k b)
+    (sym e.5)
+    (subst (λ (turns : List (ℕ × Event)). WasSoSince o.view.layout (events_of o.view.past) turns o.view.number k
+    (e.2 == k)) (sym grown)
+    (walks_tell_of_their_pin o.view.layout (enough o.view.layout fits) o.view.number first.worker
+    (events_of o.view.past) (events_of past.goes_on.more)
     (subst (λ (turns : List (ℕ × Event)). All (λ t. HasKey t.1) turns) grown seen.keys)
-    (subst (λ (l : List Entry). (known_by o.view.layout o.view.number l).brief.pin ≡ None) (sym (as_events o.view first).is_part) unpinned)
+    (subst (λ (l : List Entry). (known_by o.view.layout o.view.number l).brief.pin ≡ None)
+    (sym (as_events o.view first).is_part) unpinned)
     p.view.log
-    (ap (λ (turns : List (ℕ × Event)). part_of o.view.number (trace_in (ordered o.view.layout) turns)) (sym grown) ∙ subst (λ (s : PassView). part_of s.view.number (trace_in (ordered s.view.layout) (events_of p.view.past)) ≡ p.view.log) same seen.is_part)
+    (ap (λ (turns : List (ℕ × Event)). part_of o.view.number (trace_in (ordered o.view.layout) turns)) (sym grown)
+    ∙ subst (λ (s : PassView). part_of s.view.number (trace_in (ordered s.view.layout) (events_of p.view.past))
+    ≡ p.view.log) same seen.is_part)
     k e.0 e.1 e.3 e.2 (let le = key in omega (arith, le)) e.4))))))
 
 -- ---- the whole call
@@ -309,22 +393,28 @@ may_end e a p at only = may_leave p (ap (λ (b : Brief). b.unlabelled) only.epoc
     (only.flagged ∙ ap (λ (s : Search). s.flagged) at.begun)
 
 -- a pin, looks and a leave: what they add
-pub call_adds : (tries most : ℕ) (old new : List Entry) → LooksUnderPin tries most old new → Adds 0 0 0 (2 * tries + 1 + (most + 1)) old new
-call_adds tries most old new h = adds_then old h.pinned new (plain_pin_adds tries old h.pinned h.epoch h.pin) (adds_then h.pinned h.looked new (looks_add h.pinned h.looked h.looks) (adds_these _ h.looked new h.leaves))
+pub call_adds : (tries most : ℕ) (old new : List Entry) → LooksUnderPin tries most old new
+    → Adds 0 0 0 (2 * tries + 1 + (most + 1)) old new
+call_adds tries most old new h = adds_then old h.pinned new (plain_pin_adds tries old h.pinned h.epoch h.pin)
+    (adds_then h.pinned h.looked new (looks_add h.pinned h.looked h.looks) (adds_these _ h.looked new h.leaves))
 
 -- where there was no answer: each try of the pin was lost
-pub pin_missed : (gives_up : List Entry → List Entry → Type 0) (tries : ℕ) (old new : List Entry) → tries ≢ 0 → IsMoved Sight tries old new → PlainMissed gives_up tries old new
+pub pin_missed : (gives_up : List Entry → List Entry → Type 0) (tries : ℕ) (old new : List Entry) → tries ≢ 0
+    → IsMoved Sight tries old new → PlainMissed gives_up tries old new
 pin_missed gives_up zero old new some moved = absurd (some refl)
 pin_missed gives_up (suc t) old new some moved = inl moved
 
 -- or the walks gave up
-pub walks_missed : (gives_up : List Entry → List Entry → Type 0) (tries : ℕ) (old a z new : List Entry) (epoch : ℕ) → IsPinnedBy Sight tries old a epoch → gives_up a z → new ≡ z ++ (Leave, Departed) ∷ [] → PlainMissed gives_up tries old new
+pub walks_missed : (gives_up : List Entry → List Entry → Type 0) (tries : ℕ) (old a z new : List Entry) (epoch : ℕ)
+    → IsPinnedBy Sight tries old a epoch → gives_up a z → new ≡ z ++ (Leave, Departed) ∷ []
+    → PlainMissed gives_up tries old new
 walks_missed gives_up zero old a z new epoch pin gives leaves = let few = pin.3 in absurd (omega (arith, few))
 walks_missed gives_up (suc t) old a z new epoch pin gives leaves = inr (a, z, epoch, pin, gives, leaves)
 
 -- a call for the nearest key that has lost each try of its pin
 pub after_no_pin : (side : Side) (L : Layout) (tries k : ℕ) (o a : PassView) → tries ≢ 0
-    → Continues o a → IsMoved Sight tries o.view.log a.view.log → IsResting a → KeepsHands o a → AfterNear side L tries k o a (Err fault.Busy)
+    → Continues o a → IsMoved Sight tries o.view.log a.view.log → IsResting a → KeepsHands o a
+    → AfterNear side L tries k o a (Err fault.Busy)
 after_no_pin side L tries k o a some pinning moved rests kept =
     let added = plain_moved_adds tries o.view.log a.view.log moved in
     record {
@@ -346,17 +436,30 @@ pub after_walks : (side : Side) (L : Layout) (tries k epoch : ℕ) (o a p q : Pa
     → Continues o a → IsPinnedBy Sight tries o.view.log a.view.log epoch → KeepsHands o a
     → GoesOn a p → OnlyLooks a p → AddsLooks (tries * most_looks (reach L) 1) a.view.log p.view.log
     → TakesStep p q Leave Departed → IsResting q → KeepsHands p q
-    → IfOk r (WasNear side o q k) → IfErr r (λ e. GiveUp side L tries k a.view.log p.view.log) → IfErr r (λ e. e ≡ fault.Busy) → AfterNear side L tries k o q r
-after_walks side L tries k epoch o a p q r pinning pinned hands walked only looks leaves rests kept moment given_up busy =
-    let did : LooksUnderPin tries (tries * most_looks (reach L) 1) o.view.log q.view.log = record { pinned = a.view.log; epoch = epoch; pin = pinned; looked = p.view.log; looks = looks; leaves = ap (λ (s : PassView). s.view.log) leaves.step } in
+    → IfOk r (WasNear side o q k) → IfErr r (λ e. GiveUp side L tries k a.view.log p.view.log)
+    → IfErr r (λ e. e ≡ fault.Busy) → AfterNear side L tries k o q r
+after_walks side L tries k epoch o a p q r pinning pinned hands walked only looks leaves rests kept moment given_up
+    busy =
+    let did : LooksUnderPin tries (tries * most_looks (reach L) 1) o.view.log q.view.log =
+    record {
+      pinned = a.view.log;
+      epoch = epoch;
+      pin = pinned;
+      looked = p.view.log;
+      looks = looks;
+      leaves = ap
+          (λ (s : PassView). s.view.log) leaves.step;
+    } in
     let added = call_adds tries (tries * most_looks (reach L) 1) o.view.log q.view.log did in
     record {
       same = same_then o p q (same_then o a p pinning.same walked.same) (same_by_step p q Leave Departed leaves.step);
-      past = seen_through o p q (seen_through o a p pinning.past walked.past) (seen_by_turn p q Leave Departed leaves.past);
+      past = seen_through o p q (seen_through o a p pinning.past walked.past)
+          (seen_by_turn p q Leave Departed leaves.past);
       did = any_ok r did;
       moment = moment;
       busy = busy;
-      missed = IfErr-weaker r _ _ (λ e gives. walks_missed (GiveUp side L tries k) tries o.view.log a.view.log p.view.log q.view.log epoch pinned gives did.leaves) given_up;
+      missed = IfErr-weaker r _ _ (λ e gives. walks_missed (GiveUp side L tries k) tries o.view.log a.view.log
+          p.view.log q.view.log epoch pinned gives did.leaves) given_up;
       won = has_won _ _ added;
       uncut = cuts_none _ _ added;
       steps = (let few = added.steps in omega (arith, few));
@@ -369,4 +472,9 @@ after_walks side L tries k epoch o a p q r pinning pinned hands walked only look
     any_ok (Err e) did = tt
 
     looks_keep : KeepsHands a p
-    looks_keep = record { private = only.private; labelled = λ was. ap (λ (b : Brief). b.unlabelled) only.epochs ∙ was; ledgers = λ was. only.ledgers }
+    looks_keep = record {
+      private = only.private;
+      labelled = λ was. ap (λ (b : Brief). b.unlabelled) only.epochs
+          ∙ was;
+      ledgers = λ was. only.ledgers;
+    }

@@ -20,7 +20,8 @@ In (y ∷ ys) x = (y ≡ x) ⊎ In ys x
 
 pub in_filter : (p : MapAct → Bool) (xs : List MapAct) (x : MapAct) → In xs x → p x ≡ true → In (filter p xs) x
 in_filter p [] x at passes = at
-in_filter p (y ∷ ys) x (inl is) passes = subst (λ (b : Bool). In (cond b (y ∷ filter p ys) (filter p ys)) x) (sym (ap p is ∙ passes)) (inl is)
+in_filter p (y ∷ ys) x (inl is) passes = subst (λ (b : Bool). In (cond b (y ∷ filter p ys) (filter p ys)) x)
+    (sym (ap p is ∙ passes)) (inl is)
 in_filter p (y ∷ ys) x (inr at) passes = by (p y) (in_filter p ys x at passes)
   where
     by : (b : Bool) → In (filter p ys) x → In (cond b (y ∷ filter p ys) (filter p ys)) x
@@ -31,7 +32,8 @@ pub from_filter : (p : MapAct → Bool) (xs : List MapAct) (x : MapAct) → In (
 from_filter p [] x at = absurd at
 from_filter p (y ∷ ys) x at = by (p y) refl at (from_filter p ys x)
   where
-    by : (b : Bool) → p y ≡ b → In (cond b (y ∷ filter p ys) (filter p ys)) x → (In (filter p ys) x → In ys x × (p x ≡ true)) → In (y ∷ ys) x × (p x ≡ true)
+    by : (b : Bool) → p y ≡ b → In (cond b (y ∷ filter p ys) (filter p ys)) x
+        → (In (filter p ys) x → In ys x × (p x ≡ true)) → In (y ∷ ys) x × (p x ≡ true)
     by true is (inl same) rest = (inl same, ap p (sym same) ∙ is)
     by true is (inr there) rest = let r = rest there in (inr r.0, r.1)
     by false is there rest = let r = rest there in (inr r.0, r.1)
@@ -68,25 +70,31 @@ pub filter_parts : (p : MapAct → Bool) (xs ys : List MapAct) → filter p (xs 
 filter_parts p [] ys = refl
 filter_parts p (x ∷ xs) ys = by (p x) (filter_parts p xs ys)
   where
-    by : (b : Bool) → filter p (xs ++ ys) ≡ filter p xs ++ filter p ys → cond b (x ∷ filter p (xs ++ ys)) (filter p (xs ++ ys)) ≡ cond b (x ∷ filter p xs) (filter p xs) ++ filter p ys
+    by : (b : Bool) → filter p (xs ++ ys) ≡ filter p xs ++ filter p ys
+        → cond b (x ∷ filter p (xs ++ ys)) (filter p (xs ++ ys)) ≡ cond b (x ∷ filter p xs) (filter p xs) ++ filter p ys
     by true rest = ap (λ (l : List MapAct). x ∷ l) rest
     by false rest = rest
 
-pub filter_twice : (p q : MapAct → Bool) (xs : List MapAct) → ((x : MapAct) → p x ≡ true → q x ≡ true) → filter p (filter q xs) ≡ filter p xs
+pub filter_twice : (p q : MapAct → Bool) (xs : List MapAct) → ((x : MapAct) → p x ≡ true → q x ≡ true)
+    → filter p (filter q xs) ≡ filter p xs
 filter_twice p q [] weaker = refl
 filter_twice p q (x ∷ xs) weaker = by (q x) refl (p x) refl (filter_twice p q xs weaker)
   where
-    by : (b : Bool) → q x ≡ b → (c : Bool) → p x ≡ c → filter p (filter q xs) ≡ filter p xs → filter p (cond b (x ∷ filter q xs) (filter q xs)) ≡ cond c (x ∷ filter p xs) (filter p xs)
-    by true is c has rest = ap (λ (d : Bool). cond d (x ∷ filter p (filter q xs)) (filter p (filter q xs))) has ∙ ap (λ (l : List MapAct). cond c (x ∷ l) l) rest
+    by : (b : Bool) → q x ≡ b → (c : Bool) → p x ≡ c → filter p (filter q xs) ≡ filter p xs
+        → filter p (cond b (x ∷ filter q xs) (filter q xs)) ≡ cond c (x ∷ filter p xs) (filter p xs)
+    by true is c has rest = ap (λ (d : Bool). cond d (x ∷ filter p (filter q xs)) (filter p (filter q xs))) has
+        ∙ ap (λ (l : List MapAct). cond c (x ∷ l) l) rest
     by false is true has rest = absurd (true≢false (sym (weaker x has) ∙ is))
     by false is false has rest = rest
 
-pub map_filter : (p : Act → Bool) (xs : List MapAct) → map act_of (filter (λ (x : MapAct). p x.act) xs) ≡ filter p (map act_of xs)
+pub map_filter : (p : Act → Bool) (xs : List MapAct)
+    → map act_of (filter (λ (x : MapAct). p x.act) xs) ≡ filter p (map act_of xs)
 map_filter p [] = refl
 map_filter p (x ∷ xs) = by (p x.act) (map_filter p xs)
   where
     by : (b : Bool) → map act_of (filter (λ (y : MapAct). p y.act) xs) ≡ filter p (map act_of xs)
-        → map act_of (cond b (x ∷ filter (λ (y : MapAct). p y.act) xs) (filter (λ (y : MapAct). p y.act) xs)) ≡ cond b (x.act ∷ filter p (map act_of xs)) (filter p (map act_of xs))
+        → map act_of (cond b (x ∷ filter (λ (y : MapAct). p y.act) xs) (filter (λ (y : MapAct). p y.act) xs))
+        ≡ cond b (x.act ∷ filter p (map act_of xs)) (filter p (map act_of xs))
     by true rest = ap (λ (l : List Act). x.act ∷ l) rest
     by false rest = rest
 
@@ -149,7 +157,8 @@ split_in (y ∷ ys) x (inr at) = let r = split_in ys x at in (y ∷ r.0, r.1, ap
 
 pub none_kept : (p : MapAct → Bool) (xs : List MapAct) → ((x : MapAct) → In xs x → p x ≡ false) → filter p xs ≡ []
 none_kept p [] none' = refl
-none_kept p (x ∷ xs) none' = ap (λ (b : Bool). cond b (x ∷ filter p xs) (filter p xs)) (none' x (inl refl)) ∙ none_kept p xs (λ y at. none' y (inr at))
+none_kept p (x ∷ xs) none' = ap (λ (b : Bool). cond b (x ∷ filter p xs) (filter p xs)) (none' x (inl refl))
+    ∙ none_kept p xs (λ y at. none' y (inr at))
 
 pub all_kept : (p : MapAct → Bool) (xs : List MapAct) → ((x : MapAct) → In xs x → p x ≡ true) → filter p xs ≡ xs
 all_kept p [] each = refl
@@ -163,11 +172,14 @@ abbrev pub Changes : ℕ → MapAct → Type 0
 Changes k x = ((is_plain x ≡ false) ⊎ (((x.act.op ≡ Insert) ⊎ (x.act.op ≡ Delete)) × (x.act.answer ≡ true)))
     × (x.act.key ≡ k)
 
-untouched_by_call : (m : PlainMap) (k : ℕ) (op : Op) (j : ℕ) (answer : Bool) (v : ℕ) → ((((op ≡ Insert) ⊎ (op ≡ Delete)) × (answer ≡ true)) × (j ≡ k) → ⊥) → map_changed m op j answer v k ≡ m k
+untouched_by_call : (m : PlainMap) (k : ℕ) (op : Op) (j : ℕ) (answer : Bool) (v : ℕ)
+    → ((((op ≡ Insert) ⊎ (op ≡ Delete)) × (answer ≡ true)) × (j ≡ k) → ⊥) → map_changed m op j answer v k ≡ m k
 untouched_by_call m k Has j answer v none' = refl
-untouched_by_call m k Insert j true v none' = ap (λ (b : Bool). cond b (Some v) (m k)) (ne_eqb k j (λ e. none' ((inl refl, refl), sym e)))
+untouched_by_call m k Insert j true v none' = ap (λ (b : Bool). cond b (Some v) (m k))
+    (ne_eqb k j (λ e. none' ((inl refl, refl), sym e)))
 untouched_by_call m k Insert j false v none' = refl
-untouched_by_call m k Delete j true v none' = ap (λ (b : Bool). cond b None (m k)) (ne_eqb k j (λ e. none' ((inr refl, refl), sym e)))
+untouched_by_call m k Delete j true v none' = ap (λ (b : Bool). cond b None (m k))
+    (ne_eqb k j (λ e. none' ((inr refl, refl), sym e)))
 untouched_by_call m k Delete j false v none' = refl
 
 untouched_by_one : (m : PlainMap) (k : ℕ) (x : MapAct) → (Changes k x → ⊥) → map_then m x k ≡ m k
@@ -186,10 +198,12 @@ untouched [] m k none' = refl
 untouched (x ∷ xs) m k none' =
     untouched xs (map_then m x) k (λ y at. none' y (inr at)) ∙ untouched_by_one m k x (none' x (inl refl))
 
-put_by_call : (m : PlainMap) (k : ℕ) (op : Op) (j : ℕ) (answer : Bool) (v : ℕ) → op ≡ Insert → answer ≡ true → j ≡ k → map_changed m op j answer v k ≡ Some v
+put_by_call : (m : PlainMap) (k : ℕ) (op : Op) (j : ℕ) (answer : Bool) (v : ℕ) → op ≡ Insert → answer ≡ true → j ≡ k
+    → map_changed m op j answer v k ≡ Some v
 put_by_call m k op j answer v o t e =
     subst (λ (p : Op). map_changed m p j answer v k ≡ Some v) (sym o)
-    (subst (λ (b : Bool). map_changed m Insert j b v k ≡ Some v) (sym t) (ap (λ (b : Bool). cond b (Some v) (m k)) (eq-eqb k j (sym e))))
+    (subst (λ (b : Bool). map_changed m Insert j b v k ≡ Some v) (sym t)
+    (ap (λ (b : Bool). cond b (Some v) (m k)) (eq-eqb k j (sym e))))
 
 put_by_one : (m : PlainMap) (k : ℕ) (x : MapAct) (v : ℕ) → PutsThere x v → x.act.key ≡ k → map_then m x k ≡ Some v
 put_by_one m k x v (inl (left, o, t, is)) e =
@@ -199,21 +213,25 @@ put_by_one m k x v (inr left) e =
     ap (λ (l : Option ℕ). map_left m l x.act x.value k) left
     ∙ ap (λ (b : Bool). cond b (Some v) (m k)) (eq-eqb k x.act.key (sym e))
 
-taken_by_one : (m : PlainMap) (k : ℕ) (x : MapAct) → x.left ≡ None → x.act.op ≡ Delete → x.act.answer ≡ true → x.act.key ≡ k → map_then m x k ≡ None
+taken_by_one : (m : PlainMap) (k : ℕ) (x : MapAct) → x.left ≡ None → x.act.op ≡ Delete → x.act.answer ≡ true
+    → x.act.key ≡ k → map_then m x k ≡ None
 taken_by_one m k x left o t e =
     ap (λ (l : Option ℕ). map_left m l x.act x.value k) left
     ∙ subst (λ (p : Op). map_changed m p x.act.key x.act.answer x.value k ≡ None) (sym o)
-    (subst (λ (b : Bool). map_changed m Delete x.act.key b x.value k ≡ None) (sym t) (ap (λ (b : Bool). cond b None (m k)) (eq-eqb k x.act.key (sym e))))
+    (subst (λ (b : Bool). map_changed m Delete x.act.key b x.value k ≡ None) (sym t)
+    (ap (λ (b : Bool). cond b None (m k)) (eq-eqb k x.act.key (sym e))))
 
 -- the last act that puts a value under a key that no later act changes
-pub put_last : (front back : List MapAct) (a : MapAct) (m : PlainMap) (k v : ℕ) → PutsThere a v → a.act.key ≡ k → NoneChanges k back → map_after m (front ++ a ∷ back) k ≡ Some v
+pub put_last : (front back : List MapAct) (a : MapAct) (m : PlainMap) (k v : ℕ) → PutsThere a v → a.act.key ≡ k
+    → NoneChanges k back → map_after m (front ++ a ∷ back) k ≡ Some v
 put_last [] back a m k v puts e none' = untouched back (map_then m a) k none' ∙ put_by_one m k a v puts e
 put_last (x ∷ front) back a m k v puts e none' = put_last front back a (map_then m x) k v puts e none'
 
 -- what a key has after these acts: what it had, what the last one put there, or nothing after a delete
 pub data Last (xs : List MapAct) (m : PlainMap) (k : ℕ) : Type 0 where
   Untouched : NoneChanges k xs → Last xs m k
-  Put : (front back : List MapAct) (a : MapAct) (v : ℕ) → xs ≡ front ++ a ∷ back → PutsThere a v → a.act.key ≡ k → NoneChanges k back → Last xs m k
+  Put : (front back : List MapAct) (a : MapAct) (v : ℕ) → xs ≡ front ++ a ∷ back → PutsThere a v → a.act.key ≡ k
+      → NoneChanges k back → Last xs m k
   Taken : map_after m xs k ≡ None → Last xs m k
 
 -- what an act does to what is under a key
@@ -275,13 +293,15 @@ Agree S m = (k : ℕ) → IsKey k → (S k → (v : ℕ) × (m k ≡ Some v)) ×
 pub agree_empty : Agree nothing no_map
 agree_empty k is_key = (λ there. absurd there, λ v is. none-some v is)
 
-agree_step : (S : ℕ → Type 0) (m : PlainMap) (op : Op) (j : ℕ) (answer : Bool) (v : ℕ) → Agree S m → Agree (changed S op j answer) (map_changed m op j answer v)
+agree_step : (S : ℕ → Type 0) (m : PlainMap) (op : Op) (j : ℕ) (answer : Bool) (v : ℕ) → Agree S m
+    → Agree (changed S op j answer) (map_changed m op j answer v)
 agree_step S m Has j answer v agree k is_key = agree k is_key
 agree_step S m Insert j false v agree k is_key = agree k is_key
 agree_step S m Delete j false v agree k is_key = agree k is_key
 agree_step S m Insert j true v agree k is_key = by (k == j) refl
   where
-    by : (b : Bool) → (k == j) ≡ b → (S k ⊎ (k ≡ j) → (u : ℕ) × (cond b (Some v) (m k) ≡ Some u)) × ((u : ℕ) → cond b (Some v) (m k) ≡ Some u → S k ⊎ (k ≡ j))
+    by : (b : Bool) → (k == j) ≡ b → (S k ⊎ (k ≡ j) → (u : ℕ) × (cond b (Some v) (m k) ≡ Some u))
+        × ((u : ℕ) → cond b (Some v) (m k) ≡ Some u → S k ⊎ (k ≡ j))
     by true is = (λ there. (v, refl), λ u e. inr (eqb-true k j is))
     by false is = (there_then, λ u e. inl ((agree k is_key).1 u e))
       where
@@ -290,12 +310,18 @@ agree_step S m Insert j true v agree k is_key = by (k == j) refl
         there_then (inr same) = absurd (true≢false (sym (eq-eqb k j same) ∙ is))
 agree_step S m Delete j true v agree k is_key = by (k == j) refl
   where
-    by : (b : Bool) → (k == j) ≡ b → (S k × (k ≡ j → ⊥) → (u : ℕ) × (cond b None (m k) ≡ Some u)) × ((u : ℕ) → cond b None (m k) ≡ Some u → S k × (k ≡ j → ⊥))
+    by : (b : Bool) → (k == j) ≡ b → (S k × (k ≡ j → ⊥) → (u : ℕ) × (cond b None (m k) ≡ Some u))
+        × ((u : ℕ) → cond b None (m k) ≡ Some u → S k × (k ≡ j → ⊥))
     by true is = (λ there. absurd (there.1 (eqb-true k j is)), λ u e. absurd (none-some u e))
-    by false is = (λ there. (agree k is_key).0 there.0, λ u e. ((agree k is_key).1 u e, λ same. true≢false (sym (eq-eqb k j same) ∙ is)))
+    by false is = (
+      λ there. (agree k is_key).0 there.0,
+      λ u e.
+          ((agree k is_key).1 u e, λ same. true≢false (sym (eq-eqb k j same) ∙ is)),
+    )
 
 -- a put of a key that is there
-pub agree_put : (S : ℕ → Type 0) (m : PlainMap) (a : Act) (old new : ℕ) → S a.key → Agree S m → Agree S (map_left m (Some new) a old)
+pub agree_put : (S : ℕ → Type 0) (m : PlainMap) (a : Act) (old new : ℕ) → S a.key → Agree S m
+    → Agree S (map_left m (Some new) a old)
 agree_put S m a old new has agree k is_key = by (k == a.key) refl
   where
     by : (b : Bool) → (k == a.key) ≡ b → (S k → (u : ℕ) × (cond b (Some new) (m k) ≡ Some u))
@@ -312,13 +338,17 @@ none_of m k out = go (m k) refl
     go None is = refl
     go (Some v) is = absurd (out v is)
 
-value_for : (S : ℕ → Type 0) (m : PlainMap) (op : Op) (j : ℕ) (answer : Bool) (put : ℕ) → Agree S m → IsKey j → Gives S op j answer → (v : ℕ) × (m j ≡ found_by op answer v) × (op ≡ Insert → answer ≡ true → v ≡ put)
+value_for : (S : ℕ → Type 0) (m : PlainMap) (op : Op) (j : ℕ) (answer : Bool) (put : ℕ) → Agree S m → IsKey j
+    → Gives S op j answer → (v : ℕ) × (m j ≡ found_by op answer v) × (op ≡ Insert → answer ≡ true → v ≡ put)
 value_for S m Has j true put agree is_key gives = let r = (agree j is_key).0 gives in (r.0, r.1, λ o t. cc)
 value_for S m Has j false put agree is_key gives = (0, none_of m j (λ v is. gives ((agree j is_key).1 v is)), λ o t. cc)
-value_for S m Insert j true put agree is_key gives = (put, none_of m j (λ v is. gives ((agree j is_key).1 v is)), λ o t. refl)
-value_for S m Insert j false put agree is_key gives = let r = (agree j is_key).0 gives in (r.0, r.1, λ o t. absurd (true≢false (sym t)))
+value_for S m Insert j true put agree is_key gives =
+    (put, none_of m j (λ v is. gives ((agree j is_key).1 v is)), λ o t. refl)
+value_for S m Insert j false put agree is_key gives = let r = (agree j is_key).0 gives in
+    (r.0, r.1, λ o t. absurd (true≢false (sym t)))
 value_for S m Delete j true put agree is_key gives = let r = (agree j is_key).0 gives in (r.0, r.1, λ o t. cc)
-value_for S m Delete j false put agree is_key gives = (0, none_of m j (λ v is. gives ((agree j is_key).1 v is)), λ o t. cc)
+value_for S m Delete j false put agree is_key gives =
+    (0, none_of m j (λ v is. gives ((agree j is_key).1 v is)), λ o t. cc)
 
 -- the acts of a plain set with values, of which those of the inserts are given. After them the map has
 -- the keys of the set
@@ -330,21 +360,29 @@ pub record Valued (m : PlainMap) (acts : List Act) (last : ℕ → Type 0) (Good
   pub good : (x : MapAct) → In xs x → x.act.op ≡ Insert → x.act.answer ≡ true → Good x.act x.value
   pub agree : Agree last (map_after m xs)
 
-pub valued : (Good : Act → ℕ → Type 0) (acts : List Act) (S last : ℕ → Type 0) (m : PlainMap) → Agree S m → Replays S acts last → ((a : Act) → IsAmong acts a → (v : ℕ) × Good a v) → Valued m acts last Good
+pub valued : (Good : Act → ℕ → Type 0) (acts : List Act) (S last : ℕ → Type 0) (m : PlainMap) → Agree S m
+    → Replays S acts last → ((a : Act) → IsAmong acts a → (v : ℕ) × Good a v) → Valued m acts last Good
 valued Good [] S last m agree r puts = record {
   xs = [];
   are = refl;
   plain = λ x at. absurd at;
   gives = tt;
   good = λ x at. absurd at;
-  agree = λ k is_key. (λ there. (agree k is_key).0 ((r k is_key).1 there), λ v is. (r k is_key).0 ((agree k is_key).1 v is));
+  agree = λ k is_key. (
+    λ there. (agree k is_key).0 ((r k is_key).1 there),
+    λ v is. (r k is_key).0
+        ((agree k is_key).1 v is),
+  );
 }
 valued Good (a ∷ acts) S last m agree r puts =
     let p = puts a (inl refl) in
     let v = value_for S m a.op a.key a.answer p.0 agree r.0 r.1 in
-    with_rest p v (valued Good acts (changed S a.op a.key a.answer) last (map_changed m a.op a.key a.answer v.0) (agree_step S m a.op a.key a.answer v.0 agree) r.2 (λ b among. puts b (inr among)))
+    with_rest p v (valued Good acts (changed S a.op a.key a.answer) last (map_changed m a.op a.key a.answer v.0)
+    (agree_step S m a.op a.key a.answer v.0 agree) r.2 (λ b among. puts b (inr among)))
   where
-    with_rest : (p : (v : ℕ) × Good a v) → (v : (u : ℕ) × (m a.key ≡ found_by a.op a.answer u) × (a.op ≡ Insert → a.answer ≡ true → u ≡ p.0)) → Valued (map_changed m a.op a.key a.answer v.0) acts last Good → Valued m (a ∷ acts) last Good
+    with_rest : (p : (v : ℕ) × Good a v) → (v : (u : ℕ) × (m a.key ≡ found_by a.op a.answer u)
+        × (a.op ≡ Insert → a.answer ≡ true → u ≡ p.0)) → Valued (map_changed m a.op a.key a.answer v.0) acts last Good
+        → Valued m (a ∷ acts) last Good
     with_rest p v rest = record {
       xs = record { act = a; value = v.0; left = None } ∷ rest.xs;
       are = ap (λ (l : List Act). a ∷ l) rest.are;
@@ -358,24 +396,29 @@ valued Good (a ∷ acts) S last m agree r puts =
         each_plain x (inl is) = ap (λ (y : MapAct). y.left) (sym is)
         each_plain x (inr at) = rest.plain x at
 
-        each : (x : MapAct) → In (record { act = a; value = v.0; left = None } ∷ rest.xs) x → x.act.op ≡ Insert → x.act.answer ≡ true → Good x.act x.value
-        each x (inl is) = subst (λ (y : MapAct). y.act.op ≡ Insert → y.act.answer ≡ true → Good y.act y.value) is (λ o t. subst (Good a) (sym (v.2 o t)) p.1)
+        each : (x : MapAct) → In (record { act = a; value = v.0; left = None } ∷ rest.xs) x → x.act.op ≡ Insert
+            → x.act.answer ≡ true → Good x.act x.value
+        each x (inl is) = subst (λ (y : MapAct). y.act.op ≡ Insert → y.act.answer ≡ true → Good y.act y.value) is
+            (λ o t. subst (Good a) (sym (v.2 o t)) p.1)
         each x (inr at) = rest.good x at
 
 -- what the map has under the key of an act right before it
-pub gives_at : (front back : List MapAct) (x : MapAct) (m : PlainMap) → GivesEach m (front ++ x ∷ back) → map_after m front x.act.key ≡ found_by x.act.op x.act.answer x.value
+pub gives_at : (front back : List MapAct) (x : MapAct) (m : PlainMap) → GivesEach m (front ++ x ∷ back)
+    → map_after m front x.act.key ≡ found_by x.act.op x.act.answer x.value
 gives_at [] back x m g = g.0
 gives_at (y ∷ front) back x m g = gives_at front back x (map_then m y) g.1
 
 -- each act of a plain set is for a key
-pub keys_of_acts : (acts : List Act) (S last : ℕ → Type 0) → Replays S acts last → (a : Act) → IsAmong acts a → IsKey a.key
+pub keys_of_acts : (acts : List Act) (S last : ℕ → Type 0) → Replays S acts last → (a : Act) → IsAmong acts a
+    → IsKey a.key
 keys_of_acts [] S last r a among = absurd among
 keys_of_acts (b ∷ acts) S last r a (inl is) = subst (λ (c : Act). IsKey c.key) is r.0
 keys_of_acts (b ∷ acts) S last r a (inr among) = keys_of_acts acts (changed S b.op b.key b.answer) last r.2 a among
 
 -- ---- lists joined
 
-pub gives_join : (xs ys : List MapAct) (m : PlainMap) → GivesEach m xs → GivesEach (map_after m xs) ys → GivesEach m (xs ++ ys)
+pub gives_join : (xs ys : List MapAct) (m : PlainMap) → GivesEach m xs → GivesEach (map_after m xs) ys
+    → GivesEach m (xs ++ ys)
 gives_join [] ys m g h = h
 gives_join (x ∷ xs) ys m g h = (g.0, gives_join xs ys (map_then m x) g.1 h)
 

@@ -42,20 +42,31 @@ use Rattle.nm_walks.proofs.Looks.{enough}
 use Rattle.nm_walks.proofs.WholeCleanups.{right_true}
 
 -- a walk behind the flag ended at another leaf
-pub elsewhere_shows : (p q : PassView) (k : ℕ) (n : NodeId) (leaf parent v : ℕ) (side : Side) → IsRemoving p k n → (search q).flagged ≡ (search p).flagged → HasFound p q k leaf parent side v → leaf ≢ n.slot → ShowsAnswer q Delete k true
+pub elsewhere_shows : (p q : PassView) (k : ℕ) (n : NodeId) (leaf parent v : ℕ) (side : Side) → IsRemoving p k n
+    → (search q).flagged ≡ (search p).flagged → HasFound p q k leaf parent side v → leaf ≢ n.slot
+    → ShowsAnswer q Delete k true
 elsewhere_shows p q k n leaf parent v side r flagged found other =
     (n, flagged ∙ r.flagged, inr (leaf, v, other, (parent, side, found TheFlag (Delete, r.call, ap is_some r.flagged))))
 
 -- a walk behind the flag that ends at the flagged leaf came there by a flagged edge
-pub found_flagged : (p q : PassView) (k : ℕ) (n : NodeId) (leaf parent v : ℕ) (side : Side) → IsRemoving p k n → IsInRun q → (search q).flagged ≡ (search p).flagged → HasFound p q k leaf parent side v → leaf ≡ n.slot → Tells q (IsFlagged parent side n.slot)
+pub found_flagged : (p q : PassView) (k : ℕ) (n : NodeId) (leaf parent v : ℕ) (side : Side) → IsRemoving p k n
+    → IsInRun q → (search q).flagged ≡ (search p).flagged → HasFound p q k leaf parent side v → leaf ≡ n.slot
+    → Tells q (IsFlagged parent side n.slot)
 found_flagged p q k n leaf parent v side r run flagged found is =
     let ended = found TheFlag (Delete, r.call, ap is_some r.flagged) in
-    later_walks_find q.view.layout (enough q.view.layout run.fits) q.view.number q.view.log run.run.is_part n k parent side (flagged ∙ r.flagged) (subst (λ (x : ℕ). Tells q (Came TheFlag k x parent side)) is ended.0)
+    later_walks_find q.view.layout (enough q.view.layout run.fits) q.view.number q.view.log run.run.is_part n k
+    parent side (flagged ∙ r.flagged) (subst (λ (x : ℕ). Tells q (Came TheFlag k x parent side)) is ended.0)
 
 -- a cleanup at the flagged edge cut the leaf off
-pub cleanup_shows : (p q : PassView) (s : SeekRecord) (c : List ChainEdge) (es fs : List Waiting) (k : ℕ) (n : NodeId) → HasCleaned s c p q es fs → (search p).flagged ≡ Some n → (search q).flagged ≡ (search p).flagged → Tells p (IsFlagged s.parent s.side n.slot) → Tells p (IsBorn n.slot n.birth) → ShowsAnswer q Delete k true
-cleanup_shows p q s c es fs k n cleaned flagged same edge born =
-    (n, same ∙ flagged, inl (cleaned.cut ∙ right_true (search p).cut (is_flagged_in (search p).flagged cleaned.nodes) (ap (λ (o : Option NodeId). is_flagged_in o cleaned.nodes) flagged ∙ cleaned.leaf n.slot n.birth edge born)))
+pub cleanup_shows : (p q : PassView) (s : SeekRecord) (c : List ChainEdge) (es fs : List Waiting) (k : ℕ)
+    (n : NodeId) → HasCleaned s c p q es fs → (search p).flagged ≡ Some n → (search q).flagged ≡ (search p).flagged
+    → Tells p (IsFlagged s.parent s.side n.slot) → Tells p (IsBorn n.slot n.birth) → ShowsAnswer q Delete k true
+cleanup_shows p q s c es fs k n cleaned flagged same edge born = (
+  n,
+  same ∙ flagged,
+  inl (cleaned.cut ∙ right_true (search p).cut (is_flagged_in (search p).flagged cleaned.nodes)
+      (ap (λ (o : Option NodeId). is_flagged_in o cleaned.nodes) flagged ∙ cleaned.leaf n.slot n.birth edge born)),
+)
 
 -- ---- from try to try
 
@@ -84,7 +95,8 @@ injects_then o p q same a b = record {
   ledgers = ledgers_then o p q same a.ledgers b.ledgers;
 }
 
-pub removing_on : (p q : PassView) (k : ℕ) (n : NodeId) → IsRemoving p k n → GoesOn p q → OnlyCleans p q → IsRemoving q k n
+pub removing_on : (p q : PassView) (k : ℕ) (n : NodeId) → IsRemoving p k n → GoesOn p q → OnlyCleans p q
+    → IsRemoving q k n
 removing_on p q k n r on only = record {
   run = on.run;
   pinned = pinned_still p q on r.pinned;
@@ -98,7 +110,9 @@ removing_on p q k n r on only = record {
 
 -- ---- a flag
 
-pub to_be_flagged : (p q : PassView) (k : ℕ) (r : WalkEnd) (b : ℕ) → MayFlag p k r → GoesOn p q → OnlyLooks p q → Tells q (IsBorn r.seek_record.edge.slot b) → IsToBeFlagged q r.seek_record.parent r.seek_record.side r.seek_record.edge.slot
+pub to_be_flagged : (p q : PassView) (k : ℕ) (r : WalkEnd) (b : ℕ) → MayFlag p k r → GoesOn p q → OnlyLooks p q
+    → Tells q (IsBorn r.seek_record.edge.slot b) → IsToBeFlagged q r.seek_record.parent r.seek_record.side
+    r.seek_record.edge.slot
 to_be_flagged p q k r b may on only born = record {
   knows_parent = on.keeps (KnowsSlot r.seek_record.parent) may.parent;
   knows_leaf = on.keeps (KnowsSlot r.seek_record.edge.slot) may.known;
@@ -111,16 +125,26 @@ to_be_flagged p q k r b may on only born = record {
   unflagged = only.flagged ∙ may.unflagged;
 }
 
-pub has_flagged : (o p q : PassView) (r : WalkEnd) (b : ℕ) → p.view.log ≡ o.view.log ++ (Look r.seek_record.edge.slot Birth, BirthIs b) ∷ [] → Tells p (IsBorn r.seek_record.edge.slot b) → GoesOn p q → FlagWon p q r.seek_record.parent r.seek_record.side (leaf_of r b) → HasWonItsFlag o q r b
+pub has_flagged : (o p q : PassView) (r : WalkEnd) (b : ℕ)
+    → p.view.log ≡ o.view.log ++ (Look r.seek_record.edge.slot Birth, BirthIs b) ∷ []
+    → Tells p (IsBorn r.seek_record.edge.slot b) → GoesOn p q
+    → FlagWon p q r.seek_record.parent r.seek_record.side (leaf_of r b) → HasWonItsFlag o q r b
 has_flagged o p q r b looked born on won = record {
-  part = ap (λ (x : PassView). x.view.log) won.step ∙ ap (λ (log : List Entry). log ++ (Flag r.seek_record.parent r.seek_record.side r.seek_record.edge.slot, Flagged (leaf_of r b)) ∷ []) looked;
+  part = ap (λ (x : PassView). x.view.log) won.step
+      ∙ ap (λ (log : List Entry). log ++ (
+        Flag r.seek_record.parent r.seek_record.side r.seek_record.edge.slot,
+        Flagged
+            (leaf_of r b),
+      ) ∷ []) looked;
   flagged = won.flagged;
   edge = won.known;
   born = on.keeps (IsBorn r.seek_record.edge.slot b) born;
 }
 
 -- the same after a look at a value
-pub flagged_by_value : (o p q : PassView) (r : WalkEnd) (b : ℕ) → q ≡ record p { view = record p.view { past = q.view.past; stores = q.view.stores } } → GoesOn p q → HasWonItsFlag o p r b → HasWonItsFlag o q r b
+pub flagged_by_value : (o p q : PassView) (r : WalkEnd) (b : ℕ)
+    → q ≡ record p { view = record p.view { past = q.view.past; stores = q.view.stores } } → GoesOn p q
+    → HasWonItsFlag o p r b → HasWonItsFlag o q r b
 flagged_by_value o p q r b same on won = record {
   part = ap (λ (x : PassView). x.view.log) same ∙ won.part;
   flagged = ap (λ (x : PassView). (search x).flagged) same ∙ won.flagged;
@@ -128,8 +152,11 @@ flagged_by_value o p q r b same on won = record {
   born = on.keeps (IsBorn r.seek_record.edge.slot b) won.born;
 }
 
-pub may_flag_there : (p q : PassView) (k : ℕ) (L : Layout) (r : WalkEnd) (c : List ChainEdge) → q.view.layout ≡ L → Tells p (CallIs Delete k) → (search p).flagged ≡ None → k < infinity_0 → GoesOn p q → OnlyLooks p q → HasEnded (Tells q) L r.seek_record c
-    → (r.key < infinity_0 → 6 ≤ r.seek_record.edge.slot) → HasFound p q k r.seek_record.edge.slot r.seek_record.parent r.seek_record.side r.key → r.key ≡ k → MayFlag q k r
+pub may_flag_there : (p q : PassView) (k : ℕ) (L : Layout) (r : WalkEnd) (c : List ChainEdge) → q.view.layout ≡ L
+    → Tells p (CallIs Delete k) → (search p).flagged ≡ None → k < infinity_0 → GoesOn p q → OnlyLooks p q
+    → HasEnded (Tells q) L r.seek_record c
+    → (r.key < infinity_0 → 6 ≤ r.seek_record.edge.slot)
+    → HasFound p q k r.seek_record.edge.slot r.seek_record.parent r.seek_record.side r.key → r.key ≡ k → MayFlag q k r
 may_flag_there p q k L r c layout call unflagged low on only ended high found is = record {
   parent = ended.at.parent;
   known = ended.at.node;
@@ -137,13 +164,15 @@ may_flag_there p q k L r c layout call unflagged low on only ended high found is
   high = high (subst (λ (n : ℕ). n < infinity_0) (sym is) low);
   within = subst (λ (l : Layout). r.seek_record.edge.slot ≤ l.nodes) (sym layout) ended.within;
   call = on.keeps (CallIs Delete k) call;
-  ended = subst (λ (n : ℕ). Tells q (EndedAt ThePin k r.seek_record.edge.slot r.seek_record.parent r.seek_record.side n)) is (found ThePin (Delete, call));
+  ended = subst (λ (n : ℕ). Tells q (EndedAt ThePin k r.seek_record.edge.slot r.seek_record.parent r.seek_record.side
+      n)) is (found ThePin (Delete, call));
   unflagged = only.flagged ∙ unflagged;
 }
 
 -- ---- a flag that was won
 
-pub removing_from : (p q : PassView) (k : ℕ) (n : NodeId) → IsPinnedSomewhere p → IsPinnedForCall Delete k p → (epochs p).unlabelled ≡ false → GoesOn p q → OnlyInjects p q
+pub removing_from : (p q : PassView) (k : ℕ) (n : NodeId) → IsPinnedSomewhere p → IsPinnedForCall Delete k p
+    → (epochs p).unlabelled ≡ false → GoesOn p q → OnlyInjects p q
     → (search q).flagged ≡ Some n → Tells q (IsBorn n.slot n.birth) → IsRemoving q k n
 removing_from p q k n pin call labelled on only flagged born = record {
   run = on.run;
@@ -156,12 +185,15 @@ removing_from p q k n pin call labelled on only flagged born = record {
   labelled = only.labelled labelled;
 }
 
-pub removal_after : (L : Layout) (k : ℕ) (f : FlaggedLeaf) (c : List ChainEdge) (t : ℕ) (old mid new : List Entry) (m : Removal) → f.left ≡ t + 1 → CleanupLost f.end.seek_record c old mid → IsRemoval L k (leaf_of f.end f.birth) t mid new m → RemovalAfter L k f c old new m
+pub removal_after : (L : Layout) (k : ℕ) (f : FlaggedLeaf) (c : List ChainEdge) (t : ℕ) (old mid new : List Entry)
+    (m : Removal) → f.left ≡ t + 1 → CleanupLost f.end.seek_record c old mid
+    → IsRemoval L k (leaf_of f.end f.birth) t mid new m → RemovalAfter L k f c old new m
 removal_after L k f c t old mid new removal.Removed is lost h = inr (t, mid, is, lost, h)
 removal_after L k f c t old mid new removal.Refused is lost h = inr (t, mid, is, lost, h)
 removal_after L k f c t old mid new removal.Spent is lost h = inr (t, mid, is, lost, h)
 
-pub delete_did : (L : Layout) (tries k : ℕ) (old new : List Entry) (r : Result Deletion CallFault) → PinsForDelete L tries k old new r → DeleteDid L tries k old new r
+pub delete_did : (L : Layout) (tries k : ℕ) (old new : List Entry) (r : Result Deletion CallFault)
+    → PinsForDelete L tries k old new r → DeleteDid L tries k old new r
 delete_did L tries k old new (Ok d) h = h
 delete_did L tries k old new (Err fault.Busy) h = inr (inr h)
 delete_did L tries k old new (Err fault.NoMemory) h = inr h
@@ -171,11 +203,14 @@ delete_did L tries k old new (Err fault.Pending) h = h
 delete_did L tries k old new (Err fault.Pinned) h = h
 
 -- why it gave up, seen from before its pin
-pub lacks_room : (L : Layout) (tries k : ℕ) (old pinned new : List Entry) (epoch spare : ℕ) (r : Result Deletion CallFault) → IsPinnedBy (SightFor Delete k) tries old pinned epoch
-    → LacksRoomOr (λ n. FlagsThen L tries k n pinned new removal.Spent) spare r → LacksRoomOr (LosesAfterFlag L tries k old new) spare r
+pub lacks_room : (L : Layout) (tries k : ℕ) (old pinned new : List Entry) (epoch spare : ℕ)
+    (r : Result Deletion CallFault) → IsPinnedBy (SightFor Delete k) tries old pinned epoch
+    → LacksRoomOr (λ n. FlagsThen L tries k n pinned new removal.Spent) spare r
+    → LacksRoomOr (LosesAfterFlag L tries k old new) spare r
 lacks_room L tries k old pinned new epoch spare (Ok (deletion.Done answer)) pin why = why
 lacks_room L tries k old pinned new epoch spare (Ok (deletion.Pending n)) pin (inl less) = inl less
-lacks_room L tries k old pinned new epoch spare (Ok (deletion.Pending n)) pin (inr lost) = inr (pinned, epoch, pin, lost)
+lacks_room L tries k old pinned new epoch spare (Ok (deletion.Pending n)) pin (inr lost) = inr
+    (pinned, epoch, pin, lost)
 lacks_room L tries k old pinned new epoch spare (Err fault.Busy) pin why = why
 lacks_room L tries k old pinned new epoch spare (Err fault.NoMemory) pin why = why
 lacks_room L tries k old pinned new epoch spare (Err fault.Full) pin why = why

@@ -63,7 +63,8 @@ least_room q r grown balanced least = elim (eq-or-lt_of_le grown.1) [
   | inr more ↦ inr (more_room r balanced (few more (leb_tells (cut_bound + 32) r.spare)))
 ]
   where
-    few : q.blocks < r.blocks → ((leb (cut_bound + 32) r.spare ≡ true) × (cut_bound + 32 ≤ r.spare)) ⊎ ((leb (cut_bound + 32) r.spare ≡ false) × (r.spare < cut_bound + 32)) → r.spare < cut_bound + 32
+    few : q.blocks < r.blocks → ((leb (cut_bound + 32) r.spare ≡ true) × (cut_bound + 32 ≤ r.spare))
+        ⊎ ((leb (cut_bound + 32) r.spare ≡ false) × (r.spare < cut_bound + 32)) → r.spare < cut_bound + 32
     few more (inr below) = below.1
     few more (inl above) =
         let spare = grown.2 in
@@ -72,11 +73,13 @@ least_room q r grown balanced least = elim (eq-or-lt_of_le grown.1) [
         omega (arith, less, more)
 
 -- room of a try is made, or refused
-pub room_made : (q r : BlockQueue Entry) (o : Result Unit NoMemory) → IsGrown q r → IsBalanced r → OnOk o (HasLeast q r cut_bound) → IfErr o (λ _. r.spare < cut_bound) → TakesRoom q r
+pub room_made : (q r : BlockQueue Entry) (o : Result Unit NoMemory) → IsGrown q r → IsBalanced r
+    → OnOk o (HasLeast q r cut_bound) → IfErr o (λ _. r.spare < cut_bound) → TakesRoom q r
 room_made q r (Ok u) grown balanced least refused = least_room q r grown balanced least
 room_made q r (Err e) grown balanced least refused = inr (more_room r balanced (omega (arith, refused)))
 
 -- the room of the first try is there, so what is refused is that of a later one
-pub later_refused : (n : ℕ) (q r : BlockQueue Entry) → (n ≡ 0 → cut_bound ≤ q.spare) → q.spare ≤ r.spare → r.spare < cut_bound → 0 < n
+pub later_refused : (n : ℕ) (q r : BlockQueue Entry) → (n ≡ 0 → cut_bound ≤ q.spare) → q.spare ≤ r.spare
+    → r.spare < cut_bound → 0 < n
 later_refused zero q r first more less = let room = first refl in omega (arith, room, more, less)
 later_refused (suc n) q r first more less = omega arith

@@ -24,8 +24,13 @@ use Rattle.nm_calls.proofs.UnderPins.{stays_longer}
 
 -- a leaf was reached while the worker was pinned, as it still is: its value then is the one that was
 -- stored last for it, by all stores that are seen later
-module _ (L : Layout) (fits : IsLayout L) (events : List (ℕ × Event)) (keys : All (λ t. HasKey t.1) events) (w : ℕ) (first_turns rest : List Turn) (whole : trace_in (ordered L) events ≡ first_turns ++ rest) (pinned : IsPinned w first_turns) (stays : HasLeft w rest → ⊥) where
-  pub value_by_later : (first stores : List Stored) → HoldsStores L first_turns (trace_in (ordered L) events) first → ExtendsStores stores first → HoldsStores L first_turns (trace_in (ordered L) events) stores → WereHeld L events stores → (k v : ℕ) → (i : IsInMap L first_turns first k v) → 6 ≤ i.slot → i.slot ≤ L.nodes → v ≡ value_of stores i.slot
+module _ (L : Layout) (fits : IsLayout L) (events : List (ℕ × Event)) (keys : All (λ t. HasKey t.1) events) (w : ℕ)
+    (first_turns rest : List Turn) (whole : trace_in (ordered L) events ≡ first_turns ++ rest)
+    (pinned : IsPinned w first_turns) (stays : HasLeft w rest → ⊥) where
+  pub value_by_later : (first stores : List Stored) → HoldsStores L first_turns (trace_in (ordered L) events) first
+      → ExtendsStores stores first → HoldsStores L first_turns (trace_in (ordered L) events) stores
+      → WereHeld L events stores → (k v : ℕ) → (i : IsInMap L first_turns first k v) → 6 ≤ i.slot → i.slot ≤ L.nodes
+      → v ≡ value_of stores i.slot
   value_by_later first stores holds on later held k v i high within =
       sym i.has_value
       ∙ (sym (same_by_more L fits events keys first_turns rest whole i.slot i.reached i.leaf
@@ -43,7 +48,9 @@ module _ (L : Layout) (fits : IsLayout L) (events : List (ℕ × Event)) (keys :
           (subst (λ (ts : List Turn). Reached (words_after L ts) i.slot) p.first_is i.reached))
 
 -- what was read at m is so at q
-module _ (m q : PassView) (fits : IsLayout m.view.layout) (same : IsSamePass m q) (past : Extends q.view.past m.view.past) (stores : ExtendsStores q.view.stores m.view.stores) (log : q.view.log ≡ m.view.log) (seen : HasSeenStores q.view) where
+module _ (m q : PassView) (fits : IsLayout m.view.layout) (same : IsSamePass m q)
+    (past : Extends q.view.past m.view.past) (stores : ExtendsStores q.view.stores m.view.stores)
+    (log : q.view.log ≡ m.view.log) (seen : HasSeenStores q.view) where
   abbrev L : Layout
   L = m.view.layout
 
@@ -71,14 +78,17 @@ module _ (m q : PassView) (fits : IsLayout m.view.layout) (same : IsSamePass m q
 
     -- the worker has made no turn since
     quiet : length (part_of w (m.view.past ++ past.more)) ≡ length (part_of w m.view.past)
-    quiet = ap (λ (ts : List Turn). length (part_of w ts)) (sym past.is) ∙ ap length (there.run.is_part ∙ (log ∙ sym r.seen.run.is_part))
+    quiet = ap (λ (ts : List Turn). length (part_of w ts)) (sym past.is)
+        ∙ ap length (there.run.is_part ∙ (log ∙ sym r.seen.run.is_part))
 
     holds : HoldsStores L first_turns (trace_in (ordered L) there.run.events) m.view.stores
     holds = subst (λ (ts : List Turn). HoldsStores L first_turns ts m.view.stores) there.run.are
         (holds_longer L first_turns m.view.past q.view.past m.view.stores past at.stored)
 
     later : HoldsStores L first_turns (trace_in (ordered L) there.run.events) q.view.stores
-    later = subst (λ (ts : List Turn). HoldsStores L first_turns ts q.view.stores) there.run.are (stores_in_turns (record m.view { log = q.view.log; past = q.view.past; stores = q.view.stores }) fits there first_turns (record { more = rest ++ past.more; is = past_is }))
+    later = subst (λ (ts : List Turn). HoldsStores L first_turns ts q.view.stores) there.run.are
+        (stores_in_turns (record m.view { log = q.view.log; past = q.view.past; stores = q.view.stores }) fits there
+        first_turns (record { more = rest ++ past.more; is = past_is }))
 
     pub value_still : HasReadValue q k v
     value_still = record {

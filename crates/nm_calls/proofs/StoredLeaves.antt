@@ -33,13 +33,15 @@ there_at (m ∷ ms) (suc i) n is = let r = there_at ms i n is in let below = r.1
 index_of : (ns : List NodeId) (n : NodeId) → (c : Contains ns n) → slice_get ns c.0 ≡ Some n
 index_of ns n c = slice_get-get_or ns c.0 n c.1 ∙ ap (λ (m : NodeId). Some m) c.2
 
-split_at' : (ns : List NodeId) (j : ℕ) (n : NodeId) → slice_get ns j ≡ Some n → (first : List NodeId) × (last : List NodeId) × (ns ≡ first ++ n ∷ last)
+split_at' : (ns : List NodeId) (j : ℕ) (n : NodeId) → slice_get ns j ≡ Some n
+    → (first : List NodeId) × (last : List NodeId) × (ns ≡ first ++ n ∷ last)
 split_at' [] zero n is = absurd (none-some n is)
 split_at' [] (suc j) n is = absurd (none-some n is)
 split_at' (m ∷ ms) zero n is = ([], ms, ap (λ (k : NodeId). k ∷ ms) (same_Some m n is))
 split_at' (m ∷ ms) (suc j) n is = let r = split_at' ms j n is in (m ∷ r.0, r.1, ap (λ (l : List NodeId). m ∷ l) r.2)
 
-twice_at : (ns : List NodeId) (i j : ℕ) (n : NodeId) → slice_get ns i ≡ Some n → slice_get ns j ≡ Some n → i < j → IsTwice ns n
+twice_at : (ns : List NodeId) (i j : ℕ) (n : NodeId) → slice_get ns i ≡ Some n → slice_get ns j ≡ Some n → i < j
+    → IsTwice ns n
 twice_at [] zero j n at later less = absurd (none-some n at)
 twice_at [] (suc i) j n at later less = absurd (none-some n at)
 twice_at (m ∷ ms) i zero n at later less = absurd (omega (arith, less))
@@ -52,7 +54,8 @@ twice_at (m ∷ ms) (suc i) (suc j) n at later less =
 
 -- ---- a node that was reached at a moment
 
-module _ (L : Layout) (turns : List Turn) (h : Headline L turns) (n : NodeId) (low : 6 ≤ n.slot) (most : n.slot ≤ L.nodes) where
+module _ (L : Layout) (turns : List Turn) (h : Headline L turns) (n : NodeId) (low : 6 ≤ n.slot)
+    (most : n.slot ≤ L.nodes) where
   q : AreFreedInTurn turns
   q = h.queues turns [] (sym (append-nil turns))
 
@@ -60,37 +63,45 @@ module _ (L : Layout) (turns : List Turn) (h : Headline L turns) (n : NodeId) (l
   one = h.places turns [] (sym (append-nil turns)) n.slot low most
 
   -- a node that was cut is not in the tree
-  gone : (w : ℕ) → Contains (cuts_of w turns) n → (path : List Side) → at (words_after L turns) path ≡ n.slot → named (words_after L turns) n.slot ≡ n → ⊥
+  gone : (w : ℕ) → Contains (cuts_of w turns) n → (path : List Side) → at (words_after L turns) path ≡ n.slot
+      → named (words_after L turns) n.slot ≡ n → ⊥
   gone w cut path ends same =
-      let less = h.younger turns [] (sym (append-nil turns)) w n cut (record { path = path; ends = ends; is_slot = λ zero'. omega (arith, low, zero') }) in
+      let less = h.younger turns [] (sym (append-nil turns)) w n cut
+      (record { path = path; ends = ends; is_slot = λ zero'. omega (arith, low, zero') }) in
       let born = ap (λ (m : NodeId). m.birth) same in
       omega (arith, less, born)
 
-  waits_cut : (w i : ℕ) → slice_get (waits_of w turns) i ≡ Some n → Contains (cuts_of w turns) n × (not (is_among (freed_by turns) n) ≡ true)
+  waits_cut : (w i : ℕ) → slice_get (waits_of w turns) i ≡ Some n
+      → Contains (cuts_of w turns) n × (not (is_among (freed_by turns) n) ≡ true)
   waits_cut w i is = from_filter (λ (m : NodeId). not (is_among (freed_by turns) m)) (cuts_of w turns) i n is
 
   freed_cut : (i : ℕ) → slice_get (freed_by turns) i ≡ Some n → (w : ℕ) × Contains (cuts_of w turns) n
   freed_cut i is = q.only n (there_at (freed_by turns) i n is)
 
   not_both : (w i j : ℕ) → slice_get (waits_of w turns) i ≡ Some n → slice_get (freed_by turns) j ≡ Some n → ⊥
-  not_both w i j waits freed = true≢false (sym (waits_cut w i waits).1 ∙ ap not (in_among (freed_by turns) n (there_at (freed_by turns) j n freed)))
+  not_both w i j waits freed = true≢false (sym (waits_cut w i waits).1
+      ∙ ap not (in_among (freed_by turns) n (there_at (freed_by turns) j n freed)))
 
-  one_path : (path other : List Side) → at (words_after L turns) path ≡ n.slot → at (words_after L turns) other ≡ n.slot → OnPath other ≡ OnPath path
+  one_path : (path other : List Side) → at (words_after L turns) path ≡ n.slot
+      → at (words_after L turns) other ≡ n.slot → OnPath other ≡ OnPath path
   one_path path other ends ends' = ap OnPath (same (one.only (ByPath other) ends' ∙ sym (one.only (ByPath path) ends)))
     where
       same : ByPath other ≡ ByPath path → other ≡ path
       same e = cc
 
-  one_wait : (w i v j : ℕ) → slice_get (waits_of w turns) i ≡ Some n → slice_get (waits_of v turns) j ≡ Some n → Waits v j ≡ Waits w i
+  one_wait : (w i v j : ℕ) → slice_get (waits_of w turns) i ≡ Some n → slice_get (waits_of v turns) j ≡ Some n
+      → Waits v j ≡ Waits w i
   one_wait w i v j is is' = (λ k. Waits ((same e).0 k) ((same e).1 k))
     where
       e : WaitsThere v j ≡ WaitsThere w i
-      e = one.only (WaitsThere v j) (ap (option_map (λ (m : NodeId). m.slot)) is') ∙ sym (one.only (WaitsThere w i) (ap (option_map (λ (m : NodeId). m.slot)) is))
+      e = one.only (WaitsThere v j) (ap (option_map (λ (m : NodeId). m.slot)) is')
+          ∙ sym (one.only (WaitsThere w i) (ap (option_map (λ (m : NodeId). m.slot)) is))
 
       same : WaitsThere v j ≡ WaitsThere w i → (v ≡ w) × (j ≡ i)
       same e' = (cc, cc)
 
-  one_free : (i j : ℕ) → slice_get (freed_by turns) i ≡ Some n → slice_get (freed_by turns) j ≡ Some n → IsFreed j ≡ IsFreed i
+  one_free : (i j : ℕ) → slice_get (freed_by turns) i ≡ Some n → slice_get (freed_by turns) j ≡ Some n
+      → IsFreed j ≡ IsFreed i
   one_free i j is is' = ap IsFreed (by (cases_lt i j) (cases_lt j i))
     where
       by : (i < j) ⊎ (j ≤ i) → (j < i) ⊎ (i ≤ j) → j ≡ i
@@ -128,11 +139,16 @@ module _ (L : Layout) (turns : List Turn) (h : Headline L turns) (n : NodeId) (l
     where
       by : (b : Bool) → is_among (freed_by turns) n ≡ b → IsAtOnePlace L turns n
       by true among = let c = among_in (freed_by turns) n among in freed c.0 (index_of (freed_by turns) n c)
-      by false other = let i = in_filter (λ (m : NodeId). not (is_among (freed_by turns) m)) (cuts_of w turns) n cut (ap not other) in waiting w i.0 i.1
+      by false other =
+          let i = in_filter (λ (m : NodeId). not (is_among (freed_by turns) m)) (cuts_of w turns) n cut
+          (ap not other) in waiting w i.0 i.1
 
 -- each node that was reached at a moment
-pub reached_node_is_placed : (L : Layout) (turns : List Turn) → Headline L turns → (so_far rest : List Turn) → turns ≡ so_far ++ rest → (x : ℕ) → 6 ≤ x → x ≤ L.nodes → Reached (words_after L so_far) x → IsAtOnePlace L turns (named (words_after L so_far) x)
-reached_node_is_placed L turns h so_far rest are x low most reached = placed L turns h (named (words_after L so_far) x) low most (node_fate L turns h x low most so_far rest are reached)
+pub reached_node_is_placed : (L : Layout) (turns : List Turn) → Headline L turns → (so_far rest : List Turn)
+    → turns ≡ so_far ++ rest → (x : ℕ) → 6 ≤ x → x ≤ L.nodes → Reached (words_after L so_far) x
+    → IsAtOnePlace L turns (named (words_after L so_far) x)
+reached_node_is_placed L turns h so_far rest are x low most reached = placed L turns h
+    (named (words_after L so_far) x) low most (node_fate L turns h x low most so_far rest are reached)
 
 -- ---- a leaf with a store
 

@@ -48,26 +48,37 @@ module _ (L : Layout) (fits : IsLayout L) (events : List (ℕ × Event)) where
   -- so in all turns that go on from them
   was_held : (until more : List Turn) → turns ≡ until ++ more → (x : Stored) → WasInHands L until x → WasHeld L events x
   was_held until more is x h =
-      let p : Parts (ordered L) events h.before (h.since ++ more) = parts_of (ordered L) events h.before (h.since ++ more) (is ∙ (ap (λ (ts : List Turn). ts ++ more) h.are ∙ append_assoc h.before h.since more)) in
+      let p : Parts (ordered L) events h.before (h.since ++ more) = parts_of (ordered L) events h.before
+      (h.since ++ more) (is ∙ (ap (λ (ts : List Turn). ts ++ more) h.are ∙ append_assoc h.before h.since more)) in
       record {
         before = p.early;
         since = p.late;
         is_run = p.all;
         at = p.size ∙ h.at;
         own = ap (λ (ts : List Turn). length (part_of x.worker ts)) (sym p.first_is) ∙ h.own;
-        private = sym (run_hands x.worker x.slot L fits true p.early) ∙ (ap (has_after (opening L) x.worker x.slot false) (sym p.first_is) ∙ h.held);
+        private = sym (run_hands x.worker x.slot L fits true p.early)
+            ∙ (ap (has_after (opening L) x.worker x.slot false) (sym p.first_is) ∙ h.held);
       }
 
-  pub were_held : (until more : List Turn) → turns ≡ until ++ more → (xs : List Stored) → All (WasInHands L until) xs → WereHeld L events xs
+  pub were_held : (until more : List Turn) → turns ≡ until ++ more → (xs : List Stored) → All (WasInHands L until) xs
+      → WereHeld L events xs
   were_held until more is [] held = tt
-  were_held until more is (x ∷ xs) held = (was_held until more is x (held 0 x (omega arith)), were_held until more is xs (λ k d below. held (suc k) d (omega (arith, below))))
+  were_held until more is (x ∷ xs) held = (
+    was_held until more is x (held 0 x (omega arith)),
+    were_held until more is
+        xs (λ k d below. held (suc k) d (omega (arith, below))),
+  )
 
   -- ---- links
 
-  pub linked_leaves : All (λ t. HasKey t.1) events → (stores : List Stored) → LinksHaveValues L events stores → LinkedLeavesHaveValues L turns stores
+  pub linked_leaves : All (λ t. HasKey t.1) events → (stores : List Stored) → LinksHaveValues L events stores
+      → LinkedLeavesHaveValues L turns stores
   linked_leaves keys stores linked before since w p side s old new n is fresh =
-      subst (λ (m : ℕ). IsStored stores w m (child (words_after L before) new s)) (sym (ap (λ (ts : List Turn). length (part_of w ts)) x.first_is))
-      (subst (IsStored stores w (length (part_of w (trace_in (ordered L) x.early)))) ((link L fits x.early x.keyed w p side old new n x.won).drafts.is_far ∙ sym (far_is L fits events before w p side s old new n x fresh))
+      subst (λ (m : ℕ). IsStored stores w m (child (words_after L before) new s))
+      (sym (ap (λ (ts : List Turn). length (part_of w ts)) x.first_is))
+      (subst (IsStored stores w (length (part_of w (trace_in (ordered L) x.early))))
+      ((link L fits x.early x.keyed w p side old new n x.won).drafts.is_far
+      ∙ sym (far_is L fits events before w p side s old new n x fresh))
       (linked x.early x.others w (Link p side old new) x.whole))
     where
       x : LinkAt L events before w p side old new n
@@ -85,13 +96,16 @@ swapped_leaves L events keys stores linked before since w p side old new ns is =
     (linked x.early x.others w (Swap p side old new) x.whole)
 
 -- the stores that a view has seen, from any moment of its past on
-pub stores_in_turns : (v : View) → IsLayout v.layout → HasSeenStores v → (was : List Turn) → Extends v.past was → HoldsStores v.layout was v.past v.stores
+pub stores_in_turns : (v : View) → IsLayout v.layout → HasSeenStores v → (was : List Turn) → Extends v.past was
+    → HoldsStores v.layout was v.past v.stores
 stores_in_turns v fits s was from = record {
   until = v.past;
   from = from;
   ends = goes_on_itself v.past;
-  held = subst (λ (ts : List Turn). All (WasInHands v.layout ts) v.stores) (sym s.run.are) (were_in_hands v.layout fits s.run.events v.stores s.held);
-  linked = subst (λ (ts : List Turn). LinkedLeavesHaveValues v.layout ts v.stores) (sym s.run.are) (linked_leaves v.layout fits s.run.events s.run.keys v.stores s.linked);
+  held = subst (λ (ts : List Turn). All (WasInHands v.layout ts) v.stores) (sym s.run.are)
+      (were_in_hands v.layout fits s.run.events v.stores s.held);
+  linked = subst (λ (ts : List Turn). LinkedLeavesHaveValues v.layout ts v.stores) (sym s.run.are)
+      (linked_leaves v.layout fits s.run.events s.run.keys v.stores s.linked);
   swapped = subst (λ (ts : List Turn). SwappedLeavesHaveValues ts v.stores) (sym s.run.are)
       (swapped_leaves v.layout s.run.events s.run.keys v.stores s.linked);
   order = s.order;

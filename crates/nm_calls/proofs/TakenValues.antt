@@ -46,10 +46,12 @@ use Rattle.nm_calls.proofs.StoresInTurns.{stores_in_turns}
 -- ---- what was read of the leaf
 
 -- a walk of the call has ended there
-pub walk_ended : (p : PassView) (k slot parent : ℕ) (side : Side) → Tells p (EndedAt ThePin k slot parent side k) → WalkEnds k (since_pin [] p.view.log) slot parent side k
+pub walk_ended : (p : PassView) (k slot parent : ℕ) (side : Side) → Tells p (EndedAt ThePin k slot parent side k)
+    → WalkEnds k (since_pin [] p.view.log) slot parent side k
 walk_ended p k slot parent side (a, key, ended) =
     let log = since_pin [] p.view.log in
-    let own : IsOfWalk a.call.key log a.arrival = subst (IsOfWalk a.call.key log) a.among.2 (arrivals_are_walks p.view.log a.call a.is_call a.among.0 a.arrival a.among.1) in
+    let own : IsOfWalk a.call.key log a.arrival = subst (IsOfWalk a.call.key log) a.among.2
+    (arrivals_are_walks p.view.log a.call a.is_call a.among.0 a.arrival a.among.1) in
     let ends = own.ends ended in
     subst (λ (v : ℕ). WalkEnds k log slot parent side v) (same_Some ends.0 k (sym ends.1 ∙ key))
     (subst (λ (d : Side). WalkEnds k log slot parent d ends.0) a.is_side
@@ -58,7 +60,13 @@ walk_ended p k slot parent side (a, key, ended) =
     (subst (λ (j : ℕ). WalkEnds j log a.arrival.slot a.arrival.parent a.arrival.side ends.0) a.is_for ends.2))))
 
 continues_itself : (p q : PassView) → GoesOn p q → Continues q q
-continues_itself p q on = record { same = refl; past = seen_itself q; run = on.run; stores = stores_same q.view.stores q.view.stores refl }
+continues_itself p q on = record {
+  same = refl;
+  past = seen_itself q;
+  run = on.run;
+  stores = stores_same
+      q.view.stores q.view.stores refl;
+}
 
 -- a flag was won after p, and the value was read at m
 pub read_flagged : (p m : PassView) (k v b : ℕ) (r : WalkEnd) → IsKey k → MayFlag p k r → GoesOn p m
@@ -114,7 +122,8 @@ read_until p q r k v on t = record {
 module _ (was : List Turn) (m : PassView) (fits : IsLayout m.view.layout) (seen : HasSeenStores m.view)
     (k v : ℕ) (leaf : NodeId) (call : (search m).call ≡ Some (record { op = Delete; key = k }))
     (flagged : (search m).flagged ≡ Some leaf) (high : 6 ≤ leaf.slot) (within : leaf.slot ≤ m.view.layout.nodes)
-    (value : v ≡ value_of m.view.stores leaf.slot) (on : Extends m.view.past was) (none' : call_begun m.view.number was ≡ None) where
+    (value : v ≡ value_of m.view.stores leaf.slot) (on : Extends m.view.past was)
+    (none' : call_begun m.view.number was ≡ None) where
   abbrev L : Layout
   L = m.view.layout
 
@@ -151,7 +160,8 @@ module _ (was : List Turn) (m : PassView) (fits : IsLayout m.view.layout) (seen 
 
   pub later : length was ≤ pin_of L f.before w
   later = elim (cases_lt (pin_of L f.before w) (length was)) [
-    | inl less ↦ absurd (none-some its_call (sym none' ∙ still_called w was on.more its_call (ap (call_begun w) (sym on.is) ∙ now) less))
+    | inl less ↦ absurd (none-some its_call (sym none'
+        ∙ still_called w was on.more its_call (ap (call_begun w) (sym on.is) ∙ now) less))
     | inr le ↦ le
   ]
     where
@@ -168,25 +178,30 @@ module _ (was : List Turn) (m : PassView) (fits : IsLayout m.view.layout) (seen 
     has_key = key_then L fits run.events run.keys w k f;
     has_value =
         value_stays L run.events m.view.stores (length first) f.leaf seen.held
-        (nobody_holds L fits run.events run.keys w f.leaf (subst (λ (x : ℕ). 6 ≤ x) (sym same_slot) high) (subst (λ (x : ℕ). x ≤ L.nodes) (sym same_slot) within)
+        (nobody_holds L fits run.events run.keys w f.leaf (subst (λ (x : ℕ). 6 ≤ x) (sym same_slot) high)
+        (subst (λ (x : ℕ). x ≤ L.nodes) (sym same_slot) within)
         f.before ((w, Flag f.parent f.side f.leaf) ∷ f.since) f.is_run
         (pinned_then L fits run.events run.keys w k f)
-        (subst (λ (ts : List Turn). HasLeft w ts → ⊥) (sym (then_is L fits run.events run.keys w k f)) (not_left L fits run.events run.keys w k f))
+        (subst (λ (ts : List Turn). HasLeft w ts → ⊥) (sym (then_is L fits run.events run.keys w k f))
+        (not_left L fits run.events run.keys w k f))
         (reached_then L fits run.events run.keys w k f))
         ∙ (ap (value_of m.view.stores) same_slot ∙ sym value);
   }
 
   pub stores_then : HoldsStores L first m.view.past m.view.stores
-  stores_then = stores_in_turns m.view fits seen first (record { more = flag L fits run.events run.keys w k f ∷ rest L fits run.events run.keys w k f; is = past_is })
+  stores_then = stores_in_turns m.view fits seen first
+      (record { more = flag L fits run.events run.keys w k f ∷ rest L fits run.events run.keys w k f; is = past_is })
 
   -- by what is seen later
-  pub taken_then : (now : List Turn) (stores : List Stored) → Extends now m.view.past → ExtendsStores stores m.view.stores → WasTaken L was now stores w k v
+  pub taken_then : (now : List Turn) (stores : List Stored) → Extends now m.view.past
+      → ExtendsStores stores m.view.stores → WasTaken L was now stores w k v
   unfolding in_map has
   taken_then now stores more extends = record {
     so_far = first;
     flag = flag L fits run.events run.keys w k f;
     rest = rest L fits run.events run.keys w k f ++ more.more;
-    are = more.is ∙ (ap (λ (ts : List Turn). ts ++ more.more) past_is ∙ append_assoc first (flag L fits run.events run.keys w k f ∷ rest L fits run.events run.keys w k f) more.more);
+    are = more.is ∙ (ap (λ (ts : List Turn). ts ++ more.more) past_is
+        ∙ append_assoc first (flag L fits run.events run.keys w k f ∷ rest L fits run.events run.keys w k f) more.more);
     pin = pin_of L f.before w;
     later = later;
     call = called_then L fits run.events run.keys w k f;
@@ -197,21 +212,32 @@ module _ (was : List Turn) (m : PassView) (fits : IsLayout m.view.layout) (seen 
     won = record {
       parent = f.parent;
       side = f.side;
-      is = ap (λ (n : NodeId). answered_turn w (Flag f.parent f.side f.leaf) (Flagged n)) (named_then L fits run.events run.keys w k f);
+      is = ap (λ (n : NodeId). answered_turn w (Flag f.parent f.side f.leaf) (Flagged n))
+          (named_then L fits run.events run.keys w k f);
     };
   }
 
-pub has_taken : (o q : PassView) → HasSeen o.view → IsLayout o.view.layout → (search o).call ≡ None → (k v : ℕ) → HasReadFlagged o q k v → HasTaken o q k v
+pub has_taken : (o q : PassView) → HasSeen o.view → IsLayout o.view.layout → (search o).call ≡ None → (k v : ℕ)
+    → HasReadFlagged o q k v → HasTaken o q k v
 has_taken o q first_seen first_fits none' k v t =
     let m = t.at in
-    let fits : IsLayout m.view.layout = subst (λ (s : PassView). IsLayout s.view.layout) (sym t.since.same) first_fits in
-    let had : call_begun m.view.number o.view.past ≡ None = ap (λ (s : PassView). call_begun s.view.number o.view.past) t.since.same ∙ none_begun o first_seen first_fits none' in
-    subst (λ (s : PassView). WasTaken s.view.layout o.view.past q.view.past q.view.stores s.view.number k v) (sym t.until.same)
-    (taken_then o.view.past m fits t.seen k v t.leaf t.call t.flagged t.high t.within t.value t.since.past.goes_on had q.view.past q.view.stores t.until.past.goes_on t.until.stores)
+    let fits : IsLayout m.view.layout = subst (λ (s : PassView). IsLayout s.view.layout) (sym t.since.same)
+    first_fits in
+    let had : call_begun m.view.number o.view.past ≡ None = ap
+    (λ (s : PassView). call_begun s.view.number o.view.past) t.since.same
+    ∙ none_begun o first_seen first_fits none' in
+    subst (λ (s : PassView). WasTaken s.view.layout o.view.past q.view.past q.view.stores s.view.number k v)
+    (sym t.until.same)
+    (taken_then o.view.past m fits t.seen k v t.leaf t.call t.flagged t.high t.within t.value t.since.past.goes_on
+    had q.view.past q.view.stores t.until.past.goes_on t.until.stores)
 
 -- the same by the result of a delete, which was pinned at a
-pub if_taken : (o a q : PassView) (k v : ℕ) → HasSeen o.view → IsLayout o.view.layout → (search o).call ≡ None → Continues o a → (r : Result Deletion CallFault) → IfTaken r (HasReadFlagged a q k v) → IfTaken r (HasTaken o q k v)
-if_taken o a q k v seen fits none' pinning (Ok (deletion.Done true)) t = has_taken o q seen fits none' k v (read_since o a q k v pinning t)
+pub if_taken : (o a q : PassView) (k v : ℕ) → HasSeen o.view → IsLayout o.view.layout → (search o).call ≡ None
+    → Continues o a → (r : Result Deletion CallFault) → IfTaken r (HasReadFlagged a q k v)
+    → IfTaken r (HasTaken o q k v)
+if_taken o a q k v seen fits none' pinning (Ok (deletion.Done true)) t = has_taken o q seen fits none' k v
+    (read_since o a q k v pinning t)
 if_taken o a q k v seen fits none' pinning (Ok (deletion.Done false)) t = tt
 if_taken o a q k v seen fits none' pinning (Err e) t = tt
-if_taken o a q k v seen fits none' pinning (Ok (deletion.Pending n)) t = has_taken o q seen fits none' k v (read_since o a q k v pinning t)
+if_taken o a q k v seen fits none' pinning (Ok (deletion.Pending n)) t = has_taken o q seen fits none' k v
+    (read_since o a q k v pinning t)

@@ -12,21 +12,25 @@ use Rattle.nm_walks.specs.Cleanups.{HoldsCuts}
 use Rattle.nm_walks.specs.Telling.{IsInRun}
 use Rattle.nm_walks.proofs.Looks.{enough}
 
-few_of_nodes : (p : PassView) (es : List Waiting) → IsInRun p → IsQueueOf (knowledge p.view) p.view.number es → length es ≤ p.view.layout.nodes
+few_of_nodes : (p : PassView) (es : List Waiting) → IsInRun p → IsQueueOf (knowledge p.view) p.view.number es
+    → length es ≤ p.view.layout.nodes
 few_of_nodes p es run queue =
     let low = enough p.view.layout run.fits in
-    let few = few_waiting p.view.layout (knowledge p.view) p.view.number es (hands_are_apart p.view.layout low p.view.number p.view.log run.run.is_part) (omega (arith, low)) queue in
+    let few = few_waiting p.view.layout (knowledge p.view) p.view.number es
+    (hands_are_apart p.view.layout low p.view.number p.view.log run.run.is_part) (omega (arith, low)) queue in
     omega (arith, few)
 
 -- the queue may grow
-pub may_grow_more : (p : PassView) (es : List Waiting) → IsInRun p → IsQueueOf (knowledge p.view) p.view.number es → length es ≤ 536870912
+pub may_grow_more : (p : PassView) (es : List Waiting) → IsInRun p → IsQueueOf (knowledge p.view) p.view.number es
+    → length es ≤ 536870912
 may_grow_more p es run queue =
     let few = few_of_nodes p es run queue in
     let most = run.fits.most in
     omega (arith, few, most)
 
 -- the own queue does not outgrow the table
-pub few_in_table : (b : TreeView) (o p : PassView) (h : HeldQueue) → IsOf b o → IsSamePass o p → IsInRun p → HoldsCuts p h → length h.queue.items ≤ b.layout.nodes
+pub few_in_table : (b : TreeView) (o p : PassView) (h : HeldQueue) → IsOf b o → IsSamePass o p → IsInRun p
+    → HoldsCuts p h → length h.queue.items ≤ b.layout.nodes
 few_in_table b o p h own same run kept =
     let layout : p.view.layout ≡ b.layout = ap (λ (s : PassView). s.view.layout) same ∙ own.layout in
     subst (λ (L : Layout). length h.queue.items ≤ L.nodes) layout (few_of_nodes p h.queue.items run kept.queue)

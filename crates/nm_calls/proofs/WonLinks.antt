@@ -23,7 +23,8 @@ use Rattle.nm_order.proofs.OrderedTrees.{Grafting}
 use Rattle.nm_order.proofs.TreeChanges.{WonLink, won_link}
 use Rattle.nm_walks.proofs.Looks.{enough}
 
-module _ (L : Layout) (fits : IsLayout L) (events : List (ℕ × Event)) (keys : All (λ t. HasKey t.1) events) (w parent : ℕ) (side : Side) (old new : ℕ) (n : NodeId)
+module _ (L : Layout) (fits : IsLayout L) (events : List (ℕ × Event)) (keys : All (λ t. HasKey t.1) events)
+    (w parent : ℕ) (side : Side) (old new : ℕ) (n : NodeId)
     (won : outcome_in (after_in (ordered L) events) (w, Link parent side old new) ≡ Ok (Linked n)) where
   abbrev pub c : Configuration
   c = after_in (ordered L) events
@@ -56,7 +57,8 @@ module _ (L : Layout) (fits : IsLayout L) (events : List (ℕ × Event)) (keys :
   replied : reply_of c.state w (Link parent side old new) ≡ Linked n
   replied = same_ok (sym (allowed_outcome c event unrefused) ∙ won)
     where
-      same_ok : ◌≡◌ {A = Result Reply Refused} (Ok (reply_of c.state w (Link parent side old new))) (Ok (Linked n)) → reply_of c.state w (Link parent side old new) ≡ Linked n
+      same_ok : ◌≡◌ {A = Result Reply Refused} (Ok (reply_of c.state w (Link parent side old new))) (Ok (Linked n))
+          → reply_of c.state w (Link parent side old new) ≡ Linked n
       same_ok e = cc
 
   pub found : is_to (edge c.state.memory parent side) old ≡ true
@@ -66,7 +68,9 @@ module _ (L : Layout) (fits : IsLayout L) (events : List (ℕ × Event)) (keys :
       lost : (f : Edge) → Lost f ≡ Linked n → ⊥
       lost f e = cc
 
-      by : (b : Bool) → is_to (edge c.state.memory parent side) old ≡ b → cond b (Linked (node_linked (of c.state w) new)) (Lost (edge c.state.memory parent side)) ≡ Linked n → b ≡ true
+      by : (b : Bool) → is_to (edge c.state.memory parent side) old ≡ b
+          → cond b (Linked (node_linked (of c.state w) new)) (Lost (edge c.state.memory parent side)) ≡ Linked n
+          → b ≡ true
       by true is r = refl
       by false is r = absurd (lost (edge c.state.memory parent side) r)
 
@@ -77,4 +81,5 @@ module _ (L : Layout) (fits : IsLayout L) (events : List (ℕ × Event)) (keys :
   after = put_edge c.state.memory parent side (to new)
 
   pub graft : Grafting (child c.state.memory) (child after) parent side old new link.drafts.far link.drafts.side
-  graft = grafted c.state hold law w parent side old new link.drafts.far link.drafts.side link.link (child after) link.exchanged
+  graft = grafted c.state hold law w parent side old new link.drafts.far link.drafts.side link.link (child after)
+      link.exchanged

@@ -231,7 +231,8 @@ module _ (L : Layout) (fits : IsLayout L) (events : List (ℕ × Event)) (keys :
 
   won_swap : IsWonSwap (words_after L before) (Swap p side old new) ns
   won_swap = elim (cuts.splices ns refl) [
-    | inl splice ↦ absurd (no_splice splice.ancestor splice.side splice.successor splice.parent splice.keep splice.is_splice)
+    | inl splice ↦ absurd (no_splice splice.ancestor splice.side splice.successor splice.parent splice.keep
+        splice.is_splice)
     | inr swap ↦ swap
   ]
     where

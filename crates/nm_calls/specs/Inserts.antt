@@ -124,7 +124,8 @@ Finishes fit L tries k old new (Ok true) =
     × (new ≡ mid ++ (LeaveWith true, Departed) ∷ [])
 Finishes fit L tries k old new (Ok false) =
     (f : Option NewNodes) × (mid back : List Entry) × (leaf : ℕ)
-    × EndsBy fit L tries k f (attempt.Found leaf) old mid × Returns f mid back × (new ≡ back ++ (LeaveWith false, Departed) ∷ [])
+    × EndsBy fit L tries k f (attempt.Found leaf) old mid × Returns f mid back
+    × (new ≡ back ++ (LeaveWith false, Departed) ∷ [])
 Finishes fit L tries k old new (Err fault.Full) =
     (mid : List Entry) × EndsBy fit L tries k None attempt.Full old mid
     × (new ≡ mid ++ (Leave, Departed) ∷ [])

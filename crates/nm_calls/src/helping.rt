@@ -24,7 +24,7 @@ fn asks_help(end: &WalkEnd, found: Edge) -> bool
 /// Cleans up with this walk, if the edge that a lost exchange found leads to the same leaf and is
 /// marked.
 #[inline(always)]
-pub(crate) fn help(
+pub fn help(
     shared: &Shared,
     pass: &mut Pass,
     workspace: &mut Workspace,
@@ -53,7 +53,7 @@ pub(crate) fn help(
 
 /// Makes room for what a cleanup cuts off, with as few new blocks as possible. Returns false if the
 /// allocation failed; there is then less room than a cleanup needs.
-pub(crate) fn make_room(queue: &mut BlockQueue<Entry>) -> bool
+pub fn make_room(queue: &mut BlockQueue<Entry>) -> bool
     requires few { length queue.old.items ≤ 536870912 }
     ensures items { queue.new.items ≡ queue.old.items }
     ensures room { result ≡ true → cut_bound ≤ queue.new.spare }
@@ -66,7 +66,7 @@ pub(crate) fn make_room(queue: &mut BlockQueue<Entry>) -> bool
 
 /// Makes such room for the try of a round, except the first one, for which it was made before the
 /// pin.
-pub(crate) fn make_room_for(queue: &mut BlockQueue<Entry>, round: u32) -> bool
+pub fn make_room_for(queue: &mut BlockQueue<Entry>, round: u32) -> bool
     requires few { length queue.old.items ≤ 536870912 }
     requires first { round ≡ 0 → cut_bound ≤ queue.old.spare }
     ensures items { queue.new.items ≡ queue.old.items }

@@ -72,7 +72,12 @@ fn ready(
 
 /// Walks as an insert does, which depends on the shape of the tree.
 #[inline(always)]
-fn stop(shared: &Shared, pass: &mut Pass, key: u64, chain: &mut ChainEdges) -> Option<WalkEnd>
+pub fn seek_place(
+    shared: &Shared,
+    pass: &mut Pass,
+    key: u64,
+    chain: &mut ChainEdges,
+) -> Option<WalkEnd>
     requires pinned { IsPinnedIn shared.now pass.old }
     requires root { Tells pass.old (KnowsSlot 1) }
     requires known { Tells pass.old (KnowsSlot 2) }
@@ -126,7 +131,7 @@ fn try_insert(
     ensures fit { workspace.new.placement ≡ workspace.old.placement }
 {
     let sought = key.get();
-    let Some(end) = stop(shared, pass, sought, &mut workspace.chain) else {
+    let Some(end) = seek_place(shared, pass, sought, &mut workspace.chain) else {
         return Attempt::Lost;
     };
     if end.key == sought {

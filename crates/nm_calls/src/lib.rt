@@ -22,7 +22,8 @@ mod values;
 pub use deleting::{Deletion, Unfinished, delete, finish};
 pub use fault::CallFault;
 pub use handing_back::collect_values;
-pub use inserting::insert;
+pub use helping::{help, make_room, make_room_for};
+pub use inserting::{insert, seek_place};
 pub use laws::{
     cut_values_were_stored, gets_are_of_the_map, got_values_stay_out, guarded_values_stay_out,
     histories_are_of_maps, leaves_have_one_store, leaves_keep_their_values, nodes_are_freed_once,
@@ -30,7 +31,7 @@ pub use laws::{
     taken_values_are_of_their_acts, values_are_by_all_stores, values_come_back_as_stored,
     values_come_back_once, values_were_put,
 };
-pub use leaving::leave;
+pub use leaving::{answer, leave};
 pub use lookup::has;
 pub use many::{Query, has_many};
 pub use map_many::get_many_pinned;

@@ -22,12 +22,14 @@ at_test b rest = elim b [ true ↦ Some [] | false ↦ rest ]
 
 -- by the tests whether this is the last node, and whether the chain goes on to the left or to the
 -- right
-module _ (k : Knowledge) (s : ℕ) (w : ℕ → Option (List Side)) (v : ℕ → Bool) (same : (t : ℕ) → is_some (w t) ≡ v t) where
+module _ (k : Knowledge) (s : ℕ) (w : ℕ → Option (List Side)) (v : ℕ → Bool)
+    (same : (t : ℕ) → is_some (w t) ≡ v t) where
   abbrev side_by : Bool → Bool → Option Side
   side_by a b = cond a (Some Left) (cond b (Some Right) None)
 
   one_step : (here a b : Bool) → is_some (at_test here (before_way (side_by a b) (w (slot_on k s (side_by a b)))))
-      ≡ (here || from_next (cond a (Some (slot_read (read k s Left))) (cond b (Some (slot_read (read k s Right))) None)) v)
+      ≡ (here || from_next (cond a (Some (slot_read (read k s Left)))
+      (cond b (Some (slot_read (read k s Right))) None)) v)
   one_step true a b = refl
   one_step false true b = some_before Left (w (slot_read (read k s Left))) ∙ same (slot_read (read k s Left))
   one_step false false true = some_before Right (w (slot_read (read k s Right))) ∙ same (slot_read (read k s Right))
@@ -35,31 +37,37 @@ module _ (k : Knowledge) (s : ℕ) (w : ℕ → Option (List Side)) (v : ℕ →
 
 pub way_leads : (n : ℕ) (k : Knowledge) (s p : ℕ) → is_some (way n k s p) ≡ leads_to n k.known s p
 way_leads zero k s p = refl
-way_leads (suc n) k s p = one_step k s (λ t. way n k t p) (λ t. leads_to n k.known t p) (λ t. way_leads n k t p) (s == p) (leads_on k s Left) (leads_on k s Right)
+way_leads (suc n) k s p = one_step k s (λ t. way n k t p) (λ t. leads_to n k.known t p) (λ t. way_leads n k t p)
+    (s == p) (leads_on k s Left) (leads_on k s Right)
 
 module _ (n m : ℕ) (known : List (ℕ × Seen)) (s p : ℕ) (more : n ≡ m + 1) where
   turn : leads_to n known s p ≡ (s == p) || from_next (next_slot_in known s) (λ t. leads_to m known t p)
   turn = rw (more, add-one) refl
 
   -- where the chain goes on, or ends
-  pub leads_from : s ≢ p → (o : Option ℕ) → next_slot_in known s ≡ o → leads_to n known s p ≡ from_next o (λ t. leads_to m known t p)
-  leads_from apart o is = turn ∙ ap (λ b. b || from_next (next_slot_in known s) (λ t. leads_to m known t p)) (ne_eqb s p apart) ∙ ap (λ x. from_next x (λ t. leads_to m known t p)) is
+  pub leads_from : s ≢ p → (o : Option ℕ) → next_slot_in known s ≡ o
+      → leads_to n known s p ≡ from_next o (λ t. leads_to m known t p)
+  leads_from apart o is = turn ∙ ap (λ b. b || from_next (next_slot_in known s) (λ t. leads_to m known t p))
+      (ne_eqb s p apart) ∙ ap (λ x. from_next x (λ t. leads_to m known t p)) is
 
 -- ---- the memory
 
 -- a step that leads nowhere yet
-pub remembers_place : (known : List (ℕ × Seen)) (steps : List ChainStep) (x : ChainStep) → x.next.slot ≡ 0 → Remembers known steps → Remembers known (steps ++ x ∷ [])
+pub remembers_place : (known : List (ℕ × Seen)) (steps : List ChainStep) (x : ChainStep) → x.next.slot ≡ 0
+    → Remembers known steps → Remembers known (steps ++ x ∷ [])
 unfolding Remembers
 remembers_place known steps x none h = All-push (IsRight known) steps x h (λ some. absurd (some none))
 
 -- a step that was found
-pub remembers_step : (known : List (ℕ × Seen)) (steps : List ChainStep) (i : ℕ) (x : ChainStep) → next_slot_in known x.slot ≡ Some x.next.slot → Remembers known steps → Remembers known (set steps i x)
+pub remembers_step : (known : List (ℕ × Seen)) (steps : List ChainStep) (i : ℕ) (x : ChainStep)
+    → next_slot_in known x.slot ≡ Some x.next.slot → Remembers known steps → Remembers known (set steps i x)
 unfolding Remembers
 remembers_step known steps i x is h = All-set (IsRight known) steps i x (λ some. is) h
 
 -- of a node from which no chain went on, or from which it goes on to the same slot, something is
 -- known
-module _ (known : List (ℕ × Seen)) (s : ℕ) (n : Seen) (kept : (next_slot_in known s ≡ None) ⊎ (next_slot_in known s ≡ next_slot_of n)) where
+module _ (known : List (ℕ × Seen)) (s : ℕ) (n : Seen)
+    (kept : (next_slot_in known s ≡ None) ⊎ (next_slot_in known s ≡ next_slot_of n)) where
   next_kept : (q t : ℕ) → next_slot_in known q ≡ Some t → next_slot_in (put known s n) q ≡ Some t
   next_kept q t is = ap (λ o. next_slot_of (unwrap_or o unread)) (get-put known s n q) ∙ go (eqb q s) refl
     where
@@ -79,6 +87,8 @@ module _ (known : List (ℕ × Seen)) (s : ℕ) (n : Seen) (kept : (next_slot_in
   remembers_kept steps h i d below some = next_kept _ _ (h i d below some)
 
 -- a step that stands in it
-pub remembers_at : (known : List (ℕ × Seen)) (steps : List ChainStep) (i : ℕ) (x : ChainStep) → i < length steps → x ≡ slice_index_or steps i x → x.next.slot ≢ 0 → Remembers known steps → next_slot_in known x.slot ≡ Some x.next.slot
+pub remembers_at : (known : List (ℕ × Seen)) (steps : List ChainStep) (i : ℕ) (x : ChainStep) → i < length steps
+    → x ≡ slice_index_or steps i x → x.next.slot ≢ 0 → Remembers known steps
+    → next_slot_in known x.slot ≡ Some x.next.slot
 unfolding Remembers
 remembers_at known steps i x below is some h = subst (λ (y : ChainStep). IsRight known y) (sym is) (h i x below) some

@@ -25,7 +25,8 @@ module _ {s : State} {w v : ℕ} (a : IsAdmitted s w (Join v)) where
 module _ (s : State) (w v : ℕ) (apart : v ≢ w) where
   heir_learns : learn w (of s w) (Join v) (Joined (of s v).ledgers) ≡ inheriting (of s w) (of s v).ledgers
   unfolding learn
-  heir_learns = cond-false (w == v) (resigned (of s w)) (inheriting (of s w) (of s v).ledgers) (ne_eqb w v (λ e. apart (sym e)))
+  heir_learns = cond-false (w == v) (resigned (of s w)) (inheriting (of s w) (of s v).ledgers)
+      (ne_eqb w v (λ e. apart (sym e)))
 
   leaver_learns : learn v (of s v) (Join v) (Joined (of s v).ledgers) ≡ resigned (of s v)
   unfolding learn
@@ -39,6 +40,7 @@ module _ (s : State) (w v : ℕ) (apart : v ≢ w) where
   unfolding applied write
   joined leaver heir gone came w_there v_there leaver_is gone_is heir_is came_is =
       let here : leaver ≡ of s v = found s v leaver v_there leaver_is in
-      let there : heir ≡ of s w = heir_is ∙ get_or-set_other s.workers v w gone heir (λ e. apart (sym e)) ∙ get_or_default s.workers w heir (newcomer s.layout w) w_there in
+      let there : heir ≡ of s w = heir_is ∙ get_or-set_other s.workers v w gone heir (λ e. apart (sym e))
+      ∙ get_or_default s.workers w heir (newcomer s.layout w) w_there in
       ap (λ (ws : List Knowledge). record s { workers = ws })
       (set_comm s.workers v w gone came apart ∙ rw (heir_learns, leaver_learns, came_is, gone_is, here, there) refl)

@@ -15,7 +15,8 @@ parts s true false = record { slot = omega arith; flag = grind (arith, nat_tests
 parts s false true = record { slot = omega arith; flag = grind (arith, nat_tests); tag = grind (arith, nat_tests) }
 parts s false false = record { slot = omega arith; flag = grind (arith, nat_tests); tag = grind (arith, nat_tests) }
 
-word_is_word : (s : ℕ) (f t : Bool) → s < 2 ^ 32 → (s ≡ 0 → f ≡ false) → (s ≡ 0 → t ≡ false) → is_word (word_of (record { slot = s; flag = f; tag = t })) ≡ true
+word_is_word : (s : ℕ) (f t : Bool) → s < 2 ^ 32 → (s ≡ 0 → f ≡ false) → (s ≡ 0 → t ≡ false)
+    → is_word (word_of (record { slot = s; flag = f; tag = t })) ≡ true
 word_is_word s true true h no_flag no_tag = grind (arith, nat_tests)
 word_is_word s true false h no_flag no_tag = grind (arith, nat_tests)
 word_is_word s false true h no_flag no_tag = grind (arith, nat_tests)

@@ -9,7 +9,8 @@ doubled : (half bit : ℕ) → (2 * half + 1) * 2 ^ suc bit ≡ (2 * half + 1) *
 doubled half bit = ap (λ (n : ℕ). (2 * half + 1) * n) (pow-suc 2 bit) ∙ sym (mul_assoc (2 * half + 1) (2 ^ bit) 2)
 
 halved : (k bit : ℕ) → k / 2 / 2 ^ (bit + 1) ≡ k / 2 ^ (suc bit + 1)
-halved k bit = div-div-eq-div-mul k 2 (2 ^ (bit + 1)) ∙ ap (λ (n : ℕ). k / n) (power_is (2 ^ (bit + 1)) (pow-suc 2 (bit + 1)))
+halved k bit = div-div-eq-div-mul k 2 (2 ^ (bit + 1))
+    ∙ ap (λ (n : ℕ). k / n) (power_is (2 ^ (bit + 1)) (pow-suc 2 (bit + 1)))
   where
     one_more : suc (bit + 1) ≡ suc bit + 1
     one_more = omega arith
@@ -25,16 +26,25 @@ in_range : (n R k : ℕ) → covers_in n R k ≡ true → IsInRange R k
 in_range zero R k h = absurd (true≢false (sym h))
 in_range (suc n) R k h = go (R % 2 == 1) refl h (in_range n (R / 2) (k / 2))
   where
-    go : (b : Bool) → (R % 2 == 1) ≡ b → cond b (k / 2 == R / 2) (covers_in n (R / 2) (k / 2)) ≡ true → (covers_in n (R / 2) (k / 2) ≡ true → IsInRange (R / 2) (k / 2)) → IsInRange R k
-    go true odd h rec = let one = eqb-true (R % 2) 1 odd in record { bit = 0; half = R / 2; router = omega (arith, one); within = eqb-true (k / 2) (R / 2) h }
+    go : (b : Bool) → (R % 2 == 1) ≡ b → cond b (k / 2 == R / 2) (covers_in n (R / 2) (k / 2)) ≡ true
+        → (covers_in n (R / 2) (k / 2) ≡ true → IsInRange (R / 2) (k / 2)) → IsInRange R k
+    go true odd h rec = let one = eqb-true (R % 2) 1 odd in
+        record { bit = 0; half = R / 2; router = omega (arith, one); within = eqb-true (k / 2) (R / 2) h }
     go false even h rec =
         let r = rec h in
         let two = doubled r.half r.bit in
         let is = r.router in
         let ne = eqb-false (R % 2) 1 even in
-        record { bit = suc r.bit; half = r.half; router = omega (arith, two, is, ne); within = sym (halved k r.bit) ∙ r.within }
+        record {
+          bit = suc r.bit;
+          half = r.half;
+          router = omega (arith, two, is, ne);
+          within = sym (halved k r.bit)
+              ∙ r.within;
+        }
 
-covered : (n bit half R k : ℕ) → R < 2 ^ n → R ≡ (2 * half + 1) * 2 ^ bit → k / 2 ^ (bit + 1) ≡ half → covers_in n R k ≡ true
+covered : (n bit half R k : ℕ) → R < 2 ^ n → R ≡ (2 * half + 1) * 2 ^ bit → k / 2 ^ (bit + 1) ≡ half
+    → covers_in n R k ≡ true
 covered zero bit half R k small is within = let ne = some bit half in absurd (ne (omega (arith, small, is)))
 covered (suc n) zero half R k small is within = go (R % 2 == 1) (eq-eqb (R % 2) 1 (omega (arith, is)))
   where
@@ -43,9 +53,11 @@ covered (suc n) zero half R k small is within = go (R % 2 == 1) (eq-eqb (R % 2) 
     go false odd = absurd (true≢false (sym odd))
 covered (suc n) (suc bit) half R k small is within =
     go (R % 2 == 1) (ne_eqb (R % 2) 1 (λ odd. let two = doubled half bit in omega (arith, two, is, odd)))
-    (covered n bit half (R / 2) (k / 2) (let power = pow-suc 2 n in omega (arith, power, small)) (let two = doubled half bit in omega (arith, two, is)) (halved k bit ∙ within))
+    (covered n bit half (R / 2) (k / 2) (let power = pow-suc 2 n in omega (arith, power, small))
+    (let two = doubled half bit in omega (arith, two, is)) (halved k bit ∙ within))
   where
-    go : (b : Bool) → b ≡ false → covers_in n (R / 2) (k / 2) ≡ true → cond b (k / 2 == R / 2) (covers_in n (R / 2) (k / 2)) ≡ true
+    go : (b : Bool) → b ≡ false → covers_in n (R / 2) (k / 2) ≡ true
+        → cond b (k / 2 == R / 2) (covers_in n (R / 2) (k / 2)) ≡ true
     go true even rec = absurd (true≢false even)
     go false even rec = rec
 

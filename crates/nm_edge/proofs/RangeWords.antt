@@ -54,8 +54,10 @@ same_is : (a b : ℕ) → nat_lt (bit_xor a b) 1 ≡ (a == b)
 same_is a b = go (a == b) refl
   where
     go : (t : Bool) → (a == b) ≡ t → nat_lt (bit_xor a b) 1 ≡ t
-    go true same = let z = ap (λ (x : ℕ). bit_xor x b) (eqb-true a b same) ∙ xor_self b in lt-ltb (bit_xor a b) 1 (omega (arith, z))
-    go false other = let ne = eqb-false a b other in le-ltb (bit_xor a b) 1 (let some : bit_xor a b ≢ 0 = λ z. ne (xor_none a b z) in omega (arith, some))
+    go true same = let z = ap (λ (x : ℕ). bit_xor x b) (eqb-true a b same) ∙ xor_self b in
+        lt-ltb (bit_xor a b) 1 (omega (arith, z))
+    go false other = let ne = eqb-false a b other in
+        le-ltb (bit_xor a b) 1 (let some : bit_xor a b ≢ 0 = λ z. ne (xor_none a b z) in omega (arith, some))
 
 halved : (x n : ℕ) → nat_lt x (n * 2) ≡ nat_lt (x / 2) n
 halved x n = go (nat_lt (x / 2) n) refl
@@ -68,21 +70,29 @@ half_xor : (k R : ℕ) → bit_xor k R / 2 ≡ bit_xor (k / 2) (R / 2)
 half_xor k R = xor_shr k R 1
 
 in_words : (w R n k : ℕ) → R < 2 ^ w → IsNegated w R n → nat_lt (bit_xor k R / 2) (bit_and R n) ≡ covers_in w R k
-in_words zero R n k small neg = let le = and_le_l R n in le-ltb (bit_xor k R / 2) (bit_and R n) (omega (arith, le, small))
+in_words zero R n k small neg = let le = and_le_l R n in
+    le-ltb (bit_xor k R / 2) (bit_and R n) (omega (arith, le, small))
 in_words (suc w) R n k small neg = go (in_words w (R / 2) (n / 2) (k / 2)) (R % 2 == 1) refl
   where
     power : 2 ^ suc w ≡ 2 ^ w * 2
     power = pow-suc 2 w
 
-    go : (R / 2 < 2 ^ w → IsNegated w (R / 2) (n / 2) → nat_lt (bit_xor (k / 2) (R / 2) / 2) (bit_and (R / 2) (n / 2)) ≡ covers_in w (R / 2) (k / 2)) → (t : Bool) → (R % 2 == 1) ≡ t → nat_lt (bit_xor k R / 2) (bit_and R n) ≡ cond t (k / 2 == R / 2) (covers_in w (R / 2) (k / 2))
-    go rec true odd = ap (λ (x : ℕ). nat_lt x (bit_and R n)) (half_xor k R) ∙ (ap (nat_lt (bit_xor (k / 2) (R / 2))) (odd_lowest w R n small (eqb-true (R % 2) 1 odd) neg) ∙ same_is (k / 2) (R / 2))
+    go : (R / 2 < 2 ^ w → IsNegated w (R / 2) (n / 2)
+        → nat_lt (bit_xor (k / 2) (R / 2) / 2) (bit_and (R / 2) (n / 2)) ≡ covers_in w (R / 2) (k / 2)) → (t : Bool)
+        → (R % 2 == 1) ≡ t → nat_lt (bit_xor k R / 2) (bit_and R n)
+        ≡ cond t (k / 2 == R / 2) (covers_in w (R / 2) (k / 2))
+    go rec true odd = ap (λ (x : ℕ). nat_lt x (bit_and R n)) (half_xor k R)
+        ∙ (ap (nat_lt (bit_xor (k / 2) (R / 2))) (odd_lowest w R n small (eqb-true (R % 2) 1 odd) neg)
+        ∙ same_is (k / 2) (R / 2))
     go rec false even =
         let ne = eqb-false (R % 2) 1 even in
         ap (λ (x : ℕ). nat_lt x (bit_and R n)) (half_xor k R)
         ∙ (ap (nat_lt (bit_xor (k / 2) (R / 2))) (even_lowest R n ne)
-        ∙ (halved (bit_xor (k / 2) (R / 2)) (bit_and (R / 2) (n / 2)) ∙ rec (let p = power in omega (arith, p, small)) (halves w R n ne neg)))
+        ∙ (halved (bit_xor (k / 2) (R / 2)) (bit_and (R / 2) (n / 2))
+        ∙ rec (let p = power in omega (arith, p, small)) (halves w R n ne neg)))
 
-pub covers_by_words : (R n k : ℕ) → R < 2 ^ 64 → n < 2 ^ 64 → (n + R) % 2 ^ 64 ≡ 0 → nat_lt (bit_xor k R / 2) (bit_and R n) ≡ covers R k
+pub covers_by_words : (R n k : ℕ) → R < 2 ^ 64 → n < 2 ^ 64 → (n + R) % 2 ^ 64 ≡ 0
+    → nat_lt (bit_xor k R / 2) (bit_and R n) ≡ covers R k
 covers_by_words R n k small less neg = in_words 64 R n k small (go (R == 0) refl)
   where
     go : (t : Bool) → (R == 0) ≡ t → IsNegated 64 R n
@@ -92,14 +102,17 @@ covers_by_words R n k small less neg = in_words 64 R n k small (go (R == 0) refl
 -- ---- the router between two keys
 
 -- the greater one of them, down to the highest bit in which they differ
-parted : (j less more : ℕ) → more < 2 ^ 64 → less < more → less / 2 ^ (j + 1) ≡ more / 2 ^ (j + 1) → less / 2 ^ j ≢ more / 2 ^ j → (covers (more / 2 ^ j * 2 ^ j) less ≡ true) × (covers (more / 2 ^ j * 2 ^ j) more ≡ true) × (less < more / 2 ^ j * 2 ^ j) × (more / 2 ^ j * 2 ^ j ≤ more)
+parted : (j less more : ℕ) → more < 2 ^ 64 → less < more → less / 2 ^ (j + 1) ≡ more / 2 ^ (j + 1)
+    → less / 2 ^ j ≢ more / 2 ^ j → (covers (more / 2 ^ j * 2 ^ j) less ≡ true)
+    × (covers (more / 2 ^ j * 2 ^ j) more ≡ true) × (less < more / 2 ^ j * 2 ^ j) × (more / 2 ^ j * 2 ^ j ≤ more)
 parted j less more small order same differ =
     let R = more / 2 ^ j * 2 ^ j in
     let half = more / 2 ^ (j + 1) in
     let twice : (n : ℕ) → n / 2 ^ (j + 1) ≡ n / 2 ^ j / 2 = λ n. twice_of n in
     let up = twice more in
     let low = twice less in
-    let ascend : less / 2 ^ j ≤ more / 2 ^ j = le-div (less / 2 ^ j) more (2 ^ j) (pow_pos j) (let low = div-mul-le_self less (2 ^ j) in omega (arith, low, order)) in
+    let ascend : less / 2 ^ j ≤ more / 2 ^ j = le-div (less / 2 ^ j) more (2 ^ j) (pow_pos j)
+    (let low = div-mul-le_self less (2 ^ j) in omega (arith, low, order)) in
     let odd : more / 2 ^ j ≡ 2 * half + 1 = omega (arith, up, low, same, differ, ascend) in
     let under : R ≤ more = div-mul-le_self more (2 ^ j) in
     let fits : R < 2 ^ 64 = omega (arith, under, small) in
@@ -123,7 +136,8 @@ module _ (k r : ℕ) (fits_k : k < 2 ^ 64) (fits_r : r < 2 ^ 64) (differ : k ≢
   some : 0 < bit_xor k r
   some = let ne : bit_xor k r ≢ 0 = λ z. differ (xor_none k r z) in omega (arith, ne)
 
-  top : (j : ℕ) × (count_leading_zeros 64 (bit_xor k r) + suc j ≡ 64) × (2 ^ j ≤ bit_xor k r) × (bit_xor k r < 2 ^ suc j)
+  top : (j : ℕ) × (count_leading_zeros 64 (bit_xor k r) + suc j ≡ 64) × (2 ^ j ≤ bit_xor k r)
+      × (bit_xor k r < 2 ^ suc j)
   top = leading_top 64 (bit_xor k r) some (xor_lt 64 k r fits_k fits_r)
 
   pub zeros_below : count_leading_zeros 64 (bit_xor k r) ≤ 63
@@ -133,33 +147,52 @@ module _ (k r : ℕ) (fits_k : k < 2 ^ 64) (fits_r : r < 2 ^ 64) (differ : k ≢
   place = let all = top.1 in omega (arith, all)
 
   same : k / 2 ^ (top.0 + 1) ≡ r / 2 ^ (top.0 + 1)
-  same = xor_none (k / 2 ^ (top.0 + 1)) (r / 2 ^ (top.0 + 1)) (sym (xor_shr k r (top.0 + 1)) ∙ div-eq_of_lt (subst (λ (n : ℕ). bit_xor k r < 2 ^ n) next top.3))
+  same = xor_none (k / 2 ^ (top.0 + 1)) (r / 2 ^ (top.0 + 1))
+      (sym (xor_shr k r (top.0 + 1)) ∙ div-eq_of_lt (subst (λ (n : ℕ). bit_xor k r < 2 ^ n) next top.3))
     where
       next : suc top.0 ≡ top.0 + 1
       next = omega arith
 
   parts : k / 2 ^ top.0 ≢ r / 2 ^ top.0
   parts e =
-      let one : 1 ≤ bit_xor k r / 2 ^ top.0 = le-div 1 (bit_xor k r) (2 ^ top.0) (pow_pos top.0) (let high = top.2 in omega (arith, high)) in
-      let none : bit_xor k r / 2 ^ top.0 ≡ 0 = xor_shr k r top.0 ∙ (ap (λ (n : ℕ). bit_xor n (r / 2 ^ top.0)) e ∙ xor_self (r / 2 ^ top.0)) in
+      let one : 1 ≤ bit_xor k r / 2 ^ top.0 = le-div 1 (bit_xor k r) (2 ^ top.0) (pow_pos top.0)
+      (let high = top.2 in omega (arith, high)) in
+      let none : bit_xor k r / 2 ^ top.0 ≡ 0 = xor_shr k r top.0
+      ∙ (ap (λ (n : ℕ). bit_xor n (r / 2 ^ top.0)) e ∙ xor_self (r / 2 ^ top.0)) in
       omega (arith, one, none)
 
   -- what is stored, by a power that is the same
   stored : (g b : ℕ) → g < 2 ^ 64 → b ≡ top.0 → g / 2 ^ b * 2 ^ b % 2 ^ 64 ≡ g / 2 ^ top.0 * 2 ^ top.0
-  stored g b fits is = ap (λ (n : ℕ). g / 2 ^ n * 2 ^ n % 2 ^ 64) is ∙ mod-eq_of_lt (let low = div-mul-le_self g (2 ^ top.0) in omega (arith, low, fits))
+  stored g b fits is = ap (λ (n : ℕ). g / 2 ^ n * 2 ^ n % 2 ^ 64) is
+      ∙ mod-eq_of_lt (let low = div-mul-le_self g (2 ^ top.0) in omega (arith, low, fits))
 
   abbrev kept : ℕ → ℕ
-  kept g = g / 2 ^ (63 - count_leading_zeros 64 (bit_xor k r)) * 2 ^ (63 - count_leading_zeros 64 (bit_xor k r)) % 2 ^ 64
+  kept g = g / 2 ^ (63 - count_leading_zeros 64 (bit_xor k r))
+      * 2 ^ (63 - count_leading_zeros 64 (bit_xor k r)) % 2 ^ 64
 
-  pub when_less : (g : ℕ) → k < r → g ≡ r → IsParting k r (g / 2 ^ (63 - count_leading_zeros 64 (bit_xor k r)) * 2 ^ (63 - count_leading_zeros 64 (bit_xor k r)) % 2 ^ 64)
+  pub when_less : (g : ℕ) → k < r → g ≡ r → IsParting k r
+      (g / 2 ^ (63 - count_leading_zeros 64 (bit_xor k r)) * 2 ^ (63 - count_leading_zeros 64 (bit_xor k r)) % 2 ^ 64)
   when_less g order is =
       let p = parted top.0 k r fits_r order same parts in
       subst (IsParting k r) (sym (ap kept is ∙ stored r (63 - count_leading_zeros 64 (bit_xor k r)) fits_r place))
-      (record { covers_one = p.0; covers_other = p.1; low = λ _. (p.2, p.3); high = λ other. absurd (omega (arith, other, order)) })
+      (record {
+        covers_one = p.0;
+        covers_other = p.1;
+        low = λ _. (p.2, p.3);
+        high = λ other. absurd
+            (omega (arith, other, order));
+      })
 
-  pub when_greater : (g : ℕ) → r ≤ k → g ≡ k → IsParting k r (g / 2 ^ (63 - count_leading_zeros 64 (bit_xor k r)) * 2 ^ (63 - count_leading_zeros 64 (bit_xor k r)) % 2 ^ 64)
+  pub when_greater : (g : ℕ) → r ≤ k → g ≡ k → IsParting k r
+      (g / 2 ^ (63 - count_leading_zeros 64 (bit_xor k r)) * 2 ^ (63 - count_leading_zeros 64 (bit_xor k r)) % 2 ^ 64)
   when_greater g least is =
       let order : r < k = omega (arith, least, differ) in
       let p = parted top.0 r k fits_k order (sym same) (λ e. parts (sym e)) in
       subst (IsParting k r) (sym (ap kept is ∙ stored k (63 - count_leading_zeros 64 (bit_xor k r)) fits_k place))
-      (record { covers_one = p.1; covers_other = p.0; low = λ other. absurd (omega (arith, other, order)); high = λ _. (p.2, p.3) })
+      (record {
+        covers_one = p.1;
+        covers_other = p.0;
+        low = λ other. absurd (omega (arith, other, order));
+        high =
+            λ _. (p.2, p.3);
+      })

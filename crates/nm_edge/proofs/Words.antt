@@ -9,9 +9,11 @@ use Rattle.nm_edge.specs.Words.{at_epoch, at_announcement, at_key, at_edge, at_b
 -- ---- announcements
 
 -- an announcement stands behind the epoch's word, and with its gap before all that stands behind the announcements
-pub announcement_within : (L : Layout) (w : ℕ) → w < L.workers → behind_announcements L w + 1 + L.gap ≤ behind_announcements L L.workers
+pub announcement_within : (L : Layout) (w : ℕ) → w < L.workers
+    → behind_announcements L w + 1 + L.gap ≤ behind_announcements L L.workers
 announcement_within L w below =
-    let more : (1 + L.gap) * (w + 1) ≤ (1 + L.gap) * L.workers = mul-le-mul_left (1 + L.gap) (let e : w + 1 ≤ L.workers = omega (arith, below) in e) in
+    let more : (1 + L.gap) * (w + 1) ≤ (1 + L.gap) * L.workers = mul-le-mul_left (1 + L.gap)
+    (let e : w + 1 ≤ L.workers = omega (arith, below) in e) in
     omega (arith, more)
 
 announcements_apart : (L : Layout) (v w : ℕ) → behind_announcements L v ≡ behind_announcements L w → v ≡ w
@@ -20,11 +22,15 @@ announcements_apart L v w e = eq_of_mul-eq-mul_left (1 + L.gap) (omega arith) v 
 pub fields_apart : FieldsAreApart
 fields_apart L at_epoch at_epoch f g e = refl
 fields_apart L (at_announcement v) (at_announcement w) f g e = ap at_announcement (announcements_apart L v w e)
-fields_apart L (at_announcement v) (at_edge t Left) f g e = absurd (let within = announcement_within L v f in omega (arith, e, within))
-fields_apart L (at_announcement v) (at_edge t Right) f g e = absurd (let within = announcement_within L v f in omega (arith, e, within))
+fields_apart L (at_announcement v) (at_edge t Left) f g e = absurd
+    (let within = announcement_within L v f in omega (arith, e, within))
+fields_apart L (at_announcement v) (at_edge t Right) f g e = absurd
+    (let within = announcement_within L v f in omega (arith, e, within))
 fields_apart L (at_announcement v) _ f g e = absurd (let within = announcement_within L v f in omega (arith, e, within))
-fields_apart L (at_edge s Left) (at_announcement w) f g e = absurd (let within = announcement_within L w g in omega (arith, e, within))
-fields_apart L (at_edge s Right) (at_announcement w) f g e = absurd (let within = announcement_within L w g in omega (arith, e, within))
+fields_apart L (at_edge s Left) (at_announcement w) f g e = absurd
+    (let within = announcement_within L w g in omega (arith, e, within))
+fields_apart L (at_edge s Right) (at_announcement w) f g e = absurd
+    (let within = announcement_within L w g in omega (arith, e, within))
 fields_apart L _ (at_announcement w) f g e = absurd (let within = announcement_within L w g in omega (arith, e, within))
 fields_apart L (at_key s) (at_key t) f g e = ap at_key (omega (arith, e))
 fields_apart L (at_edge s Left) (at_edge t Left) f g e = ap (λ (n : ℕ). at_edge n Left) (omega (arith, e, f.0, g.0))

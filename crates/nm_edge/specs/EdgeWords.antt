@@ -22,4 +22,5 @@ side (suc (suc n)) h = absurd (omega arith)
 
 -- the number of the place in a number is that number
 pub place_number : (n : ℕ) → is_place n ≡ true → number_of (place_in n) ≡ n
-place_number n is = let less : n % 4 < 2 = grind (arith, nat_tests, is) in let is_side = side (n % 2) (omega arith) in omega (arith, less, is_side)
+place_number n is = let less : n % 4 < 2 = grind (arith, nat_tests, is) in
+    let is_side = side (n % 2) (omega arith) in omega (arith, less, is_side)

@@ -35,17 +35,20 @@ pub may_announce : (p : PassView) → IsSome (epochs p).seen → (epochs p).pin 
 unfolding refusal
 may_announce p seen pin = record {
   looked = tt;
-  allowed = λ m h. passes _ _ (neither (is_none (epochs p).seen) (is_some (epochs p).pin) (is_there _ seen) (ap is_some pin));
+  allowed = λ m h. passes _ _ (neither (is_none (epochs p).seen) (is_some (epochs p).pin) (is_there _ seen)
+      (ap is_some pin));
   ordered = refl;
   births = tt;
   key = tt;
 }
 
-pub may_sight_for : (p : PassView) (op : Op) (key : ℕ) → IsSome (epochs p).announcement → (epochs p).pin ≡ None → IsKey key → MayStep p (SightFor op key)
+pub may_sight_for : (p : PassView) (op : Op) (key : ℕ) → IsSome (epochs p).announcement → (epochs p).pin ≡ None
+    → IsKey key → MayStep p (SightFor op key)
 unfolding refusal
 may_sight_for p op key announcement pin is = record {
   looked = tt;
-  allowed = λ m h. passes _ _ (neither (is_none (epochs p).announcement) (is_some (epochs p).pin) (is_there _ announcement) (ap is_some pin));
+  allowed = λ m h. passes _ _ (neither (is_none (epochs p).announcement) (is_some (epochs p).pin)
+      (is_there _ announcement) (ap is_some pin));
   ordered = refl;
   births = tt;
   key = is;
@@ -98,14 +101,18 @@ frees None e h = refl
 frees (Some a) e h = ap not h
 
 -- once all workers let it pass, the epoch may be moved on
-pub may_advance : (me e n : ℕ) (old : List Entry) (p : PassView) → me ≡ p.view.number → me < n → n ≡ p.view.layout.workers → e < last_number → IsLooking me e n old p → MayStep p Advance
+pub may_advance : (me e n : ℕ) (old : List Entry) (p : PassView) → me ≡ p.view.number → me < n
+    → n ≡ p.view.layout.workers → e < last_number → IsLooking me e n old p → MayStep p Advance
 unfolding refusal
 may_advance me e n old p own there all small h = record {
   looked = tt;
   allowed = λ m x. passes_then _ _ _
-      (neither (is_none (epochs p).seen) (not (others_scanned p.view.number (marks p)) || is_held_back (epochs p).pin (epochs p).seen) (ap is_none h.seen)
+      (neither (is_none (epochs p).seen) (not (others_scanned p.view.number (marks p))
+      || is_held_back (epochs p).pin (epochs p).seen) (ap is_none h.seen)
       (neither (not (others_scanned p.view.number (marks p))) (is_held_back (epochs p).pin (epochs p).seen)
-      (ap not (all_others p.view.number (marks p) (λ v below. subst (λ (w : ℕ). (v ≡ w) ⊎ (slice_index_or (marks p) v false ≡ true)) own (h.marked v (let size = one_for_each p in omega arith)))))
+      (ap not (all_others p.view.number (marks p) (λ v below. subst
+      (λ (w : ℕ). (v ≡ w) ⊎ (slice_index_or (marks p) v false ≡ true)) own
+      (h.marked v (let size = one_for_each p in omega arith)))))
       (ap (λ (o : Option ℕ). is_held_back (epochs p).pin o) h.seen ∙ frees (epochs p).pin e (h.own there))))
       (passes _ _ (ap (λ (o : Option ℕ). nat_le last_number (unwrap_or o 0)) h.seen ∙ lt-leb last_number e small));
   ordered = refl;

@@ -14,7 +14,8 @@ use Rattle.nm_epoch.specs.Resting.{epochs, search}
 pub epochs_after : (p q : PassView) (e : Event) (r : Reply) → Stepped p q e r → epochs q ≡ noted (epochs p) e r
 epochs_after p q e r step =
     ap (λ (x : PassView). epochs x) step
-    ∙ (ap (λ (k : Knowledge). k.brief) (known_push p.view.number p.view.layout p.view.log (e, r)) ∙ brief_is_noted p.view.number (knowledge p.view) e r)
+    ∙ (ap (λ (k : Knowledge). k.brief) (known_push p.view.number p.view.layout p.view.log (e, r))
+    ∙ brief_is_noted p.view.number (knowledge p.view) e r)
 
 pub search_is : (p q : PassView) (e : Event) (r : Reply) → Stepped p q e r → search q ≡ searched (search p) e r
 search_is p q e r step = ap (λ (x : PassView). search x) step ∙ search_more idle p.view.log (e, r)

@@ -35,9 +35,11 @@ module _ (L : Layout) (k : Knowledge) (apart : AreApart L k) where
   below : (hs : List HeldQueue) → AreHeld k hs → (o : ℕ) → list_any (eqb o) (origins hs) ≡ true → o < L.workers
   below [] has o is = absurd (true≢false (sym is))
   below (h ∷ hs) has o is = elim (or_cases (eqb o h.origin) (list_any (eqb o) (origins hs)) is) [
-    | inl here ↦ subst (λ (p : ℕ). p < L.workers) (sym (eqb-true o h.origin here)) (apart.origins h.origin (is_held (held k.ledgers h.origin) _ has.0))
+    | inl here ↦ subst (λ (p : ℕ). p < L.workers) (sym (eqb-true o h.origin here))
+        (apart.origins h.origin (is_held (held k.ledgers h.origin) _ has.0))
     | inr later ↦ below hs has.2 o later
   ]
 
   pub few : (hs : List HeldQueue) → AreHeld k hs → length hs ≤ L.workers
-  few hs has = subst (λ (n : ℕ). n ≤ L.workers) (length-map hs (λ (h : HeldQueue). h.origin)) (length-le_from_distinct_below (origins hs) L.workers (distinct hs has) (below hs has))
+  few hs has = subst (λ (n : ℕ). n ≤ L.workers) (length-map hs (λ (h : HeldQueue). h.origin))
+      (length-le_from_distinct_below (origins hs) L.workers (distinct hs has) (below hs has))

@@ -47,7 +47,12 @@ as_it_was k r = record { drafts = refl; ledgers = λ _. refl; labelled = λ _. r
 
 sight_keeps : (k : Knowledge) (r : Reply) → Keeps k (learn_sight k r) r
 sight_keeps k (Saw e) = record { drafts = refl; ledgers = λ _. refl; labelled = λ _. refl }
-sight_keeps k (Labelled e) = record { drafts = refl; ledgers = λ is. absurd (true≢false is); labelled = λ is. absurd (true≢false is) }
+sight_keeps k (Labelled e) = record {
+  drafts = refl;
+  ledgers = λ is. absurd (true≢false is);
+  labelled = λ is. absurd
+      (true≢false is);
+}
 sight_keeps k (Pinned e) = record { drafts = refl; ledgers = λ _. refl; labelled = λ _. refl }
 sight_keeps k (Missed e) = record { drafts = refl; ledgers = λ _. refl; labelled = λ _. refl }
 sight_keeps k _ = as_it_was k _
@@ -73,7 +78,8 @@ learn_keeps w k (LeaveWith answer) _ q = as_it_was k _
 learn_keeps w k Advance _ q = as_it_was k _
 learn_keeps w k _ _ q = absurd (true≢false (sym q))
 
-pub hands_kept : (p q : PassView) (e : Event) (r : Reply) → Stepped p q e r → is_quiet e ≡ true → ((epochs p).unlabelled ≡ false → is_label r ≡ false) → KeepsHands p q
+pub hands_kept : (p q : PassView) (e : Event) (r : Reply) → Stepped p q e r → is_quiet e ≡ true
+    → ((epochs p).unlabelled ≡ false → is_label r ≡ false) → KeepsHands p q
 hands_kept p q e r step quiet silent =
     let after = known_after_step p q e r step in
     let l = learn_keeps p.view.number (knowledge p.view) e r quiet in
@@ -88,7 +94,8 @@ pub sight_is_silent : (b : Brief) (r : Reply) → IsSight b r → b.unlabelled �
 sight_is_silent b r s none' = ap is_label s.2 ∙ (ap is_label (is_confirmed s.0) ∙ never b.pin b.announcement s.0)
   where
     is_confirmed : (e : ℕ) → sight_of b e ≡ confirmed b.pin b.announcement e
-    is_confirmed e = cond_both b.unlabelled (Labelled e) (confirmed b.pin b.announcement e) (λ y. y ≡ confirmed b.pin b.announcement e) (λ yes. absurd (true≢false (sym yes ∙ none'))) (λ _. refl)
+    is_confirmed e = cond_both b.unlabelled (Labelled e) (confirmed b.pin b.announcement e)
+        (λ y. y ≡ confirmed b.pin b.announcement e) (λ yes. absurd (true≢false (sym yes ∙ none'))) (λ _. refl)
 
     never : (pin announced : Option ℕ) (e : ℕ) → is_label (confirmed pin announced e) ≡ false
     never (Some p) announced e = refl
@@ -113,17 +120,23 @@ scan_is_silent (Some e) = refl
 
 -- ---- a look at a worker
 
-module _ (me v : ℕ) (pin found : Option ℕ) (p q : PassView) (same : IsSamePass p q) (look : LooksAt me pin v found p.view.log q.view.log) where
+module _ (me v : ℕ) (pin found : Option ℕ) (p q : PassView) (same : IsSamePass p q)
+    (look : LooksAt me pin v found p.view.log q.view.log) where
   scanned : q.view.log ≡ p.view.log ++ (Scan v, reply_scan found) ∷ [] → Stepped p q (Scan v) (reply_scan found)
-  scanned more = same ∙ ap (λ (log : List Entry). record p { view = record p.view { log = log; past = q.view.past; stores = q.view.stores } }) more
+  scanned more = same ∙ ap (λ (log : List Entry). record p
+      { view = record p.view { log = log; past = q.view.past; stores = q.view.stores } }) more
 
-  unmoved : q.view.log ≡ p.view.log → q ≡ record p { view = record p.view { past = q.view.past; stores = q.view.stores } }
-  unmoved none' = same ∙ ap (λ (log : List Entry). record p { view = record p.view { log = log; past = q.view.past; stores = q.view.stores } }) none'
+  unmoved : q.view.log ≡ p.view.log → q ≡ record p
+      { view = record p.view { past = q.view.past; stores = q.view.stores } }
+  unmoved none' = same ∙ ap (λ (log : List Entry). record p
+      { view = record p.view { log = log; past = q.view.past; stores = q.view.stores } }) none'
 
   pub look_keeps : KeepsHands p q
   look_keeps = ⊎_elim
-      (λ (own : (v ≡ me) × (found ≡ pin) × (q.view.log ≡ p.view.log)). subst (λ (x : PassView). KeepsHands p x) (sym (unmoved own.2)) (record { private = refl; labelled = λ none'. none'; ledgers = λ none'. refl }))
-      (λ (other : (v ≢ me) × (q.view.log ≡ p.view.log ++ (Scan v, reply_scan found) ∷ [])). hands_kept p q (Scan v) (reply_scan found) (scanned other.1) refl (λ _. scan_is_silent found))
+      (λ (own : (v ≡ me) × (found ≡ pin) × (q.view.log ≡ p.view.log)). subst (λ (x : PassView). KeepsHands p x)
+      (sym (unmoved own.2)) (record { private = refl; labelled = λ none'. none'; ledgers = λ none'. refl }))
+      (λ (other : (v ≢ me) × (q.view.log ≡ p.view.log ++ (Scan v, reply_scan found) ∷ [])). hands_kept p q (Scan v)
+      (reply_scan found) (scanned other.1) refl (λ _. scan_is_silent found))
       look
 
   scan_known : (w : ℕ) (k : Knowledge) → (learn w k (Scan v) (reply_scan found)).known ≡ k.known
@@ -136,6 +149,9 @@ module _ (me v : ℕ) (pin found : Option ℕ) (p q : PassView) (same : IsSamePa
 
   pub look_known : (knowledge q.view).known ≡ (knowledge p.view).known
   look_known = ⊎_elim
-      (λ (own : (v ≡ me) × (found ≡ pin) × (q.view.log ≡ p.view.log)). ap (λ (x : PassView). (knowledge x.view).known) (unmoved own.2))
-      (λ (other : (v ≢ me) × (q.view.log ≡ p.view.log ++ (Scan v, reply_scan found) ∷ [])). ap (λ (k : Knowledge). k.known) (known_after_step p q (Scan v) (reply_scan found) (scanned other.1)) ∙ scan_known p.view.number (knowledge p.view))
+      (λ (own : (v ≡ me) × (found ≡ pin) × (q.view.log ≡ p.view.log)). ap
+      (λ (x : PassView). (knowledge x.view).known) (unmoved own.2))
+      (λ (other : (v ≢ me) × (q.view.log ≡ p.view.log ++ (Scan v, reply_scan found) ∷ [])). ap
+      (λ (k : Knowledge). k.known) (known_after_step p q (Scan v) (reply_scan found) (scanned other.1))
+      ∙ scan_known p.view.number (knowledge p.view))
       look

@@ -23,7 +23,8 @@ rests_after_leave p q step labelled =
       idle = search_is p q Leave Departed step;
     }
 
-pub rests_after_answer : (p q : PassView) (answer : Bool) → Stepped p q (LeaveWith answer) Departed → (epochs p).unlabelled ≡ false → IsResting q
+pub rests_after_answer : (p q : PassView) (answer : Bool) → Stepped p q (LeaveWith answer) Departed
+    → (epochs p).unlabelled ≡ false → IsResting q
 unfolding searched
 rests_after_answer p q answer step labelled =
     let after = epochs_after p q (LeaveWith answer) Departed step in
@@ -45,7 +46,8 @@ pub answer_keeps : (p q : PassView) (answer : Bool) → Stepped p q (LeaveWith a
 answer_keeps p q answer step = hands_kept p q (LeaveWith answer) Departed step refl (λ _. refl)
 
 -- the epoch last read stays
-pub seen_after_leave : (p q : PassView) (e : ℕ) → Stepped p q Leave Departed → (epochs p).seen ≡ Some e → (epochs q).seen ≡ Some e
+pub seen_after_leave : (p q : PassView) (e : ℕ) → Stepped p q Leave Departed → (epochs p).seen ≡ Some e
+    → (epochs q).seen ≡ Some e
 seen_after_leave p q e step seen = ap (λ (b : Brief). b.seen) (epochs_after p q Leave Departed step) ∙ seen
 
 -- ---- after a look at the epoch or at the others
@@ -53,10 +55,18 @@ seen_after_leave p q e step seen = ap (λ (b : Brief). b.seen) (epochs_after p q
 -- a worker that rests still rests
 pub rests_still : (p q : PassView) → IsResting p → Settles p q → IsResting q
 rests_still p q r s =
-    let t = s.stays (inr r.silent) in record { unpinned = t.pin ∙ r.unpinned; silent = t.announcement ∙ r.silent; labelled = s.labelled; idle = t.search ∙ r.idle }
+    let t = s.stays (inr r.silent) in
+    record {
+      unpinned = t.pin ∙ r.unpinned;
+      silent = t.announcement
+          ∙ r.silent;
+      labelled = s.labelled;
+      idle = t.search ∙ r.idle;
+    }
 
 -- and one that is pinned for a call that has only begun may still leave
-pub pinned_may_still_leave : (p q : PassView) (e : ℕ) (call : Option Call) → IsPinnedAt e call p → Settles p q → MayStep q Leave
+pub pinned_may_still_leave : (p q : PassView) (e : ℕ) (call : Option Call) → IsPinnedAt e call p → Settles p q
+    → MayStep q Leave
 pinned_may_still_leave p q e call at s =
     let t = s.stays (inl (ap is_some at.pin)) in
     may_leave q s.labelled (ap (λ (x : Search). x.linked) (t.search ∙ at.begun))

@@ -38,21 +38,26 @@ row_after n w k [] h = h
 row_after n w k (x ∷ log) h = row_after n w (learn w k x.0 x.1) log (row_learn n w k x.0 x.1 h)
 
 pub one_for_each : (p : PassView) → length (marks p) ≡ p.view.layout.workers
-one_for_each p = (row_after p.view.layout.workers p.view.number (newcomer p.view.layout p.view.number) p.view.log (record {
-  scanned = length-replicate p.view.layout.workers false;
-  ledgers = length-set _ _ _ ∙ length-replicate p.view.layout.workers None;
-})).scanned
+one_for_each p = (row_after p.view.layout.workers p.view.number (newcomer p.view.layout p.view.number) p.view.log
+    (record {
+      scanned = length-replicate p.view.layout.workers false;
+      ledgers = length-set _ _ _ ∙ length-replicate p.view.layout.workers None;
+    })).scanned
 
 -- ---- a scan
 
-scan_marks : (w : ℕ) (k : Knowledge) (v e : ℕ) (found : Option ℕ) → k.brief.seen ≡ Some e → (learn w k (Scan v) (reply_scan found)).scanned ≡ slice_set k.scanned v (lets_pass found e)
+scan_marks : (w : ℕ) (k : Knowledge) (v e : ℕ) (found : Option ℕ) → k.brief.seen ≡ Some e
+    → (learn w k (Scan v) (reply_scan found)).scanned ≡ slice_set k.scanned v (lets_pass found e)
 scan_marks w k v e None seen = ap (λ (x : Knowledge). x.scanned) (learn_idle w k v)
-scan_marks w k v e (Some a) seen = ap (λ (x : Knowledge). x.scanned) (learn_in w k v a) ∙ ap (λ (o : Option ℕ). slice_set k.scanned v (is_number o a)) seen
+scan_marks w k v e (Some a) seen = ap (λ (x : Knowledge). x.scanned) (learn_in w k v a)
+    ∙ ap (λ (o : Option ℕ). slice_set k.scanned v (is_number o a)) seen
 
-pub marks_after : (p q : PassView) (v e : ℕ) (found : Option ℕ) → Stepped p q (Scan v) (reply_scan found) → (epochs p).seen ≡ Some e → marks q ≡ slice_set (marks p) v (lets_pass found e)
+pub marks_after : (p q : PassView) (v e : ℕ) (found : Option ℕ) → Stepped p q (Scan v) (reply_scan found)
+    → (epochs p).seen ≡ Some e → marks q ≡ slice_set (marks p) v (lets_pass found e)
 marks_after p q v e found step seen =
     ap (λ (x : PassView). marks x) step
-    ∙ (ap (λ (k : Knowledge). k.scanned) (known_push p.view.number p.view.layout p.view.log (Scan v, reply_scan found)) ∙ scan_marks p.view.number (knowledge p.view) v e found seen)
+    ∙ (ap (λ (k : Knowledge). k.scanned) (known_push p.view.number p.view.layout p.view.log
+    (Scan v, reply_scan found)) ∙ scan_marks p.view.number (knowledge p.view) v e found seen)
 
 -- ---- all others
 
@@ -64,9 +69,11 @@ scanned_or_own false v me (inr marked) = absurd (true≢false (sym marked))
 both_hold : (a b : Bool) → a ≡ true → b ≡ true → (a && b) ≡ true
 both_hold a b x y = ap (λ (c : Bool). c && b) x ∙ y
 
-all_from : (me n : ℕ) (ms : List Bool) → ((v : ℕ) → v < length ms → (n + v ≡ me) ⊎ (get_or ms v false ≡ true)) → list_all (λ mark. mark.1 || (mark.0 == me)) (enumerate_from n ms) ≡ true
+all_from : (me n : ℕ) (ms : List Bool) → ((v : ℕ) → v < length ms → (n + v ≡ me) ⊎ (get_or ms v false ≡ true))
+    → list_all (λ mark. mark.1 || (mark.0 == me)) (enumerate_from n ms) ≡ true
 all_from me n [] h = refl
-all_from me n (m ∷ ms) h = both_hold _ _ (scanned_or_own m n me (first (h 0 (omega arith)))) (all_from me (n + 1) ms (λ v below. later v (h (suc v) (omega arith))))
+all_from me n (m ∷ ms) h = both_hold _ _ (scanned_or_own m n me (first (h 0 (omega arith))))
+    (all_from me (n + 1) ms (λ v below. later v (h (suc v) (omega arith))))
   where
     first : (n + 0 ≡ me) ⊎ (m ≡ true) → (n ≡ me) ⊎ (m ≡ true)
     first (inl is) = inl (omega arith)
@@ -76,7 +83,8 @@ all_from me n (m ∷ ms) h = both_hold _ _ (scanned_or_own m n me (first (h 0 (o
     later v (inl is) = inl (omega arith)
     later v (inr is) = inr is
 
-pub all_others : (me : ℕ) (ms : List Bool) → ((v : ℕ) → v < length ms → (v ≡ me) ⊎ (get_or ms v false ≡ true)) → others_scanned me ms ≡ true
+pub all_others : (me : ℕ) (ms : List Bool) → ((v : ℕ) → v < length ms → (v ≡ me) ⊎ (get_or ms v false ≡ true))
+    → others_scanned me ms ≡ true
 all_others me ms h = all_from me 0 ms (λ v below. from_zero v (h v below))
   where
     from_zero : (v : ℕ) → (v ≡ me) ⊎ (get_or ms v false ≡ true) → (0 + v ≡ me) ⊎ (get_or ms v false ≡ true)

@@ -31,7 +31,8 @@ frees_then p q r first rest = record {
 }
 
 -- what was freed and what is ripe still is what was ripe at first
-pub record IsCollecting (epoch origin : ℕ) (start : PassView) (all : List Entry) (p : PassView) (now : List Entry) : Type 0 where
+pub record IsCollecting (epoch origin : ℕ) (start : PassView) (all : List Entry) (p : PassView)
+    (now : List Entry) : Type 0 where
   pub queue : IsQueueOf (knowledge p.view) origin now
   pub others : (o : ℕ) → o ≢ origin → held (knowledge p.view).ledgers o ≡ held (knowledge start.view).ledgers o
   pub only : OnlyFrees start p
@@ -39,7 +40,8 @@ pub record IsCollecting (epoch origin : ℕ) (start : PassView) (all : List Entr
   pub left : rest_of epoch now ≡ rest_of epoch all
   pub count : length now + length (ripe_part epoch all) ≡ length all + length (ripe_part epoch now)
 
-pub collecting_begins : (epoch origin : ℕ) (start : PassView) (all : List Entry) → IsQueueOf (knowledge start.view) origin all → IsCollecting epoch origin start all start all
+pub collecting_begins : (epoch origin : ℕ) (start : PassView) (all : List Entry)
+    → IsQueueOf (knowledge start.view) origin all → IsCollecting epoch origin start all start all
 collecting_begins epoch origin start all queue = record {
   queue = queue;
   others = λ o other. refl;
@@ -55,19 +57,24 @@ pub ripe_node : (b : Bool) (x n : NodeId) → cond b (Some x) None ≡ Some n �
 ripe_node true x n h = (refl, same_Some x n h)
 ripe_node false x n h = absurd (none-some n h)
 
-pub ripe_more : (epoch : ℕ) (x : Entry) (es : List Entry) → is_ripe epoch x ≡ true → ripe_part epoch (x ∷ es) ≡ x ∷ ripe_part epoch es
-ripe_more epoch x es h = take_while-cons (is_ripe epoch) x es ∙ cond-true (is_ripe epoch x) (x ∷ ripe_part epoch es) [] h
+pub ripe_more : (epoch : ℕ) (x : Entry) (es : List Entry) → is_ripe epoch x ≡ true
+    → ripe_part epoch (x ∷ es) ≡ x ∷ ripe_part epoch es
+ripe_more epoch x es h = take_while-cons (is_ripe epoch) x es
+    ∙ cond-true (is_ripe epoch x) (x ∷ ripe_part epoch es) [] h
 
-rest_more : (epoch : ℕ) (x : Entry) (es : List Entry) → is_ripe epoch x ≡ true → rest_of epoch (x ∷ es) ≡ rest_of epoch es
+rest_more : (epoch : ℕ) (x : Entry) (es : List Entry) → is_ripe epoch x ≡ true
+    → rest_of epoch (x ∷ es) ≡ rest_of epoch es
 rest_more epoch x es h =
     let one : 1 + prefix_len (is_ripe epoch) es ≡ suc (prefix_len (is_ripe epoch) es) = omega arith in
     ap (λ (n : ℕ). drop n (x ∷ es)) (cond-true (is_ripe epoch x) (1 + prefix_len (is_ripe epoch) es) 0 h ∙ one)
 
-pub none_ripe : (epoch : ℕ) (now : List Entry) → ripe_front epoch now ≡ None → (ripe_part epoch now ≡ []) × (rest_of epoch now ≡ now)
+pub none_ripe : (epoch : ℕ) (now : List Entry) → ripe_front epoch now ≡ None
+    → (ripe_part epoch now ≡ []) × (rest_of epoch now ≡ now)
 none_ripe epoch [] h = (refl, refl)
 none_ripe epoch (x ∷ es) h = by (is_ripe epoch x) refl h
   where
-    by : (b : Bool) → is_ripe epoch x ≡ b → cond b (Some x.node) None ≡ None → (ripe_part epoch (x ∷ es) ≡ []) × (rest_of epoch (x ∷ es) ≡ x ∷ es)
+    by : (b : Bool) → is_ripe epoch x ≡ b → cond b (Some x.node) None ≡ None
+        → (ripe_part epoch (x ∷ es) ≡ []) × (rest_of epoch (x ∷ es) ≡ x ∷ es)
     by true is h = absurd (none-some x.node (sym h))
     by false is h = (rw is refl, rw is refl)
 
@@ -76,10 +83,13 @@ pub both_parts : (epoch : ℕ) (es : List Entry) → length (ripe_part epoch es)
 both_parts epoch [] = refl
 both_parts epoch (x ∷ es) = by (is_ripe epoch x) refl (both_parts epoch es)
   where
-    by : (b : Bool) → is_ripe epoch x ≡ b → length (ripe_part epoch es) + length (rest_of epoch es) ≡ length es → length (ripe_part epoch (x ∷ es)) + length (rest_of epoch (x ∷ es)) ≡ suc (length es)
+    by : (b : Bool) → is_ripe epoch x ≡ b → length (ripe_part epoch es) + length (rest_of epoch es) ≡ length es
+        → length (ripe_part epoch (x ∷ es)) + length (rest_of epoch (x ∷ es)) ≡ suc (length es)
     by true is rest =
-        let one : length (ripe_part epoch (x ∷ es)) ≡ suc (length (ripe_part epoch es)) = ap (λ (r : List Entry). length r) (ripe_more epoch x es is) in
-        let left : length (rest_of epoch (x ∷ es)) ≡ length (rest_of epoch es) = ap (λ (r : List Entry). length r) (rest_more epoch x es is) in
+        let one : length (ripe_part epoch (x ∷ es)) ≡ suc (length (ripe_part epoch es)) = ap
+        (λ (r : List Entry). length r) (ripe_more epoch x es is) in
+        let left : length (rest_of epoch (x ∷ es)) ≡ length (rest_of epoch es) = ap (λ (r : List Entry). length r)
+        (rest_more epoch x es is) in
         omega (arith, one, left, rest)
     by false is rest =
         let none' = none_ripe epoch (x ∷ es) (ap (λ (b : Bool). cond b (Some x.node) None) is) in
@@ -89,19 +99,27 @@ both_parts epoch (x ∷ es) = by (is_ripe epoch x) refl (both_parts epoch es)
 
 -- ---- one more
 
-pub may_collect : (epoch origin : ℕ) (start p : PassView) (all now : List Entry) (n : NodeId) → IsInRun p → IsCollecting epoch origin start all p now → (epochs start).seen ≡ Some epoch → ripe_front epoch now ≡ Some n → MayStep p (Give n.slot)
+pub may_collect : (epoch origin : ℕ) (start p : PassView) (all now : List Entry) (n : NodeId) → IsInRun p
+    → IsCollecting epoch origin start all p now → (epochs start).seen ≡ Some epoch → ripe_front epoch now ≡ Some n
+    → MayStep p (Give n.slot)
 may_collect epoch origin start p all [] n run c seen ripe = absurd (none-some n ripe)
 may_collect epoch origin start p all (x ∷ es) n run c seen ripe =
     let r = ripe_node (is_ripe epoch x) x.node n ripe in
-    subst (λ (m : NodeId). MayStep p (Give m.slot)) r.1 (may_free p origin x es c.queue (apart_in_run p run) epoch (ap (λ (b : Brief). b.seen) c.only.epochs_are ∙ seen) (leb-true (x.label + 2) epoch r.0))
+    subst (λ (m : NodeId). MayStep p (Give m.slot)) r.1
+    (may_free p origin x es c.queue (apart_in_run p run) epoch
+    (ap (λ (b : Brief). b.seen) c.only.epochs_are ∙ seen) (leb-true (x.label + 2) epoch r.0))
 
-collecting_more : (epoch origin : ℕ) (start p q : PassView) (all es : List Entry) (x : Entry) → IsInRun p → IsCollecting epoch origin start all p (x ∷ es) → is_ripe epoch x ≡ true → Stepped p q (Give x.node.slot) (Freed x.node) → IsCollecting epoch origin start all q es
+collecting_more : (epoch origin : ℕ) (start p q : PassView) (all es : List Entry) (x : Entry) → IsInRun p
+    → IsCollecting epoch origin start all p (x ∷ es) → is_ripe epoch x ≡ true
+    → Stepped p q (Give x.node.slot) (Freed x.node) → IsCollecting epoch origin start all q es
 collecting_more epoch origin start p q all es x run c ripe step =
     let apart : AreApart p.view.layout (knowledge p.view) = apart_in_run p run in
     let log_is : q.view.log ≡ p.view.log ++ freeing x ∷ [] = ap (λ (y : PassView). y.view.log) step in
     let more : ripe_part epoch (x ∷ es) ≡ x ∷ ripe_part epoch es = ripe_more epoch x es ripe in
-    let longer : length (ripe_part epoch (x ∷ es)) ≡ suc (length (ripe_part epoch es)) = ap (λ (r : List Entry). length r) more in
-    let count : suc (length es) + length (ripe_part epoch all) ≡ length all + length (ripe_part epoch (x ∷ es)) = c.count in
+    let longer : length (ripe_part epoch (x ∷ es)) ≡ suc (length (ripe_part epoch es)) = ap
+    (λ (r : List Entry). length r) more in
+    let count : suc (length es) + length (ripe_part epoch all)
+    ≡ length all + length (ripe_part epoch (x ∷ es)) = c.count in
     record {
       queue = queue_after p origin x es c.queue apart q step;
       others = λ o ne. others_after p origin x es c.queue apart q step o ne ∙ c.others o ne;
@@ -119,24 +137,34 @@ collecting_more epoch origin start p q all es x run c ripe step =
       count = omega (arith, longer, count);
     }
 
-pub collecting_on : (epoch origin : ℕ) (start p q : PassView) (all now later : List Entry) (y : Entry) (n : NodeId) → IsInRun p → IsCollecting epoch origin start all p now → ripe_front epoch now ≡ Some n → Stepped p q (Give n.slot) (give_reply p.view n.slot)
+pub collecting_on : (epoch origin : ℕ) (start p q : PassView) (all now later : List Entry) (y : Entry) (n : NodeId)
+    → IsInRun p → IsCollecting epoch origin start all p now → ripe_front epoch now ≡ Some n
+    → Stepped p q (Give n.slot) (give_reply p.view n.slot)
     → now ≡ y ∷ later → IsCollecting epoch origin start all q later
 collecting_on epoch origin start p q all [] later y n run c ripe step is = absurd (none-some n ripe)
 collecting_on epoch origin start p q all (x ∷ es) later y n run c ripe step is =
     let r = ripe_node (is_ripe epoch x) x.node n ripe in
-    let here : Stepped p q (Give x.node.slot) (give_reply p.view x.node.slot) = subst (λ (m : NodeId). Stepped p q (Give m.slot) (give_reply p.view m.slot)) (sym r.1) step in
+    let here : Stepped p q (Give x.node.slot) (give_reply p.view x.node.slot) = subst
+    (λ (m : NodeId). Stepped p q (Give m.slot) (give_reply p.view m.slot)) (sym r.1) step in
     subst (λ (l : List Entry). IsCollecting epoch origin start all q l) (ap (λ (l : List Entry). drop 1 l) is)
-    (collecting_more epoch origin start p q all es x run c r.0 (subst (λ reply. Stepped p q (Give x.node.slot) reply) (freed_reply p origin x es c.queue (apart_in_run p run)) here))
+    (collecting_more epoch origin start p q all es x run c r.0
+    (subst (λ reply. Stepped p q (Give x.node.slot) reply) (freed_reply p origin x es c.queue (apart_in_run p run))
+    here))
 
 -- the step by which the front was freed
-pub freed_log : (epoch origin : ℕ) (start p q : PassView) (all es : List Entry) (x : Entry) (n : NodeId) → IsInRun p → IsCollecting epoch origin start all p (x ∷ es) → ripe_front epoch (x ∷ es) ≡ Some n → Stepped p q (Give n.slot) (give_reply p.view n.slot) → q.view.log ≡ p.view.log ++ freeing x ∷ []
+pub freed_log : (epoch origin : ℕ) (start p q : PassView) (all es : List Entry) (x : Entry) (n : NodeId) → IsInRun p
+    → IsCollecting epoch origin start all p (x ∷ es) → ripe_front epoch (x ∷ es) ≡ Some n
+    → Stepped p q (Give n.slot) (give_reply p.view n.slot) → q.view.log ≡ p.view.log ++ freeing x ∷ []
 freed_log epoch origin start p q all es x n run c ripe step =
     let r = ripe_node (is_ripe epoch x) x.node n ripe in
-    let here : Stepped p q (Give x.node.slot) (give_reply p.view x.node.slot) = subst (λ (m : NodeId). Stepped p q (Give m.slot) (give_reply p.view m.slot)) (sym r.1) step in
-    ap (λ (y : PassView). y.view.log) (subst (λ reply. Stepped p q (Give x.node.slot) reply) (freed_reply p origin x es c.queue (apart_in_run p run)) here)
+    let here : Stepped p q (Give x.node.slot) (give_reply p.view x.node.slot) = subst
+    (λ (m : NodeId). Stepped p q (Give m.slot) (give_reply p.view m.slot)) (sym r.1) step in
+    ap (λ (y : PassView). y.view.log) (subst (λ reply. Stepped p q (Give x.node.slot) reply)
+    (freed_reply p origin x es c.queue (apart_in_run p run)) here)
 
 -- what is dropped is the front
-pub dropped_front : (epoch : ℕ) (now later : List Entry) (n : NodeId) → later ≡ drop 1 now → ripe_front epoch now ≡ Some n → (y : Entry) × (now ≡ y ∷ later)
+pub dropped_front : (epoch : ℕ) (now later : List Entry) (n : NodeId) → later ≡ drop 1 now
+    → ripe_front epoch now ≡ Some n → (y : Entry) × (now ≡ y ∷ later)
 dropped_front epoch [] later n is ripe = absurd (none-some n ripe)
 dropped_front epoch (x ∷ es) later n is ripe = (x, ap (λ (l : List Entry). x ∷ l) (sym is))
 
@@ -146,5 +174,12 @@ settled_on o p q s only = record {
   labelled = ap (λ (b : Brief). b.unlabelled) only.epochs_are ∙ s.labelled;
   stays = λ settled.
       let t = s.stays settled in
-      record { announcement = ap (λ (b : Brief). b.announcement) only.epochs_are ∙ t.announcement; pin = ap (λ (b : Brief). b.pin) only.epochs_are ∙ t.pin; search = only.search_is ∙ t.search; known = only.nodes ∙ t.known };
+      record {
+        announcement = ap (λ (b : Brief). b.announcement) only.epochs_are
+            ∙ t.announcement;
+        pin = ap (λ (b : Brief). b.pin) only.epochs_are ∙ t.pin;
+        search = only.search_is
+            ∙ t.search;
+        known = only.nodes ∙ t.known;
+      };
 }

@@ -88,14 +88,16 @@ value_from origin o p q e v before r = record {
 }
 
 -- what was read stays so
-pub read_on : (origin : ℕ) (start p q : PassView) (es : List Entry) (vs : List ℕ) → Continues p q → WereRead origin start p es vs → WereRead origin start q es vs
+pub read_on : (origin : ℕ) (start p q : PassView) (es : List Entry) (vs : List ℕ) → Continues p q
+    → WereRead origin start p es vs → WereRead origin start q es vs
 read_on origin start p q [] vs on r = r
 read_on origin start p q (e ∷ es) vs on (inl (other, rest)) = inl
     (found_on origin start p q e false on other, read_on origin start p q es vs on rest)
 read_on origin start p q (e ∷ es) vs on (inr (v, later, are, one, rest)) = inr
     (v, later, are, value_on origin start p q e v on one, read_on origin start p q es later on rest)
 
-pub read_from : (origin : ℕ) (o p q : PassView) (es : List Entry) (vs : List ℕ) → Continues o p → WereRead origin p q es vs → WereRead origin o q es vs
+pub read_from : (origin : ℕ) (o p q : PassView) (es : List Entry) (vs : List ℕ) → Continues o p
+    → WereRead origin p q es vs → WereRead origin o q es vs
 read_from origin o p q [] vs before r = r
 read_from origin o p q (e ∷ es) vs before (inl (other, rest)) = inl
     (found_from origin o p q e false before other, read_from origin o p q es vs before rest)
@@ -129,7 +131,8 @@ read_push origin start p (e ∷ es) vs ws x (inr (v, later, are, one, rest)) (in
 -- ---- one node
 
 -- the entries that were freed are a front of all, and the values of the leaves among them were read
-pub record IsHanding (epoch origin : ℕ) (start : PassView) (all : List Entry) (p : PassView) (now : List Entry) (values : List ℕ) : Type 0 where
+pub record IsHanding (epoch origin : ℕ) (start : PassView) (all : List Entry) (p : PassView) (now : List Entry)
+    (values : List ℕ) : Type 0 where
   pub collecting : IsCollecting epoch origin start all p now
   pub freed : List Entry
   pub parts : all ≡ freed ++ now
@@ -137,7 +140,8 @@ pub record IsHanding (epoch origin : ℕ) (start : PassView) (all : List Entry) 
   pub ripe : ripe_part epoch all ≡ freed ++ ripe_part epoch now
   pub read : WereRead origin start p freed values
 
-pub handing_begins : (epoch origin : ℕ) (start : PassView) (all : List Entry) → IsCollecting epoch origin start all start all → IsHanding epoch origin start all start all []
+pub handing_begins : (epoch origin : ℕ) (start : PassView) (all : List Entry)
+    → IsCollecting epoch origin start all start all → IsHanding epoch origin start all start all []
 handing_begins epoch origin start all c = record {
   collecting = c;
   freed = [];
@@ -149,38 +153,60 @@ handing_begins epoch origin start all c = record {
 }
 
 -- a look at a value changes nothing of this
-pub collecting_sees : (epoch origin : ℕ) (start p q : PassView) (all now : List Entry) → OnlySees p q → IsCollecting epoch origin start all p now → IsCollecting epoch origin start all q now
+pub collecting_sees : (epoch origin : ℕ) (start p q : PassView) (all now : List Entry) → OnlySees p q
+    → IsCollecting epoch origin start all p now → IsCollecting epoch origin start all q now
 collecting_sees epoch origin start p q all now sees c =
     subst (λ (z : PassView). IsCollecting epoch origin start all z now) (sym sees.same)
     (record {
       queue = c.queue;
       others = c.others;
-      only = record { retired = c.only.retired; epochs_are = c.only.epochs_are; search_is = c.only.search_is; nodes = c.only.nodes; private = c.only.private };
+      only = record {
+        retired = c.only.retired;
+        epochs_are = c.only.epochs_are;
+        search_is = c.only.search_is;
+        nodes =
+            c.only.nodes;
+        private = c.only.private;
+      };
       entries = c.entries;
       left = c.left;
       count = c.count;
     })
 
 pub continues_itself : (p : PassView) → IsInRun p → Continues p p
-continues_itself p run = record { same = refl; past = seen_itself p; run = run; stores = stores_same p.view.stores p.view.stores refl }
+continues_itself p run = record {
+  same = refl;
+  past = seen_itself p;
+  run = run;
+  stores = stores_same p.view.stores
+      p.view.stores refl;
+}
 
 pub continues_by_look : (p q : PassView) → IsInRun p → OnlySees p q → Continues p q
-continues_by_look p q run sees = continues_by_value p q sees (subst (λ (z : PassView). IsLayout z.view.layout) (sym sees.same) run.fits)
+continues_by_look p q run sees = continues_by_value p q sees
+    (subst (λ (z : PassView). IsLayout z.view.layout) (sym sees.same) run.fits)
 
 -- a look if the node is a leaf, or nothing
-pub continues_if : (p r : PassView) (b : Bool) → IsInRun p → (b ≡ true → OnlySees p r) → (b ≡ false → r ≡ p) → Continues p r
+pub continues_if : (p r : PassView) (b : Bool) → IsInRun p → (b ≡ true → OnlySees p r) → (b ≡ false → r ≡ p)
+    → Continues p r
 continues_if p r true run looks none' = continues_by_look p r run (looks refl)
-continues_if p r false run looks none' = subst (λ (z : PassView). Continues p z) (sym (none' refl)) (continues_itself p run)
+continues_if p r false run looks none' = subst (λ (z : PassView). Continues p z) (sym (none' refl))
+    (continues_itself p run)
 
-pub collecting_if : (epoch origin : ℕ) (start p r : PassView) (all now : List Entry) (b : Bool) → (b ≡ true → OnlySees p r) → (b ≡ false → r ≡ p) → IsCollecting epoch origin start all p now → IsCollecting epoch origin start all r now
-collecting_if epoch origin start p r all now true looks none' c = collecting_sees epoch origin start p r all now (looks refl) c
-collecting_if epoch origin start p r all now false looks none' c = subst (λ (z : PassView). IsCollecting epoch origin start all z now) (sym (none' refl)) c
+pub collecting_if : (epoch origin : ℕ) (start p r : PassView) (all now : List Entry) (b : Bool)
+    → (b ≡ true → OnlySees p r) → (b ≡ false → r ≡ p) → IsCollecting epoch origin start all p now
+    → IsCollecting epoch origin start all r now
+collecting_if epoch origin start p r all now true looks none' c = collecting_sees epoch origin start p r all now
+    (looks refl) c
+collecting_if epoch origin start p r all now false looks none' c = subst
+    (λ (z : PassView). IsCollecting epoch origin start all z now) (sym (none' refl)) c
 
 pub log_if : (p r : PassView) (b : Bool) → (b ≡ true → OnlySees p r) → (b ≡ false → r ≡ p) → r.view.log ≡ p.view.log
 log_if p r true looks none' = ap (λ (z : PassView). z.view.log) (looks refl).same
 log_if p r false looks none' = ap (λ (z : PassView). z.view.log) (none' refl)
 
-pub handing_more : (epoch origin : ℕ) (start p q : PassView) (all es : List Entry) (x : Entry) (vs ws : List ℕ) → IsHanding epoch origin start all p (x ∷ es) vs → ripe_part epoch (x ∷ es) ≡ x ∷ ripe_part epoch es → Continues p q
+pub handing_more : (epoch origin : ℕ) (start p q : PassView) (all es : List Entry) (x : Entry) (vs ws : List ℕ)
+    → IsHanding epoch origin start all p (x ∷ es) vs → ripe_part epoch (x ∷ es) ≡ x ∷ ripe_part epoch es → Continues p q
     → q.view.log ≡ p.view.log ++ freeing x ∷ [] → IsCollecting epoch origin start all q es
     → MayHaveRead origin start q x vs ws → IsHanding epoch origin start all q es ws
 handing_more epoch origin start p q all es x vs ws h more on log c new = record {
@@ -189,8 +215,10 @@ handing_more epoch origin start p q all es x vs ws h more on log c new = record 
   parts = h.parts ∙ sym (append_assoc h.freed (x ∷ []) es);
   log = log
       ∙ (ap (λ (l : List LogEntry). l ++ freeing x ∷ []) h.log
-      ∙ (append_assoc start.view.log (map freeing h.freed) (freeing x ∷ []) ∙ ap (λ (l : List LogEntry). start.view.log ++ l) (sym (map-append freeing h.freed (x ∷ [])))));
-  ripe = h.ripe ∙ (ap (λ (l : List Entry). h.freed ++ l) more ∙ sym (append_assoc h.freed (x ∷ []) (ripe_part epoch es)));
+      ∙ (append_assoc start.view.log (map freeing h.freed) (freeing x ∷ [])
+      ∙ ap (λ (l : List LogEntry). start.view.log ++ l) (sym (map-append freeing h.freed (x ∷ [])))));
+  ripe = h.ripe ∙ (ap (λ (l : List Entry). h.freed ++ l) more
+      ∙ sym (append_assoc h.freed (x ∷ []) (ripe_part epoch es)));
   read = read_push origin start q h.freed vs ws x (read_on origin start p q h.freed vs on h.read) new;
 }
 
@@ -287,21 +315,30 @@ handing_on epoch origin start p r q all (x ∷ es) later vs ws n count result ol
         read
 
 -- the values that were written, and their number
-pub taken_on : (b : Bool) (vs base was now : List ℕ) (v : ℕ) → was ≡ base ++ vs → (b ≡ true → now ≡ was ++ v ∷ []) → (b ≡ false → now ≡ was) → now ≡ base ++ cond b (vs ++ v ∷ []) vs
-taken_on true vs base was now v is more same = more refl ∙ (ap (λ (l : List ℕ). l ++ v ∷ []) is ∙ append_assoc base vs (v ∷ []))
+pub taken_on : (b : Bool) (vs base was now : List ℕ) (v : ℕ) → was ≡ base ++ vs → (b ≡ true → now ≡ was ++ v ∷ [])
+    → (b ≡ false → now ≡ was) → now ≡ base ++ cond b (vs ++ v ∷ []) vs
+taken_on true vs base was now v is more same = more refl
+    ∙ (ap (λ (l : List ℕ). l ++ v ∷ []) is ∙ append_assoc base vs (v ∷ []))
 taken_on false vs base was now v is more same = same refl ∙ is
 
-pub room_on : (b : Bool) (written result long : ℕ) → written ≤ long → (b ≡ true → (result ≡ written + 1) × (nat_lt written long ≡ true)) → (b ≡ false → result ≡ written) → result ≤ long
-room_on true written result long room more same = let one = (more refl).0 in let below = ltb-true written long (more refl).1 in omega (arith, one, below)
+pub room_on : (b : Bool) (written result long : ℕ) → written ≤ long
+    → (b ≡ true → (result ≡ written + 1) × (nat_lt written long ≡ true)) → (b ≡ false → result ≡ written)
+    → result ≤ long
+room_on true written result long room more same = let one = (more refl).0 in
+    let below = ltb-true written long (more refl).1 in omega (arith, one, below)
 room_on false written result long room more same = let is = same refl in omega (arith, is, room)
 
-pub more_on : (b : Bool) (first written result : ℕ) → first ≤ written → (b ≡ true → result ≡ written + 1) → (b ≡ false → result ≡ written) → first ≤ result
+pub more_on : (b : Bool) (first written result : ℕ) → first ≤ written → (b ≡ true → result ≡ written + 1)
+    → (b ≡ false → result ≡ written) → first ≤ result
 more_on true first written result less more same = let one = more refl in omega (arith, one, less)
 more_on false first written result less more same = let is = same refl in omega (arith, is, less)
 
 -- all that was ripe was freed if there was room
-pub handed_front : (epoch : ℕ) (room : Bool) (p q : PassView) (h g : HeldQueue) (now : List Entry) (vs : List ℕ) → IsHanding epoch h.origin p h.queue.items q now vs → Continues p q → (room ≡ true → ripe_front epoch now ≡ None) → g.queue.items ≡ now → g.origin ≡ h.origin
-    → g.counts ≡ freed_more (length h.queue.items - length now) h.counts → IsTrimmed h.queue g.queue → HandsFront epoch room p q h g vs
+pub handed_front : (epoch : ℕ) (room : Bool) (p q : PassView) (h g : HeldQueue) (now : List Entry) (vs : List ℕ)
+    → IsHanding epoch h.origin p h.queue.items q now vs → Continues p q → (room ≡ true → ripe_front epoch now ≡ None)
+    → g.queue.items ≡ now → g.origin ≡ h.origin
+    → g.counts ≡ freed_more (length h.queue.items - length now) h.counts → IsTrimmed h.queue g.queue
+    → HandsFront epoch room p q h g vs
 handed_front epoch room p q h g now vs d on all items origin counts trimmed =
     let sum = length-append d.freed now in
     let long : length h.queue.items ≡ length (d.freed ++ now) = ap (λ (l : List Entry). length l) d.parts in
@@ -318,7 +355,8 @@ handed_front epoch room p q h g now vs d on all items origin counts trimmed =
       entries = d.log;
       all = λ there. ap (λ (l : List Entry). ripe_front epoch l) items ∙ all there;
       blocks = trimmed;
-      queue = rw origin (subst (λ (l : List Entry). IsQueueOf (knowledge q.view) h.origin l) (sym items) d.collecting.queue);
+      queue = rw origin (subst (λ (l : List Entry). IsQueueOf (knowledge q.view) h.origin l) (sym items)
+          d.collecting.queue);
       others = d.collecting.others;
       only = d.collecting.only;
     }

@@ -31,12 +31,14 @@ noted_confirming : (by : Confirming) (b : Brief) (r : Reply) → noted b (confir
 noted_confirming Plain b r = refl
 noted_confirming (For op key) b r = refl
 
-searched_confirming : (by : Confirming) (s : Search) (r : Reply) → searched s (confirming by) r ≡ begun s (call_confirmed by) r
+searched_confirming : (by : Confirming) (s : Search) (r : Reply)
+    → searched s (confirming by) r ≡ begun s (call_confirmed by) r
 unfolding searched
 searched_confirming Plain s r = refl
 searched_confirming (For op key) s r = refl
 
-pub may_confirm : (p : PassView) (by : Confirming) → IsSome (epochs p).announcement → (epochs p).pin ≡ None → HasKey (confirming by) → MayStep p (confirming by)
+pub may_confirm : (p : PassView) (by : Confirming) → IsSome (epochs p).announcement → (epochs p).pin ≡ None
+    → HasKey (confirming by) → MayStep p (confirming by)
 may_confirm p Plain announcement pin key = may_sight _ _ _
 may_confirm p (For op k) announcement pin key = may_sight_for p op k announcement pin key
 
@@ -51,8 +53,11 @@ confirming_is_quiet Plain = refl
 confirming_is_quiet (For op key) = refl
 
 -- what is in its hands stays over a try
-pub try_keeps : (p q r : PassView) (by : Confirming) (a : ℕ) (answer : Reply) → Stepped p q Announce (Announced a) → Stepped q r (confirming by) answer → is_label answer ≡ false → KeepsHands p r
-try_keeps p q r by a answer first second silent = kept_on p q r (hands_kept p q Announce (Announced a) first refl (λ _. refl)) (hands_kept q r (confirming by) answer second (confirming_is_quiet by) (λ _. silent))
+pub try_keeps : (p q r : PassView) (by : Confirming) (a : ℕ) (answer : Reply) → Stepped p q Announce (Announced a)
+    → Stepped q r (confirming by) answer → is_label answer ≡ false → KeepsHands p r
+try_keeps p q r by a answer first second silent = kept_on p q r
+    (hands_kept p q Announce (Announced a) first refl (λ _. refl))
+    (hands_kept q r (confirming by) answer second (confirming_is_quiet by) (λ _. silent))
 
 -- ---- announced
 
@@ -70,27 +75,33 @@ announced p q a step t =
 some_announcement : (a : ℕ) (p : PassView) → HasAnnounced a p → IsSome (epochs p).announcement
 some_announcement a p h = ap is_some h.announcement
 
-pub announced_may : (a : ℕ) (p : PassView) (by : Confirming) → HasAnnounced a p → HasKey (confirming by) → MayStep p (confirming by)
+pub announced_may : (a : ℕ) (p : PassView) (by : Confirming) → HasAnnounced a p → HasKey (confirming by)
+    → MayStep p (confirming by)
 announced_may a p by h key = may_confirm p by (some_announcement a p h) h.unpinned key
 
 -- so it is pinned, or has missed the epoch
-answer_is : (b : Brief) (a e : ℕ) → b.announcement ≡ Some a → b.pin ≡ None → b.unlabelled ≡ false → sight_of b e ≡ cond (a == e) (Pinned e) (Missed e)
+answer_is : (b : Brief) (a e : ℕ) → b.announcement ≡ Some a → b.pin ≡ None → b.unlabelled ≡ false
+    → sight_of b e ≡ cond (a == e) (Pinned e) (Missed e)
 answer_is b a e announcement pin labelled =
     ap (λ (x : Bool). cond x (Labelled e) (confirmed b.pin b.announcement e)) labelled
     ∙ (ap (λ (o : Option ℕ). confirmed o b.announcement e) pin ∙ ap (λ (o : Option ℕ). confirmed None o e) announcement)
 
-reply_is : (a : ℕ) (p : PassView) (r : Reply) → HasAnnounced a p → IsSight (epochs p) r → (e : ℕ) × (r ≡ cond (a == e) (Pinned e) (Missed e))
+reply_is : (a : ℕ) (p : PassView) (r : Reply) → HasAnnounced a p → IsSight (epochs p) r
+    → (e : ℕ) × (r ≡ cond (a == e) (Pinned e) (Missed e))
 reply_is a p r h s = (s.0, s.2 ∙ answer_is (epochs p) a s.0 h.announcement h.unpinned h.labelled)
 
 pub never_saw : (a x : ℕ) (p : PassView) → HasAnnounced a p → IsSight (epochs p) (Saw x) → ⊥
-never_saw a x p h s = let r = reply_is a p (Saw x) h s in cond_both (a == r.0) (Pinned r.0) (Missed r.0) (λ y. Saw x ≡ y → ⊥) (λ _ e. cc) (λ _ e. cc) r.1
+never_saw a x p h s = let r = reply_is a p (Saw x) h s in
+    cond_both (a == r.0) (Pinned r.0) (Missed r.0) (λ y. Saw x ≡ y → ⊥) (λ _ e. cc) (λ _ e. cc) r.1
 
 pub never_labelled : (a x : ℕ) (p : PassView) → HasAnnounced a p → IsSight (epochs p) (Labelled x) → ⊥
-never_labelled a x p h s = let r = reply_is a p (Labelled x) h s in cond_both (a == r.0) (Pinned r.0) (Missed r.0) (λ y. Labelled x ≡ y → ⊥) (λ _ e. cc) (λ _ e. cc) r.1
+never_labelled a x p h s = let r = reply_is a p (Labelled x) h s in
+    cond_both (a == r.0) (Pinned r.0) (Missed r.0) (λ y. Labelled x ≡ y → ⊥) (λ _ e. cc) (λ _ e. cc) r.1
 
 -- ---- won and lost
 
-won : (p q : PassView) (by : Confirming) (a e : ℕ) → HasAnnounced a p → e ≡ a → Stepped p q (confirming by) (Pinned e) → IsPinnedAt e (call_confirmed by) q
+won : (p q : PassView) (by : Confirming) (a e : ℕ) → HasAnnounced a p → e ≡ a
+    → Stepped p q (confirming by) (Pinned e) → IsPinnedAt e (call_confirmed by) q
 won p q by a e h same step =
     let after = epochs_after p q (confirming by) (Pinned e) step ∙ noted_confirming by (epochs p) (Pinned e) in
     record {
@@ -99,13 +110,17 @@ won p q by a e h same step =
       pin = ap (λ (b : Brief). b.pin) after;
       labelled = ap (λ (b : Brief). b.unlabelled) after ∙ h.labelled;
       begun = search_is p q (confirming by) (Pinned e) step ∙ searched_confirming by (search p) (Pinned e);
-      known = ap (λ (k : Knowledge). k.known) (known_after_step p q (confirming by) (Pinned e) step) ∙ roots_known by p.view.number (knowledge p.view) e;
+      known = ap (λ (k : Knowledge). k.known) (known_after_step p q (confirming by) (Pinned e) step)
+          ∙ roots_known by p.view.number (knowledge p.view) e;
     }
 
-lost_seen : (p q : PassView) (by : Confirming) (e : ℕ) → Stepped p q (confirming by) (Missed e) → (epochs q).seen ≡ Some e
-lost_seen p q by e step = ap (λ (b : Brief). b.seen) (epochs_after p q (confirming by) (Missed e) step ∙ noted_confirming by (epochs p) (Missed e))
+lost_seen : (p q : PassView) (by : Confirming) (e : ℕ) → Stepped p q (confirming by) (Missed e)
+    → (epochs q).seen ≡ Some e
+lost_seen p q by e step = ap (λ (b : Brief). b.seen)
+    (epochs_after p q (confirming by) (Missed e) step ∙ noted_confirming by (epochs p) (Missed e))
 
-lost : (p q : PassView) (by : Confirming) (a e : ℕ) → HasAnnounced a p → Stepped p q (confirming by) (Missed e) → IsTrying q
+lost : (p q : PassView) (by : Confirming) (a e : ℕ) → HasAnnounced a p → Stepped p q (confirming by) (Missed e)
+    → IsTrying q
 lost p q by a e h step =
     let after = epochs_after p q (confirming by) (Missed e) step ∙ noted_confirming by (epochs p) (Missed e) in
     record {
@@ -117,34 +132,42 @@ lost p q by a e h step =
 
 -- ---- by what the sight answered
 
-pub at_won : (p q : PassView) (by : Confirming) (a : ℕ) (r : Result ℕ ℕ) → HasAnnounced a p → IfOk r (λ e. e ≡ a) → Stepped p q (confirming by) (pin_reply r) → IfOk r (λ e. IsPinnedAt e (call_confirmed by) q)
+pub at_won : (p q : PassView) (by : Confirming) (a : ℕ) (r : Result ℕ ℕ) → HasAnnounced a p → IfOk r (λ e. e ≡ a)
+    → Stepped p q (confirming by) (pin_reply r) → IfOk r (λ e. IsPinnedAt e (call_confirmed by) q)
 at_won p q by a (Ok e) h same step = won p q by a e h same step
 at_won p q by a (Err e) h same step = tt
 
-pub tries_lost : (p q : PassView) (by : Confirming) (a : ℕ) (r : Result ℕ ℕ) → HasAnnounced a p → Stepped p q (confirming by) (pin_reply r) → IfErr r (λ e. IsTrying q)
+pub tries_lost : (p q : PassView) (by : Confirming) (a : ℕ) (r : Result ℕ ℕ) → HasAnnounced a p
+    → Stepped p q (confirming by) (pin_reply r) → IfErr r (λ e. IsTrying q)
 tries_lost p q by a (Ok e) h step = tt
 tries_lost p q by a (Err e) h step = lost p q by a e h step
 
-pub sees_lost : (p q : PassView) (by : Confirming) (r : Result ℕ ℕ) → Stepped p q (confirming by) (pin_reply r) → IfErr r (λ e. (epochs q).seen ≡ Some e)
+pub sees_lost : (p q : PassView) (by : Confirming) (r : Result ℕ ℕ) → Stepped p q (confirming by) (pin_reply r)
+    → IfErr r (λ e. (epochs q).seen ≡ Some e)
 sees_lost p q by (Ok e) step = tt
 sees_lost p q by (Err e) step = lost_seen p q by e step
 
 -- the log grows by an announcement and then the sight
-logs : (p q r : PassView) (by : Confirming) (a : ℕ) (answer : Reply) → Stepped p q Announce (Announced a) → Stepped q r (confirming by) answer
+logs : (p q r : PassView) (by : Confirming) (a : ℕ) (answer : Reply) → Stepped p q Announce (Announced a)
+    → Stepped q r (confirming by) answer
     → r.view.log ≡ (p.view.log ++ (Announce, Announced a) ∷ []) ++ (confirming by, answer) ∷ []
 logs p q r by a answer first second =
-    ap (λ (s : PassView). s.view.log) second ∙ ap (λ (l : List Entry). l ++ (confirming by, answer) ∷ []) (ap (λ (s : PassView). s.view.log) first)
+    ap (λ (s : PassView). s.view.log) second ∙ ap (λ (l : List Entry). l ++ (confirming by, answer) ∷ [])
+    (ap (λ (s : PassView). s.view.log) first)
 
-pub won_try : (p q r : PassView) (by : Confirming) (a : ℕ) (x : Result ℕ ℕ) → Stepped p q Announce (Announced a) → Stepped q r (confirming by) (pin_reply x) → IfOk x (λ e. WonTry (confirming by) e p.view.log r.view.log)
+pub won_try : (p q r : PassView) (by : Confirming) (a : ℕ) (x : Result ℕ ℕ) → Stepped p q Announce (Announced a)
+    → Stepped q r (confirming by) (pin_reply x) → IfOk x (λ e. WonTry (confirming by) e p.view.log r.view.log)
 won_try p q r by a (Ok e) first second = (a, logs p q r by a (Pinned e) first second)
 won_try p q r by a (Err e) first second = tt
 
-pub lost_try : (p q r : PassView) (by : Confirming) (a : ℕ) (x : Result ℕ ℕ) → Stepped p q Announce (Announced a) → Stepped q r (confirming by) (pin_reply x) → IfErr x (λ e. LostTry (confirming by) p.view.log r.view.log)
+pub lost_try : (p q r : PassView) (by : Confirming) (a : ℕ) (x : Result ℕ ℕ) → Stepped p q Announce (Announced a)
+    → Stepped q r (confirming by) (pin_reply x) → IfErr x (λ e. LostTry (confirming by) p.view.log r.view.log)
 lost_try p q r by a (Ok e) first second = tt
 lost_try p q r by a (Err e) first second = (a, e, logs p q r by a (Missed e) first second)
 
 -- each of the tries was lost, and there was one
-pub moved : (by : Event) (tries : ℕ) (old mid new : List Entry) (first : ℕ) → tries ≢ 0 → LostTries by tries (after_sight old first) mid → new ≡ mid ++ (Leave, Departed) ∷ [] → IsMoved by tries old new
+pub moved : (by : Event) (tries : ℕ) (old mid new : List Entry) (first : ℕ) → tries ≢ 0
+    → LostTries by tries (after_sight old first) mid → new ≡ mid ++ (Leave, Departed) ∷ [] → IsMoved by tries old new
 moved by zero old mid new first some lost is = absurd (some refl)
 moved by (suc n) old mid new first some lost is = (first, mid, lost, is)
 

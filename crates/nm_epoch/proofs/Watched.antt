@@ -18,11 +18,13 @@ pub record IsWatching (me e n mask : ℕ) (old : List Entry) (p : PassView) : Ty
   pub small : mask < 2 ^ n
 
 -- the bit, by whether the worker was found elsewhere
-pub bit_set : (o found : Option ℕ) (e v : ℕ) → MatchOption o (lets_pass found e ≡ true) (λ at. (found ≡ Some at) × (lets_pass found e ≡ false)) → is_some o ≡ true → bit_of v found e ≡ 2 ^ v
+pub bit_set : (o found : Option ℕ) (e v : ℕ) → MatchOption o (lets_pass found e ≡ true)
+    (λ at. (found ≡ Some at) × (lets_pass found e ≡ false)) → is_some o ≡ true → bit_of v found e ≡ 2 ^ v
 bit_set None found e v m is = cc
 bit_set (Some at) found e v m is = ap (λ (b : Bool). cond b 0 (2 ^ v)) m.1
 
-pub bit_clear : (o found : Option ℕ) (e v : ℕ) → MatchOption o (lets_pass found e ≡ true) (λ at. (found ≡ Some at) × (lets_pass found e ≡ false)) → is_some o ≡ false → bit_of v found e ≡ 0
+pub bit_clear : (o found : Option ℕ) (e v : ℕ) → MatchOption o (lets_pass found e ≡ true)
+    (λ at. (found ≡ Some at) × (lets_pass found e ≡ false)) → is_some o ≡ false → bit_of v found e ≡ 0
 bit_clear None found e v m is = ap (λ (b : Bool). cond b 0 (2 ^ v)) m
 bit_clear (Some at) found e v m is = cc
 
@@ -37,13 +39,16 @@ bit_small v e mask found small = go (lets_pass found e)
 pub shifted : (v : ℕ) → v < 64 → (1 * 2 ^ v) % 2 ^ 64 ≡ 2 ^ v
 shifted v below = ap (λ (n : ℕ). n % 2 ^ 64) (one-mul (2 ^ v)) ∙ mod-eq_of_lt (pow_below v 64 below)
 
-pub watching_on : (me e v mask more : ℕ) (found : Option ℕ) (old : List Entry) (p q : PassView) → IsSamePass p q → LooksAt me (epochs p).pin v found p.view.log q.view.log → more ≡ mask + bit_of v found e → IsWatching me e v mask old p
+pub watching_on : (me e v mask more : ℕ) (found : Option ℕ) (old : List Entry) (p q : PassView) → IsSamePass p q
+    → LooksAt me (epochs p).pin v found p.view.log q.view.log → more ≡ mask + bit_of v found e
+    → IsWatching me e v mask old p
     → IsWatching me e (v + 1) more old q
 watching_on me e v mask more found old p q same look sum h =
     let still : epochs q ≡ epochs p = look_epochs me v (epochs p).pin found p q same look in
     let pin : (epochs p).pin ≡ (epochs q).pin = sym (ap (λ (b : Brief). b.pin) still) in
     let sighted = h.part in
-    let longer : SightThenWatch me (epochs p).pin e (suc v) more old q.view.log = (sighted.0, sighted.1, (p.view.log, found, mask, sighted.2, look, sum)) in
+    let longer : SightThenWatch me (epochs p).pin e (suc v) more old q.view.log =
+    (sighted.0, sighted.1, (p.view.log, found, mask, sighted.2, look, sum)) in
     record {
       part = subst (λ (o : Option ℕ). SightThenWatch me o e (v + 1) more old q.view.log) pin (rw (add-one v) longer);
       seen = ap (λ (b : Brief). b.seen) still ∙ h.seen;

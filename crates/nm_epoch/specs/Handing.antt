@@ -58,7 +58,8 @@ pub record HandsOut (p q : PassView) (slot count result : ℕ) (old new : List �
 
 -- the queue has lost these ripe entries at its front, which are added to its count of freed nodes.
 -- These values were read for the leaves among them
-pub record HasHandedOut (epoch : ℕ) (p q : PassView) (h g : HeldQueue) (freed : List Entry) (values : List ℕ) : Type 0 where
+pub record HasHandedOut (epoch : ℕ) (p q : PassView) (h g : HeldQueue) (freed : List Entry) (values : List ℕ) : Type
+    0 where
   pub parts : h.queue.items ≡ freed ++ g.queue.items
   pub ripe : ripe_part epoch h.queue.items ≡ freed ++ ripe_part epoch g.queue.items
   pub read : WereRead h.origin p q freed values
@@ -96,7 +97,8 @@ NoneIsRipe epoch [] = Unit {0}
 NoneIsRipe epoch (g ∷ gs) = (ripe_front epoch g.queue.items ≡ None) × NoneIsRipe epoch gs
 
 -- these values were handed out for nodes at the fronts of these queues, which were freed
-pub record HandsFronts (epoch : ℕ) (room : Bool) (p q : PassView) (hs gs : List HeldQueue) (values : List ℕ) : Type 0 where
+pub record HandsFronts (epoch : ℕ) (room : Bool) (p q : PassView) (hs gs : List HeldQueue) (values : List ℕ) : Type
+    0 where
   pub on : Continues p q
   pub freed : List Entry
   pub handed : HaveHandedOut epoch p q hs gs freed values
@@ -111,7 +113,8 @@ pub record HandsFronts (epoch : ℕ) (room : Bool) (p q : PassView) (hs gs : Lis
 -- the epoch was read, and then these values were handed out for ripe nodes at the fronts of these
 -- queues, in a tree of this many nodes. The nodes were freed. If there was room for one more value,
 -- no ripe node is left at a front
-pub record CollectsValues (nodes : ℕ) (room : Bool) (p q : PassView) (hs gs : List HeldQueue) (values : List ℕ) (r : HandedOut) : Type 0 where
+pub record CollectsValues (nodes : ℕ) (room : Bool) (p q : PassView) (hs gs : List HeldQueue) (values : List ℕ)
+    (r : HandedOut) : Type 0 where
   pub on : Continues p q
   pub freed : List Entry
   pub handed : HaveHandedOut r.epoch p q hs gs freed values

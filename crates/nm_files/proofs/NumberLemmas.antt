@@ -13,7 +13,8 @@ use Rattle.std.proofs.lemmas.Int.Digits.{digits_value_more}
 use Rattle.std.proofs.lemmas.Str.Parse.{digits_value-take-le}
 
 -- digits that are too great at some place stay so
-pub too_great : (field : List ℕ) (i value : ℕ) → i < length field → value ≡ digits_value 10 (take i field) → 2 ^ 64 ≤ value * 10 + digit_value (get_or field i 0) → nat_lt (digits_value 10 field) (2 ^ 64) ≡ false
+pub too_great : (field : List ℕ) (i value : ℕ) → i < length field → value ≡ digits_value 10 (take i field)
+    → 2 ^ 64 ≤ value * 10 + digit_value (get_or field i 0) → nat_lt (digits_value 10 field) (2 ^ 64) ≡ false
 too_great field i value lt is great =
     let more = digits_value_more 10 field i lt in
     let le = digits_value-take-le 10 field (i + 1) (omega arith) in
@@ -24,12 +25,17 @@ pub digit_is : (c : ℕ) → is_ascii_digit c ≡ true → digit_value c ≡ c -
 digit_is c h = grind arith
 
 -- one more digit
-pub number_more : (field : List ℕ) (i value digit : ℕ) → i < length field → is_ascii_digit (get_or field i 0) ≡ true → digit ≡ get_or field i 0 - 48 → value ≡ digits_value 10 (take i field) → value * 10 + digit ≡ digits_value 10 (take (i + 1) field)
-number_more field i value digit lt is same value-is = omega (arith, digits_value_more 10 field i lt, digit_is (get_or field i 0) is, same, value-is)
+pub number_more : (field : List ℕ) (i value digit : ℕ) → i < length field → is_ascii_digit (get_or field i 0) ≡ true
+    → digit ≡ get_or field i 0 - 48 → value ≡ digits_value 10 (take i field)
+    → value * 10 + digit ≡ digits_value 10 (take (i + 1) field)
+number_more field i value digit lt is same value-is = omega
+    (arith, digits_value_more 10 field i lt, digit_is (get_or field i 0) is, same, value-is)
 
-pub digits_more : (field : List ℕ) (i : ℕ) → i < length field → is_ascii_digit (get_or field i 0) ≡ true → list_all is_ascii_digit (take i field) ≡ true → list_all is_ascii_digit (take (i + 1) field) ≡ true
+pub digits_more : (field : List ℕ) (i : ℕ) → i < length field → is_ascii_digit (get_or field i 0) ≡ true
+    → list_all is_ascii_digit (take i field) ≡ true → list_all is_ascii_digit (take (i + 1) field) ≡ true
 digits_more field i lt is before = rw (list_all_more is_ascii_digit field i 0 lt, before, is) refl
 
 -- and then it is no number
-pub refused_great : (field : List ℕ) → nat_lt (digits_value 10 field) (2 ^ 64) ≡ false → Err reason.Number ≡ number field
+pub refused_great : (field : List ℕ) → nat_lt (digits_value 10 field) (2 ^ 64) ≡ false
+    → Err reason.Number ≡ number field
 refused_great field e = rw (e, and_right (is_numeral field) false refl) refl

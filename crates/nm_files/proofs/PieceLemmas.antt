@@ -28,7 +28,8 @@ position_none p xs e =
       | inr n ↦ ltb-false _ _ n
     ]
 
-pub position_some : (p : ℕ → Bool) (xs : List ℕ) (at : ℕ) → position p xs ≡ Some at → (at ≡ position_or_len p xs) × (position_or_len p xs < length xs)
+pub position_some : (p : ℕ → Bool) (xs : List ℕ) (at : ℕ) → position p xs ≡ Some at
+    → (at ≡ position_or_len p xs) × (position_or_len p xs < length xs)
 position_some p xs at e =
     elim (cases_Bool (nat_lt (position_or_len p xs) (length xs))) [
       | inl y ↦ let same = rw y at e in (cc, ltb-true _ _ y)
@@ -38,7 +39,8 @@ position_some p xs at e =
 pub cut_none : (c : ℕ) (text : List ℕ) → position (λ b. b == c) text ≡ None → pieces c text ≡ text ∷ []
 cut_none c text e = uncut (λ b. b == c) text (position_none (λ b. b == c) text e)
 
-pub cut_some : (c : ℕ) (text : List ℕ) (at : ℕ) → position (λ b. b == c) text ≡ Some at → pieces c text ≡ take at text ∷ pieces c (drop (at + 1) text)
+pub cut_some : (c : ℕ) (text : List ℕ) (at : ℕ) → position (λ b. b == c) text ≡ Some at
+    → pieces c text ≡ take at text ∷ pieces c (drop (at + 1) text)
 cut_some c text at e =
     let found = position_some (λ b. b == c) text at e in
     rw (found.0) (slice_split_first (λ b. b == c) text 0 found.1)

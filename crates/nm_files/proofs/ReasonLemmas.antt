@@ -46,7 +46,8 @@ first false false true key = Some Worker
 first false false false true = Some Key
 first false false false false = None
 
-first_found : (test : Reason → Bool) → find test field_reasons ≡ first (test Fields) (test Number) (test Worker) (test Key)
+first_found : (test : Reason → Bool) → find test field_reasons
+    ≡ first (test Fields) (test Number) (test Worker) (test Key)
 first_found test = grind arith
 
 abbrev lesser : Option Reason → Option Reason → Option Reason
@@ -54,26 +55,34 @@ lesser None o = o
 lesser (Some r) None = Some r
 lesser (Some r) (Some s) = Some (least r s)
 
-lesser_is : (f n w k f' n' w' k' : Bool) → lesser (first f n w k) (first f' n' w' k') ≡ first (f || f') (n || n') (w || w') (k || k')
+lesser_is : (f n w k f' n' w' k' : Bool) → lesser (first f n w k) (first f' n' w' k')
+    ≡ first (f || f') (n || n') (w || w') (k || k')
 lesser_is f n w k f' n' w' k' = grind arith
 
-both_lesser : {A B : Type 0} (r : Result A Reason) (s : Result B Reason) → reason_in (both r s) ≡ lesser (reason_in r) (reason_in s)
+both_lesser : {A B : Type 0} (r : Result A Reason) (s : Result B Reason)
+    → reason_in (both r s) ≡ lesser (reason_in r) (reason_in s)
 both_lesser r s = grind arith
 
-both_least : {A B : Type 0} (r : Result A Reason) (s : Result B Reason) (p q : Reason → Bool) → reason_in r ≡ find p field_reasons → reason_in s ≡ find q field_reasons → reason_in (both r s) ≡ find (λ r. p r || q r) field_reasons
+both_least : {A B : Type 0} (r : Result A Reason) (s : Result B Reason) (p q : Reason → Bool)
+    → reason_in r ≡ find p field_reasons → reason_in s ≡ find q field_reasons
+    → reason_in (both r s) ≡ find (λ r. p r || q r) field_reasons
 both_least r s p q by_p by_q =
-    both_lesser r s ∙ rw (by_p, by_q, first_found p, first_found q) (lesser_is (p Fields) (p Number) (p Worker) (p Key) (q Fields) (q Number) (q Worker) (q Key)) ∙ sym (first_found (λ r. p r || q r))
+    both_lesser r s ∙ rw (by_p, by_q, first_found p, first_found q)
+    (lesser_is (p Fields) (p Number) (p Worker) (p Key) (q Fields) (q Number) (q Worker) (q Key))
+    ∙ sym (first_found (λ r. p r || q r))
 
 -- ---- the fields of a line
 
-worker_least : (workers : ℕ) (f : List ℕ) → reason_in (worker_of workers f) ≡ find (field_holds workers a.Worker f) field_reasons
+worker_least : (workers : ℕ) (f : List ℕ) → reason_in (worker_of workers f)
+    ≡ find (field_holds workers a.Worker f) field_reasons
 worker_least workers f =
     elim (place_gives f) [
       | inl e ↦ rw e refl
       | inr x ↦ rw (x.1) (grind arith)
     ]
 
-value_least : (workers : ℕ) (argument : Argument) (f : List ℕ) → reason_in (value_of workers argument f) ≡ find (field_holds workers argument f) field_reasons
+value_least : (workers : ℕ) (argument : Argument) (f : List ℕ)
+    → reason_in (value_of workers argument f) ≡ find (field_holds workers argument f) field_reasons
 value_least workers a.Place f = elim (place_gives f) [ inl e ↦ rw e refl | inr x ↦ rw (x.1) refl ]
 value_least workers a.Number f = elim (number_gives f) [ inl e ↦ rw e refl | inr x ↦ rw (x.1) refl ]
 value_least workers a.Key f =
@@ -87,20 +96,24 @@ value_least workers a.Side f = elim (by_word_gives side_words f) [ inl e ↦ rw 
 value_least workers a.Op f = elim (by_word_gives op_words f) [ inl e ↦ rw e refl | inr x ↦ rw (x.1) refl ]
 value_least workers a.Answer f = elim (by_word_gives answer_words f) [ inl e ↦ rw e refl | inr x ↦ rw (x.1) refl ]
 
-row_least : (workers : ℕ) (row : List Argument) (fs : List (List ℕ)) → reason_in (values_of workers row fs) ≡ find (row_holds workers row fs) field_reasons
+row_least : (workers : ℕ) (row : List Argument) (fs : List (List ℕ))
+    → reason_in (values_of workers row fs) ≡ find (row_holds workers row fs) field_reasons
 row_least workers [] [] = refl
 row_least workers [] (f ∷ fs) = refl
 row_least workers (argument ∷ row) [] = refl
 row_least workers (argument ∷ row) (f ∷ fs) =
-    both_least (value_of workers argument f) (values_of workers row fs) (field_holds workers argument f) (row_holds workers row fs) (value_least workers argument f) (row_least workers row fs)
+    both_least (value_of workers argument f) (values_of workers row fs) (field_holds workers argument f)
+    (row_holds workers row fs) (value_least workers argument f) (row_least workers row fs)
 
 -- ---- a line
 
 -- no reason of a worker is before that of a wrong kind
-kind_first : {A : Type 0} (B : Type 0) (r : Result A Reason) (p : Reason → Bool) → reason_in r ≡ find p field_reasons → reason_in (both {B = B} r (Err reason.Kind)) ≡ Some reason.Kind
+kind_first : {A : Type 0} (B : Type 0) (r : Result A Reason) (p : Reason → Bool) → reason_in r ≡ find p field_reasons
+    → reason_in (both {B = B} r (Err reason.Kind)) ≡ Some reason.Kind
 kind_first B r p by_p = both_lesser {B = B} r (Err reason.Kind) ∙ rw (by_p, first_found p) (grind arith)
 
-kind_least : {X : Type 0} (kinds : List (KindOf X)) (header : Header) (w k : List ℕ) (fs : List (List ℕ)) → list_all is_field (w ∷ k ∷ fs) ≡ true
+kind_least : {X : Type 0} (kinds : List (KindOf X)) (header : Header) (w k : List ℕ) (fs : List (List ℕ))
+    → list_all is_field (w ∷ k ∷ fs) ≡ true
     → (o : Option (KindOf X)) → find (is_named header.forms k (length fs == 0)) kinds ≡ o
     → reason_in (entry_of kinds header (w ∷ k ∷ fs)) ≡ find (holds_of kinds header false (w ∷ k ∷ fs)) line_reasons
 unfolding entry_of made_by
@@ -112,15 +125,21 @@ kind_least kinds header w k fs formed (Some kind) is =
     let workers = header.layout.workers in
     let two : nat_lt (length (w ∷ k ∷ fs)) 2 ≡ false = le-ltb (length (w ∷ k ∷ fs)) 2 (omega arith) in
     let values = values_of workers kind.arguments fs in
-    rw (is, formed, two) (both_least (worker_of workers w) (with_view (made kind.arguments kind.maker) values) (field_holds workers a.Worker w) (row_holds workers kind.arguments fs) (worker_least workers w) (seen_reason _ values ∙ row_least workers kind.arguments fs))
+    rw (is, formed, two) (both_least (worker_of workers w) (with_view (made kind.arguments kind.maker) values)
+    (field_holds workers a.Worker w) (row_holds workers kind.arguments fs) (worker_least workers w)
+    (seen_reason _ values ∙ row_least workers kind.arguments fs))
 
-entry_least : {X : Type 0} (kinds : List (KindOf X)) (header : Header) (fs : List (List ℕ)) → list_all is_field fs ≡ true → reason_in (entry_of kinds header fs) ≡ find (holds_of kinds header false fs) line_reasons
+entry_least : {X : Type 0} (kinds : List (KindOf X)) (header : Header) (fs : List (List ℕ))
+    → list_all is_field fs ≡ true → reason_in (entry_of kinds header fs)
+    ≡ find (holds_of kinds header false fs) line_reasons
 unfolding entry_of
 entry_least kinds header [] formed = refl
 entry_least kinds header (w ∷ []) formed = rw formed refl
 entry_least kinds header (w ∷ k ∷ fs) formed = kind_least kinds header w k fs formed _ refl
 
-fields_least : {X : Type 0} (kinds : List (KindOf X)) (header : Header) (long : Bool) (fs : List (List ℕ)) → reason_in (if long then Err reason.Long else if list_all is_field fs then entry_of kinds header fs else Err reason.Form) ≡ find (holds_of kinds header long fs) line_reasons
+fields_least : {X : Type 0} (kinds : List (KindOf X)) (header : Header) (long : Bool) (fs : List (List ℕ))
+    → reason_in (if long then Err reason.Long else if list_all is_field fs then entry_of kinds header fs else Err
+    reason.Form) ≡ find (holds_of kinds header long fs) line_reasons
 fields_least kinds header true fs = refl
 fields_least kinds header false fs =
     elim (cases_Bool (list_all is_field fs)) [
@@ -128,13 +147,16 @@ fields_least kinds header false fs =
       | inr n ↦ rw n refl
     ]
 
-line_least : {X : Type 0} (kinds : List (KindOf X)) (header : Header) (number : ℕ) (line : List ℕ) → reason_of (checked number line (line_of kinds header line)) ≡ find (holds kinds header number line) line_reasons
+line_least : {X : Type 0} (kinds : List (KindOf X)) (header : Header) (number : ℕ) (line : List ℕ)
+    → reason_of (checked number line (line_of kinds header line)) ≡ find (holds kinds header number line) line_reasons
 line_least kinds header number line = reason_at number _ ∙ fields_least kinds header (is_long number line) (fields line)
 
-pub event_least : (header : Header) (number : ℕ) (line : List ℕ) → reason_of (checked number line (line_of events header line)) ≡ find (holds events header number line) line_reasons
+pub event_least : (header : Header) (number : ℕ) (line : List ℕ)
+    → reason_of (checked number line (line_of events header line)) ≡ find (holds events header number line) line_reasons
 event_least = line_least events
 
-pub call_least : (header : Header) (number : ℕ) (line : List ℕ) → reason_of (checked number line (line_of calls header line)) ≡ find (holds calls header number line) line_reasons
+pub call_least : (header : Header) (number : ℕ) (line : List ℕ)
+    → reason_of (checked number line (line_of calls header line)) ≡ find (holds calls header number line) line_reasons
 call_least = line_least calls
 
 -- ---- the first line
@@ -153,7 +175,8 @@ tries_give Stress (f ∷ []) = count_gives f
 tries_give Stress (f ∷ g ∷ fs) = inl refl
 
 -- limits where a version is this one, and as told where it is not
-or_else : (given version : List ℕ) (limits : Limits) (others : Result Limits Reason) → Gives reason.Header others → Gives reason.Header (if bytes_eq given version then Ok limits else others)
+or_else : (given version : List ℕ) (limits : Limits) (others : Result Limits Reason) → Gives reason.Header others
+    → Gives reason.Header (if bytes_eq given version then Ok limits else others)
 or_else given version limits others gives =
     elim (cases_Bool (bytes_eq given version)) [
       | inl y ↦ inr (limits, rw y refl)
@@ -161,7 +184,8 @@ or_else given version limits others gives =
     ]
 
 later_give : (command : Command) (version : List ℕ) → Gives reason.Header (later_limits command version)
-later_give Replay version = or_else version (codes "2") _ _ (or_else version (codes "3") _ _ (or_else version (codes "4") _ _ (or_else version (codes "5") _ _ (inl refl))))
+later_give Replay version = or_else version (codes "2") _ _
+    (or_else version (codes "3") _ _ (or_else version (codes "4") _ _ (or_else version (codes "5") _ _ (inl refl))))
 later_give Serial version = or_else version (codes "2") _ _ (or_else version (codes "3") _ _ (inl refl))
 later_give Stress version = or_else version (codes "2") _ _ (or_else version (codes "3") _ _ (inl refl))
 
@@ -172,12 +196,17 @@ limits_give command given version =
       | inr n ↦ inl (rw n refl)
     ]
 
-header_said : (command : Command) (given version nodes workers : List ℕ) (more : List (List ℕ)) → header_of command (given ∷ version ∷ nodes ∷ workers ∷ more) ≡ (limits_of command given version >>= λ limits. count nodes >>= λ n. count workers >>= λ w. tries_of command more >>= λ t. header_within limits n w t)
+header_said : (command : Command) (given version nodes workers : List ℕ) (more : List (List ℕ))
+    → header_of command (given ∷ version ∷ nodes ∷ workers ∷ more)
+    ≡ (limits_of command given version >>= λ limits. count nodes >>= λ n. count workers >>= λ w. tries_of command
+    more >>= λ t. header_within limits n w t)
 unfolding header_of
 header_said command given version nodes workers more = refl
 
-sizes_least : (command : Command) (given version nodes workers : List ℕ) (more : List (List ℕ)) (limits : Limits) → limits_of command given version ≡ Ok limits
-    → reason_in (header_of command (given ∷ version ∷ nodes ∷ workers ∷ more)) ≡ find (header_holds_of command false (given ∷ version ∷ nodes ∷ workers ∷ more)) header_reasons
+sizes_least : (command : Command) (given version nodes workers : List ℕ) (more : List (List ℕ)) (limits : Limits)
+    → limits_of command given version ≡ Ok limits
+    → reason_in (header_of command (given ∷ version ∷ nodes ∷ workers ∷ more))
+    ≡ find (header_holds_of command false (given ∷ version ∷ nodes ∷ workers ∷ more)) header_reasons
 sizes_least command given version nodes workers more limits named =
     elim (number_gives nodes) [
       | inl e ↦ rw (header_said, named, e) refl
@@ -189,14 +218,19 @@ sizes_least command given version nodes workers more limits named =
             | inl y ↦ rw (header_said, named, n.1, w.1, t.1, y) refl
             | inr y ↦ elim (cases_Bool (outside 1 limits.workers w.0)) [
               | inl z ↦ rw (header_said, named, n.1, w.1, t.1, y, z) refl
-              | inr z ↦ elim (cases_Bool (outside 1 1000000 t.0)) [ inl u ↦ rw (header_said, named, n.1, w.1, t.1, y, z, u) refl | inr u ↦ rw (header_said, named, n.1, w.1, t.1, y, z, u) refl ]
+              | inr z ↦ elim (cases_Bool (outside 1 1000000 t.0)) [
+                | inl u ↦ rw (header_said, named, n.1, w.1, t.1, y, z, u) refl
+                | inr u ↦ rw
+                    (header_said, named, n.1, w.1, t.1, y, z, u) refl
+              ]
             ]
           ]
         ]
       ]
     ]
 
-header_least : (command : Command) (fs : List (List ℕ)) → reason_in (header_of command fs) ≡ find (header_holds_of command false fs) header_reasons
+header_least : (command : Command) (fs : List (List ℕ))
+    → reason_in (header_of command fs) ≡ find (header_holds_of command false fs) header_reasons
 unfolding header_of
 header_least command [] = refl
 header_least command (a ∷ []) = refl
@@ -208,9 +242,12 @@ header_least command (a ∷ b ∷ c ∷ d ∷ more) =
       | inr l ↦ let e = sizes_least command a b c d more l.0 l.1 in rw (l.1) (rw (l.1) at e)
     ]
 
-first_least : (command : Command) (long : Bool) (fs : List (List ℕ)) → reason_in (if long then Err reason.Long else header_of command fs) ≡ find (header_holds_of command long fs) header_reasons
+first_least : (command : Command) (long : Bool) (fs : List (List ℕ))
+    → reason_in (if long then Err reason.Long else header_of command fs)
+    ≡ find (header_holds_of command long fs) header_reasons
 first_least command true fs = refl
 first_least command false fs = header_least command fs
 
-pub first_line_least : (command : Command) (line : List ℕ) → reason_of (checked 1 line (first_line_of command line)) ≡ find (header_holds command line) header_reasons
+pub first_line_least : (command : Command) (line : List ℕ)
+    → reason_of (checked 1 line (first_line_of command line)) ≡ find (header_holds command line) header_reasons
 first_line_least command line = reason_at 1 _ ∙ first_least command (is_long 1 line) (fields line)

@@ -25,8 +25,12 @@ pub number_is_decimal : (field : List ℕ) (n : ℕ) → number field ≡ Ok n �
 number_is_decimal field n e =
     let c = chosen (is_numeral field && nat_lt (digits_value 10 field) (2 ^ 64)) (digits_value 10 field) n e in
     let whole = and_parts (is_numeral field) (nat_lt (digits_value 10 field) (2 ^ 64)) c.0 in
-    let front = and_parts (nat_lt 0 (length field) && list_all is_ascii_digit field) (not (get_or field 0 0 == 48) || length field == 1) whole.0 in
+    let front = and_parts (nat_lt 0 (length field) && list_all is_ascii_digit field)
+    (not (get_or field 0 0 == 48) || length field == 1) whole.0 in
     let parts = and_parts (nat_lt 0 (length field)) (list_all is_ascii_digit field) front.0 in
-    let alone : get_or field 0 0 ≡ 48 → length field ≡ 1 = λ z. eqb-true (length field) 1 (first_zero (get_or field 0 0 == 48) (length field == 1) front.1 (eq-eqb (get_or field 0 0) 48 z)) in
-    let spelled = decimal-digits_value own field parts.1 (ltb-true 0 (length field) parts.0) alone (ltb-true (digits_value 10 field) (2 ^ 64) whole.1) in
+    let alone : get_or field 0 0 ≡ 48 → length field
+    ≡ 1 = λ z. eqb-true (length field) 1 (first_zero (get_or field 0 0 == 48) (length field == 1) front.1
+    (eq-eqb (get_or field 0 0) 48 z)) in
+    let spelled = decimal-digits_value own field parts.1 (ltb-true 0 (length field) parts.0) alone
+    (ltb-true (digits_value 10 field) (2 ^ 64) whole.1) in
     sym spelled ∙ ap decimal c.1

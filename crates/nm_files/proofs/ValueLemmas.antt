@@ -27,10 +27,12 @@ pub place_gives : (f : List ℕ) → Gives reason.Number (place f)
 place_gives f =
     elim (number_gives f) [
       | inl e ↦ inl (rw e refl)
-      | inr v ↦ elim (cases_Bool (nat_lt v.0 (2 ^ 32))) [ inl y ↦ inr (v.0, rw (v.1, y) refl) | inr n ↦ inl (rw (v.1, n) refl) ]
+      | inr v ↦ elim (cases_Bool (nat_lt v.0 (2 ^ 32)))
+          [ inl y ↦ inr (v.0, rw (v.1, y) refl) | inr n ↦ inl (rw (v.1, n) refl) ]
     ]
 
-pub by_word_gives : {X : Type 0} (words : List (List ℕ × X)) (given : List ℕ) → Gives reason.Fields (by_word words given)
+pub by_word_gives : {X : Type 0} (words : List (List ℕ × X)) (given : List ℕ)
+    → Gives reason.Fields (by_word words given)
 by_word_gives [] given = inl refl
 by_word_gives (w ∷ words) given =
     elim (cases_Bool (bytes_eq given w.0)) [
@@ -43,15 +45,18 @@ by_word_gives (w ∷ words) given =
 pub ok_is : {X E : Type 0} (x y : X) → ◌≡◌ {A = Result X E} (Ok x) (Ok y) → x ≡ y
 ok_is x y e = cc
 
-pub then_is : {X Y E : Type 0} (r : Result X E) (f : X → Result Y E) (y : Y) → (r >>= f) ≡ Ok y → (x : X) × (r ≡ Ok x) × (f x ≡ Ok y)
+pub then_is : {X Y E : Type 0} (r : Result X E) (f : X → Result Y E) (y : Y) → (r >>= f) ≡ Ok y
+    → (x : X) × (r ≡ Ok x) × (f x ≡ Ok y)
 then_is (Ok x) f y e = (x, refl, e)
 then_is (Err r) f y e = absurd cc
 
-pub seen_is : {X Y : Type 0} (view : X → Y) (r : Result X Reason) (y : Y) → with_view view r ≡ Ok y → (x : X) × (r ≡ Ok x) × (y ≡ view x)
+pub seen_is : {X Y : Type 0} (view : X → Y) (r : Result X Reason) (y : Y) → with_view view r ≡ Ok y
+    → (x : X) × (r ≡ Ok x) × (y ≡ view x)
 seen_is view (Ok x) y e = (x, refl, sym (ok_is (view x) y e))
 seen_is view (Err r) y e = absurd cc
 
-pub both_are : {A B : Type 0} (r : Result A Reason) (s : Result B Reason) (p : A × B) → both r s ≡ Ok p → (r ≡ Ok p.0) × (s ≡ Ok p.1)
+pub both_are : {A B : Type 0} (r : Result A Reason) (s : Result B Reason) (p : A × B) → both r s ≡ Ok p
+    → (r ≡ Ok p.0) × (s ≡ Ok p.1)
 both_are (Ok x) (Ok y) p e = let same = ok_is (x, y) p e in (rw (sym same) refl, rw (sym same) refl)
 both_are (Ok x) (Err r) p e = absurd cc
 both_are (Err r) (Ok y) p e = absurd cc
@@ -66,7 +71,8 @@ worker_below workers f w e =
     ]
 
 -- what is found passes, and is one of those that were asked
-pub found_is : {X : Type 0} (P : X → Type 0) (test : X → Bool) (xs : List X) (x : X) → find test xs ≡ Some x → AllByRecursion P xs → P x × (test x ≡ true)
+pub found_is : {X : Type 0} (P : X → Type 0) (test : X → Bool) (xs : List X) (x : X) → find test xs ≡ Some x
+    → AllByRecursion P xs → P x × (test x ≡ true)
 found_is P test [] x e all = absurd cc
 found_is P test (y ∷ xs) x e all =
     elim (cases_Bool (test y)) [
@@ -74,6 +80,7 @@ found_is P test (y ∷ xs) x e all =
       | inr n ↦ let rest = rw n at e in found_is P test xs x rest all.1
     ]
 
-pub each_is : {X : Type 0} (test : X → Bool) (xs : List X) → list_all test xs ≡ true → AllByRecursion (λ x. test x ≡ true) xs
+pub each_is : {X : Type 0} (test : X → Bool) (xs : List X) → list_all test xs ≡ true
+    → AllByRecursion (λ x. test x ≡ true) xs
 each_is test [] e = tt
 each_is test (x ∷ xs) e = let both = and_parts (test x) (list_all test xs) e in (both.0, each_is test xs both.1)

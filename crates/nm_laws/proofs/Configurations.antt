@@ -24,7 +24,8 @@ or_else_none None = refl
 or_else_none (Some x) = refl
 
 -- without searches an event is refused as in its state
-pub refused_plain : (s : State) (w : ℕ) (e : Event) → refused_in (record { state = s; searches = None }) w e ≡ refused s w e
+pub refused_plain : (s : State) (w : ℕ) (e : Event)
+    → refused_in (record { state = s; searches = None }) w e ≡ refused s w e
 unfolding refused_in
 refused_plain s w e = or_else_none (refused s w e)
 
@@ -56,7 +57,8 @@ module _ (c : Configuration) (t : ℕ × Event) where
 
   pub allowed_state : refused_in c t.0 t.1 ≡ None → next c.state t ≡ (next_in c t).state
   unfolding next applied_in
-  allowed_state is = ap (λ (o : Option Refused). unless_refused o c.state (applied c.state t.0 t.1)) (allowed_by_state c t.0 t.1 is) ∙ ap (λ (d : Configuration). d.state) (sym (allowed_next is))
+  allowed_state is = ap (λ (o : Option Refused). unless_refused o c.state (applied c.state t.0 t.1))
+      (allowed_by_state c t.0 t.1 is) ∙ ap (λ (d : Configuration). d.state) (sym (allowed_next is))
 
   pub state_outcome : refused_in c t.0 t.1 ≡ None → outcome c.state t ≡ Ok (reply_of c.state t.0 t.1)
   unfolding outcome
@@ -73,14 +75,20 @@ unfolding after_in trace_in after trace
 ordered_runs c [] = (refl, refl)
 ordered_runs c (t ∷ ts) = go (refused_in c t.0 t.1) refl (ordered_runs (next_in c t) ts)
   where
-    go : (o : Option Refused) → refused_in c t.0 t.1 ≡ o → IsRunOfAccepted (next_in c t).state (trace_in (next_in c t) ts) (after_in (next_in c t) ts).state
+    go : (o : Option Refused) → refused_in c t.0 t.1 ≡ o
+        → IsRunOfAccepted (next_in c t).state (trace_in (next_in c t) ts) (after_in (next_in c t) ts).state
         → IsRunOfAccepted c.state (told_in c t ∷ trace_in (next_in c t) ts) (after_in (next_in c t) ts).state
-    go (Some r) is rest = rw (refused_outcome c t r is) (subst (λ (s : State). IsRunOfAccepted s (trace_in (next_in c t) ts) (after_in (next_in c t) ts).state) (ap (λ (d : Configuration). d.state) (refused_next c t r is)) rest)
+    go (Some r) is rest = rw (refused_outcome c t r is)
+        (subst (λ (s : State). IsRunOfAccepted s (trace_in (next_in c t) ts) (after_in (next_in c t) ts).state)
+        (ap (λ (d : Configuration). d.state) (refused_next c t r is)) rest)
     go None is rest = rw (allowed_outcome c t is) (by (sym (allowed_state c t is)))
       where
-        by : (next_in c t).state ≡ next c.state t → IsRunOfAccepted c.state (record { worker = t.0; event = t.1; outcome = Ok (reply_of c.state t.0 t.1) } ∷ trace_in (next_in c t) ts) (after_in (next_in c t) ts).state
+        by : (next_in c t).state ≡ next c.state t → IsRunOfAccepted c.state
+            (record { worker = t.0; event = t.1; outcome = Ok (reply_of c.state t.0 t.1) } ∷ trace_in (next_in c t) ts)
+            (after_in (next_in c t) ts).state
         by same =
-            let rest' = subst (λ (s : State). IsRunOfAccepted s (trace_in (next_in c t) ts) (after_in (next_in c t) ts).state) same rest in
+            let rest' = subst (λ (s : State). IsRunOfAccepted s (trace_in (next_in c t) ts)
+            (after_in (next_in c t) ts).state) same rest in
             (rest'.0, λ i. record { worker = t.0; event = t.1; outcome = state_outcome c t is i } ∷ rest'.1 i)
 
 -- ---- a core without searches runs as its state
@@ -91,9 +99,11 @@ alone s = record { state = s; searches = None }
 
 plain_next : (s : State) (t : ℕ × Event) → next_in (alone s) t ≡ alone (next s t)
 unfolding next_in next applied_in
-plain_next s t = ap (λ (o : Option Refused). unless_refused_in o (alone s) (alone (applied s t.0 t.1))) (refused_plain s t.0 t.1) ∙ go (refused s t.0 t.1)
+plain_next s t = ap (λ (o : Option Refused). unless_refused_in o (alone s) (alone (applied s t.0 t.1)))
+    (refused_plain s t.0 t.1) ∙ go (refused s t.0 t.1)
   where
-    go : (o : Option Refused) → unless_refused_in o (alone s) (alone (applied s t.0 t.1)) ≡ alone (unless_refused o s (applied s t.0 t.1))
+    go : (o : Option Refused) → unless_refused_in o (alone s) (alone (applied s t.0 t.1))
+        ≡ alone (unless_refused o s (applied s t.0 t.1))
     go None = refl
     go (Some r) = refl
 
@@ -107,25 +117,30 @@ plain_runs s [] = (refl, refl)
 plain_runs s (t ∷ ts) =
     let rest = plain_runs (next s t) ts in (
       ap (λ (c : Configuration). after_in c ts) (plain_next s t) ∙ rest.0,
-      λ i. record { worker = t.0; event = t.1; outcome = plain_outcome s t i } ∷ (ap (λ (c : Configuration). trace_in c ts) (plain_next s t) ∙ rest.1) i,
+      λ i. record { worker = t.0; event = t.1; outcome = plain_outcome s t i }
+          ∷ (ap (λ (c : Configuration). trace_in c ts) (plain_next s t) ∙ rest.1) i,
     )
 
 -- ---- runs one behind the other
 
-pub after_in-append : (c : Configuration) (ts us : List (ℕ × Event)) → after_in c (ts ++ us) ≡ after_in (after_in c ts) us
+pub after_in-append : (c : Configuration) (ts us : List (ℕ × Event))
+    → after_in c (ts ++ us) ≡ after_in (after_in c ts) us
 unfolding after_in
 after_in-append c [] us = refl
 after_in-append c (t ∷ ts) us = after_in-append (next_in c t) ts us
 
 -- the configuration after one turn more
-pub after_in-more : (c : Configuration) (ts : List (ℕ × Event)) (i : ℕ) (d : ℕ × Event) → i < length ts → after_in c (take (i + 1) ts) ≡ next_in (after_in c (take i ts)) (get_or ts i d)
+pub after_in-more : (c : Configuration) (ts : List (ℕ × Event)) (i : ℕ) (d : ℕ × Event) → i < length ts
+    → after_in c (take (i + 1) ts) ≡ next_in (after_in c (take i ts)) (get_or ts i d)
 unfolding after_in
-after_in-more c ts i d below = ap (after_in c) (take_more ts i d below) ∙ after_in-append c (take i ts) (get_or ts i d ∷ [])
+after_in-more c ts i d below = ap (after_in c) (take_more ts i d below)
+    ∙ after_in-append c (take i ts) (get_or ts i d ∷ [])
 
 -- ---- what each configuration that is reached keeps
 
 -- the keys of one turn more
-pub keys_more : (ts : List (ℕ × Event)) (t : ℕ × Event) → All (λ u. HasKey u.1) ts → HasKey t.1 → All (λ u. HasKey u.1) (ts ++ t ∷ [])
+pub keys_more : (ts : List (ℕ × Event)) (t : ℕ × Event) → All (λ u. HasKey u.1) ts → HasKey t.1
+    → All (λ u. HasKey u.1) (ts ++ t ∷ [])
 keys_more ts t keys key = All-append (λ (u : ℕ × Event). HasKey u.1) ts (t ∷ []) keys one
   where
     one : (i : ℕ) (d : ℕ × Event) → i < 1 → HasKey (get_or (t ∷ []) i d).1
@@ -144,7 +159,8 @@ unfolding after_in
 reached_ordered L fits = record { is_ordered = true; fits = fits; events = []; keys = no_keys; leads = refl }
 
 -- a property of the opening that each event keeps is one of what is reached
-by_events : (P : Configuration → Type 0) → ((c : Configuration) (w : ℕ) (e : Event) → P c → P (applied_in c w e)) → (ts : List (ℕ × Event)) (c : Configuration) → P c → P (after_in c ts)
+by_events : (P : Configuration → Type 0) → ((c : Configuration) (w : ℕ) (e : Event) → P c → P (applied_in c w e))
+    → (ts : List (ℕ × Event)) (c : Configuration) → P c → P (after_in c ts)
 unfolding after_in
 by_events P step [] c p = p
 by_events P step (t ∷ ts) c p = by_events P step ts (next_in c t) (go (refused_in c t.0 t.1) refl)
@@ -164,17 +180,21 @@ reached_next c t key r = record {
   fits = rw kept r.fits;
   events = r.events ++ t ∷ [];
   keys = keys_more r.events t r.keys key;
-  leads = ap (λ (L : Layout). after_in (opening_of L r.is_ordered) (r.events ++ t ∷ [])) kept ∙ (after_in-append (opening_of c.state.layout r.is_ordered) r.events (t ∷ []) ∙ ap (λ (d : Configuration). next_in d t) r.leads);
+  leads = ap (λ (L : Layout). after_in (opening_of L r.is_ordered) (r.events ++ t ∷ [])) kept
+      ∙ (after_in-append (opening_of c.state.layout r.is_ordered) r.events (t ∷ [])
+      ∙ ap (λ (d : Configuration). next_in d t) r.leads);
 }
   where
     kept : (next_in c t).state.layout ≡ c.state.layout
     kept = by_events (λ d. d.state.layout ≡ c.state.layout) (λ d w e same. same_layout d w e ∙ same) (t ∷ []) c refl
 
-pub reached_applied : (c : Configuration) (w : ℕ) (e : Event) → HasKey e → refused_in c w e ≡ None → IsReached c → IsReached (applied_in c w e)
+pub reached_applied : (c : Configuration) (w : ℕ) (e : Event) → HasKey e → refused_in c w e ≡ None → IsReached c
+    → IsReached (applied_in c w e)
 reached_applied c w e key allowed r = subst IsReached (allowed_next c (w, e) allowed) (reached_next c (w, e) key r)
 
 -- whatever was answered, what is left is reached
-pub reached_answered : (c new : Configuration) (w : ℕ) (e : Event) (reply : Reply) (result : Result Reply Refused) → HasKey e → IsReached c → IsAnswer (refused_in c w e) reply result
+pub reached_answered : (c new : Configuration) (w : ℕ) (e : Event) (reply : Reply) (result : Result Reply Refused)
+    → HasKey e → IsReached c → IsAnswer (refused_in c w e) reply result
     → OnOk result (new ≡ applied_in c w e) → OnErr result (new ≡ c) → IsReached new
 reached_answered c new w e reply (Ok r) key reached answer ok err = rw ok (reached_applied c w e key answer.0 reached)
 reached_answered c new w e reply (Err why) key reached answer ok err = rw err reached
@@ -188,8 +208,10 @@ pub reached_state : (c : Configuration) → IsReached c → IsReachable c.state
 reached_state c r = record {
   fits = r.fits;
   events = map turn_of (accepted (trace_in (opening_of c.state.layout r.is_ordered) r.events));
-  leads = ap (λ (s : State). after s (map turn_of (accepted (trace_in (opening_of c.state.layout r.is_ordered) r.events)))) (sym (opening_state c.state.layout r.is_ordered))
-      ∙ (sym (ordered_runs (opening_of c.state.layout r.is_ordered) r.events).0 ∙ ap (λ (d : Configuration). d.state) r.leads);
+  leads = ap (λ (s : State). after s (map turn_of (accepted
+      (trace_in (opening_of c.state.layout r.is_ordered) r.events)))) (sym (opening_state c.state.layout r.is_ordered))
+      ∙ (sym (ordered_runs (opening_of c.state.layout r.is_ordered) r.events).0
+      ∙ ap (λ (d : Configuration). d.state) r.leads);
 }
 
 -- there is a search for each worker
@@ -204,20 +226,27 @@ sized_step : (c : Configuration) (w : ℕ) (e : Event) → IsSized c → IsSized
 unfolding applied_in applied
 sized_step c w e sized = go c.searches sized
   where
-    go : (o : Option (List Search)) → IfSome o (λ ss. length ss ≡ c.state.layout.workers) → IfSome (option_map (λ ss. learned_from ss w e (reply_of c.state w e)) o) (λ ss. length ss ≡ c.state.layout.workers)
+    go : (o : Option (List Search)) → IfSome o (λ ss. length ss ≡ c.state.layout.workers)
+        → IfSome (option_map (λ ss. learned_from ss w e (reply_of c.state w e)) o)
+        (λ ss. length ss ≡ c.state.layout.workers)
     go None sized = tt
     go (Some ss) sized = length-set ss w _ ∙ sized
 
 pub reached_sized : (c : Configuration) → IsReached c → IsSized c
-reached_sized c r = subst IsSized r.leads (by_events IsSized sized_step r.events (opening_of c.state.layout r.is_ordered) (sized_opening c.state.layout r.is_ordered))
+reached_sized c r = subst IsSized r.leads (by_events IsSized sized_step r.events
+    (opening_of c.state.layout r.is_ordered) (sized_opening c.state.layout r.is_ordered))
 
 -- as the code keeps the searches
-pub reached_roomy : (s : State) (ss : List Roomy) → IsReached (record { state = s; searches = Some (searches_of ss) }) → length ss ≡ s.layout.workers
-reached_roomy s ss r = sym (length-map ss (λ (x : Roomy). x.tells)) ∙ reached_sized (record { state = s; searches = Some (searches_of ss) }) r
+pub reached_roomy : (s : State) (ss : List Roomy)
+    → IsReached (record { state = s; searches = Some (searches_of ss) }) → length ss ≡ s.layout.workers
+reached_roomy s ss r = sym (length-map ss (λ (x : Roomy). x.tells))
+    ∙ reached_sized (record { state = s; searches = Some (searches_of ss) }) r
 
 -- ---- an event as the code applies it
 
-pub plain_answer : (s : State) (w : ℕ) (e : Event) (result : Result Reply Refused) → IsAnswer (refused s w e) (reply_of s w e) result → IsAnswer (refused_in (record { state = s; searches = None }) w e) (reply_of s w e) result
+pub plain_answer : (s : State) (w : ℕ) (e : Event) (result : Result Reply Refused)
+    → IsAnswer (refused s w e) (reply_of s w e) result
+    → IsAnswer (refused_in (record { state = s; searches = None }) w e) (reply_of s w e) result
 plain_answer s w e result answer = rw (refused_plain s w e) answer
 
 pub plain_ok : (s new : State) (w : ℕ) (e : Event) (result : Result Reply Refused) → OnOk result (new ≡ applied s w e)
@@ -226,14 +255,19 @@ unfolding applied_in
 plain_ok s new w e (Ok r) is = ap alone is
 plain_ok s new w e (Err why) is = tt
 
-pub ordered_ok : (s new : State) (ss after : List Roomy) (w : ℕ) (e : Event) (result : Result Reply Refused) → OnOk result (new ≡ applied s w e) → OnOk result (searches_of after ≡ learned_from (searches_of ss) w e (reply_of s w e))
-    → OnOk result (record { state = new; searches = Some (searches_of after) } ≡ applied_in (record { state = s; searches = Some (searches_of ss) }) w e)
+pub ordered_ok : (s new : State) (ss after : List Roomy) (w : ℕ) (e : Event) (result : Result Reply Refused)
+    → OnOk result (new ≡ applied s w e) → OnOk result
+    (searches_of after ≡ learned_from (searches_of ss) w e (reply_of s w e))
+    → OnOk result (record { state = new; searches = Some (searches_of after) }
+    ≡ applied_in (record { state = s; searches = Some (searches_of ss) }) w e)
 unfolding applied_in
 ordered_ok s new ss after w e (Ok r) is learned = λ i. record { state = is i; searches = Some (learned i) }
 ordered_ok s new ss after w e (Err why) is learned = tt
 
-pub ordered_err : (s new : State) (ss after : List Roomy) (result : Result Reply Refused) → OnErr result (new ≡ s) → OnErr result (searches_of after ≡ searches_of ss)
-    → OnErr result (◌≡◌ {A = Configuration} (record { state = new; searches = Some (searches_of after) }) (record { state = s; searches = Some (searches_of ss) }))
+pub ordered_err : (s new : State) (ss after : List Roomy) (result : Result Reply Refused) → OnErr result (new ≡ s)
+    → OnErr result (searches_of after ≡ searches_of ss)
+    → OnErr result (◌≡◌ {A = Configuration} (record { state = new; searches = Some (searches_of after) })
+    (record { state = s; searches = Some (searches_of ss) }))
 ordered_err s new ss after (Ok r) is same = tt
 ordered_err s new ss after (Err why) is same = λ i. record { state = is i; searches = Some (same i) }
 
@@ -242,25 +276,40 @@ abbrev as_kept : State → Option (List Roomy) → Configuration
 as_kept s o = record { state = s; searches = option_map searches_of o }
 
 module _ (s new : State) (w : ℕ) (e : Event) (result : Result Reply Refused) where
-  pub plain_reached : (o : Option (List Roomy)) → o ≡ None → HasKey e → IsReached (as_kept s o) → IsAnswer (refused s w e) (reply_of s w e) result → OnOk result (new ≡ applied s w e) → OnErr result (new ≡ s) → IsReached (as_kept new o)
-  plain_reached o is key r answer ok err = rw is (reached_answered (alone s) (alone new) w e (reply_of s w e) result key (subst (λ o. IsReached (as_kept s o)) is r) (plain_answer s w e result answer) (plain_ok s new w e result ok) (back result err))
+  pub plain_reached : (o : Option (List Roomy)) → o ≡ None → HasKey e → IsReached (as_kept s o)
+      → IsAnswer (refused s w e) (reply_of s w e) result → OnOk result (new ≡ applied s w e) → OnErr result (new ≡ s)
+      → IsReached (as_kept new o)
+  plain_reached o is key r answer ok err = rw is (reached_answered (alone s) (alone new) w e (reply_of s w e) result
+      key (subst (λ o. IsReached (as_kept s o)) is r) (plain_answer s w e result answer) (plain_ok s new w e result ok)
+      (back result err))
     where
       back : (result : Result Reply Refused) → OnErr result (new ≡ s) → OnErr result (alone new ≡ alone s)
       back (Ok r) err = tt
       back (Err why) err = ap alone err
 
-  pub plain_outcome_kept : (o : Option (List Roomy)) → o ≡ None → IsAnswer (refused s w e) (reply_of s w e) result → IsAnswer (refused_in (as_kept s o) w e) (reply_of s w e) result
+  pub plain_outcome_kept : (o : Option (List Roomy)) → o ≡ None → IsAnswer (refused s w e) (reply_of s w e) result
+      → IsAnswer (refused_in (as_kept s o) w e) (reply_of s w e) result
   plain_outcome_kept o is answer = rw is (plain_answer s w e result answer)
 
-  pub plain_ok_kept : (o : Option (List Roomy)) → o ≡ None → OnOk result (new ≡ applied s w e) → OnOk result (as_kept new o ≡ applied_in (as_kept s o) w e)
+  pub plain_ok_kept : (o : Option (List Roomy)) → o ≡ None → OnOk result (new ≡ applied s w e)
+      → OnOk result (as_kept new o ≡ applied_in (as_kept s o) w e)
   plain_ok_kept o is ok = rw is (plain_ok s new w e result ok)
 
-  pub ordered_reached : (o : Option (List Roomy)) (ss after : List Roomy) → o ≡ Some ss → HasKey e → IsReached (as_kept s o) → IsAnswer (refused_in (as_kept s (Some ss)) w e) (reply_of s w e) result → OnOk result (new ≡ applied s w e)
-      → OnOk result (searches_of after ≡ learned_from (searches_of ss) w e (reply_of s w e)) → OnErr result (new ≡ s) → OnErr result (searches_of after ≡ searches_of ss) → IsReached (as_kept new (Some after))
-  ordered_reached o ss after is key r answer ok learned err same = reached_answered (as_kept s (Some ss)) (as_kept new (Some after)) w e (reply_of s w e) result key (subst (λ o. IsReached (as_kept s o)) is r) answer (ordered_ok s new ss after w e result ok learned) (ordered_err s new ss after result err same)
+  pub ordered_reached : (o : Option (List Roomy)) (ss after : List Roomy) → o ≡ Some ss → HasKey e
+      → IsReached (as_kept s o) → IsAnswer (refused_in (as_kept s (Some ss)) w e) (reply_of s w e) result
+      → OnOk result (new ≡ applied s w e)
+      → OnOk result (searches_of after ≡ learned_from (searches_of ss) w e (reply_of s w e)) → OnErr result (new ≡ s)
+      → OnErr result (searches_of after ≡ searches_of ss) → IsReached (as_kept new (Some after))
+  ordered_reached o ss after is key r answer ok learned err same = reached_answered (as_kept s (Some ss))
+      (as_kept new (Some after)) w e (reply_of s w e) result key (subst (λ o. IsReached (as_kept s o)) is r) answer
+      (ordered_ok s new ss after w e result ok learned) (ordered_err s new ss after result err same)
 
-  pub ordered_ok_kept : (o : Option (List Roomy)) (ss after : List Roomy) → o ≡ Some ss → OnOk result (new ≡ applied s w e) → OnOk result (searches_of after ≡ learned_from (searches_of ss) w e (reply_of s w e)) → OnOk result (as_kept new (Some after) ≡ applied_in (as_kept s o) w e)
+  pub ordered_ok_kept : (o : Option (List Roomy)) (ss after : List Roomy) → o ≡ Some ss
+      → OnOk result (new ≡ applied s w e) → OnOk result
+      (searches_of after ≡ learned_from (searches_of ss) w e (reply_of s w e))
+      → OnOk result (as_kept new (Some after) ≡ applied_in (as_kept s o) w e)
   ordered_ok_kept o ss after is ok learned = rw is (ordered_ok s new ss after w e result ok learned)
 
-pub roomy_kept : (s : State) (o : Option (List Roomy)) (ss : List Roomy) → o ≡ Some ss → IsReached (as_kept s o) → length ss ≡ s.layout.workers
+pub roomy_kept : (s : State) (o : Option (List Roomy)) (ss : List Roomy) → o ≡ Some ss → IsReached (as_kept s o)
+    → length ss ≡ s.layout.workers
 roomy_kept s o ss is r = reached_roomy s ss (subst (λ o. IsReached (as_kept s o)) is r)

@@ -31,12 +31,15 @@ beyond_whole [] q = refl
 beyond_whole (e ∷ way) q = rw (same_side-refl e) (beyond_whole way q)
 
 -- a path that goes the whole way
-whole : (c : Children) (way q r : List Side) (s : ℕ) → beyond way q ≡ Some r → follow c s q ≡ follow c (follow c s way) r
+whole : (c : Children) (way q r : List Side) (s : ℕ) → beyond way q ≡ Some r
+    → follow c s q ≡ follow c (follow c s way) r
 whole c [] q r s h = ap (follow c s) (same_Some q r h)
 whole c (e ∷ way) [] r s h = absurd (none-some r h)
 whole c (e ∷ way) (f ∷ q) r s h = go (same_side e f) refl h (whole c way q r (c s e))
   where
-    go : (b : Bool) → same_side e f ≡ b → cond b (beyond way q) None ≡ Some r → (beyond way q ≡ Some r → follow c (c s e) q ≡ follow c (follow c (c s e) way) r) → follow c (c s f) q ≡ follow c (follow c (c s e) way) r
+    go : (b : Bool) → same_side e f ≡ b → cond b (beyond way q) None ≡ Some r
+        → (beyond way q ≡ Some r → follow c (c s e) q ≡ follow c (follow c (c s e) way) r)
+        → follow c (c s f) q ≡ follow c (follow c (c s e) way) r
     go true is h ih = rw (sym (same_side-true e f is)) (ih h)
     go false is h ih = absurd (none-some r h)
 
@@ -47,20 +50,26 @@ among_later : (x y : ℕ) (xs : List ℕ) → among xs x ≡ true → among (y �
 among_later x y xs h = or_right (eqb x y) (among xs x) h
 
 -- a path that leaves the way, or ends on it, ends at a node that is cut
-stops : (c : Children) → ((f : Side) → c 0 f ≡ 0) → (way q : List Side) (s : ℕ) → IsFrozen c s way → beyond way q ≡ None → follow c s q ≢ 0 → among (nodes_cut c s way) (follow c s q) ≡ true
+stops : (c : Children) → ((f : Side) → c 0 f ≡ 0) → (way q : List Side) (s : ℕ) → IsFrozen c s way
+    → beyond way q ≡ None → follow c s q ≢ 0 → among (nodes_cut c s way) (follow c s q) ≡ true
 stops c null [] q s frozen h there = absurd (none-some q (sym h))
 stops c null (e ∷ way) [] s frozen h there = among_here s (c s (other e) ∷ nodes_cut c (c s e) way)
 stops c null (e ∷ way) (f ∷ q) s frozen h there = go (same_side e f) refl h (stops c null way q (c s e) frozen.3)
   where
-    beside : (q : List Side) → follow c (c s (other e)) q ≢ 0 → among (nodes_cut c s (e ∷ way)) (follow c (c s (other e)) q) ≡ true
-    beside [] there = among_later (c s (other e)) s (c s (other e) ∷ nodes_cut c (c s e) way) (among_here (c s (other e)) (nodes_cut c (c s e) way))
+    beside : (q : List Side) → follow c (c s (other e)) q ≢ 0
+        → among (nodes_cut c s (e ∷ way)) (follow c (c s (other e)) q) ≡ true
+    beside [] there = among_later (c s (other e)) s (c s (other e) ∷ nodes_cut c (c s e) way)
+        (among_here (c s (other e)) (nodes_cut c (c s e) way))
     beside (g ∷ q) there = absurd (there (follow_leaf c null (c s (other e)) frozen.2 g q))
 
-    go : (b : Bool) → same_side e f ≡ b → cond b (beyond way q) None ≡ None → (beyond way q ≡ None → follow c (c s e) q ≢ 0 → among (nodes_cut c (c s e) way) (follow c (c s e) q) ≡ true) → among (nodes_cut c s (e ∷ way)) (follow c (c s f) q) ≡ true
+    go : (b : Bool) → same_side e f ≡ b → cond b (beyond way q) None ≡ None
+        → (beyond way q ≡ None → follow c (c s e) q ≢ 0 → among (nodes_cut c (c s e) way) (follow c (c s e) q) ≡ true)
+        → among (nodes_cut c s (e ∷ way)) (follow c (c s f) q) ≡ true
     go true is h ih =
         let same : f ≡ e = sym (same_side-true e f is) in
         let on : follow c (c s e) q ≢ 0 = rw same at there in
-        rw same (among_later (follow c (c s e) q) s (c s (other e) ∷ nodes_cut c (c s e) way) (among_later (follow c (c s e) q) (c s (other e)) (nodes_cut c (c s e) way) (ih h on)))
+        rw same (among_later (follow c (c s e) q) s (c s (other e) ∷ nodes_cut c (c s e) way)
+        (among_later (follow c (c s e) q) (c s (other e)) (nodes_cut c (c s e) way) (ih h on)))
     go false is h ih =
         let twin : f ≡ other e = same_side-false e f is in
         let on : follow c (c s (other e)) q ≢ 0 = rw twin at there in
@@ -73,13 +82,21 @@ pub record Stop (c : Children) (s : ℕ) (way : List Side) (x : ℕ) : Type 0 wh
   ends : follow c s path ≡ x
   is_slot : x ≢ 0
 
-stop : (c : Children) (way : List Side) (s x : ℕ) → IsFrozen c s way → among (nodes_cut c s way) x ≡ true → Stop c s way x
+stop : (c : Children) (way : List Side) (s x : ℕ) → IsFrozen c s way → among (nodes_cut c s way) x ≡ true
+    → Stop c s way x
 stop c [] s x frozen h = absurd (true≢false (sym h))
 stop c (e ∷ way) s x frozen h = elim (or_cases (eqb x s) _ h) [
   | inl here ↦ let is = eqb-true x s here in record { path = []; short = refl; ends = sym is; is_slot = rw is frozen.0 }
   | inr later ↦ elim (or_cases (eqb x (c s (other e))) _ later) [
-    | inl twin ↦ let is = eqb-true x (c s (other e)) twin in record { path = other e ∷ []; short = each_side (λ d. beyond (d ∷ way) (other d ∷ []) ≡ None) refl refl e; ends = sym is; is_slot = rw is frozen.1 }
-    | inr on ↦ let r = stop c way (c s e) x frozen.3 on in record { path = e ∷ r.path; short = rw (same_side-refl e) r.short; ends = r.ends; is_slot = r.is_slot }
+    | inl twin ↦ let is = eqb-true x (c s (other e)) twin in
+        record {
+          path = other e ∷ [];
+          short = each_side (λ d. beyond (d ∷ way) (other d ∷ []) ≡ None) refl refl e;
+          ends = sym is;
+          is_slot = rw is frozen.1;
+        }
+    | inr on ↦ let r = stop c way (c s e) x frozen.3 on in
+        record { path = e ∷ r.path; short = rw (same_side-refl e) r.short; ends = r.ends; is_slot = r.is_slot }
   ]
 ]
 
@@ -119,7 +136,8 @@ module _ (c c' : Children) (a : ℕ) (d : Side) (way : List Side) (g : Splicing 
       go None h = refl
       go (Some r) h =
           let t = taken c c' a d _ g.exchanged (follow c (c a d) way) q r h in
-          let back : follow c 1 (g.front ++ d ∷ (way ++ t.front)) ≡ a = down (way ++ t.front) ∙ (follow-append c (c a d) way t.front ∙ t.comes) in
+          let back : follow c 1 (g.front ++ d ∷ (way ++ t.front)) ≡ a = down (way ++ t.front)
+          ∙ (follow-append c (c a d) way t.front ∙ t.comes) in
           absurd (longer (way ++ t.front) (g.alone g.front _ there (g.at_front ∙ sym back)))
 
   -- nor does the path to a
@@ -159,7 +177,8 @@ module _ (c c' : Children) (a : ℕ) (d : Side) (way : List Side) (g : Splicing 
           t.leads ∙ (below r ∙ sym (down (way ++ r) ∙ follow-append c (c a d) way r))
 
   -- what was reached and isn't cut is reached
-  pub stays_reached : (q : List Side) → follow c 1 q ≢ 0 → (among (nodes_cut c (c a d) way) (follow c 1 q) ≡ true → ⊥) → (r : List Side) × (follow c' 1 r ≡ follow c 1 q)
+  pub stays_reached : (q : List Side) → follow c 1 q ≢ 0
+      → (among (nodes_cut c (c a d) way) (follow c 1 q) ≡ true → ⊥) → (r : List Side) × (follow c' 1 r ≡ follow c 1 q)
   stays_reached q there uncut = go (rest_after c a d 1 q) refl
     where
       go : (o : Option (List Side)) → rest_after c a d 1 q ≡ o → (r : List Side) × (follow c' 1 r ≡ follow c 1 q)
@@ -181,8 +200,10 @@ module _ (c c' : Children) (a : ℕ) (d : Side) (way : List Side) (g : Splicing 
               (g.front ++ d ∷ r', new_down r' ∙ (below r' ∙ sym (was ∙ whole c way r r' (c a d) long)))
 
   -- what is cut was reached
-  pub cut_was_reached : (x : ℕ) → among (nodes_cut c (c a d) way) x ≡ true → (q : List Side) × (follow c 1 q ≡ x) × (x ≢ 0)
-  cut_was_reached x cut = let r = stop c way (c a d) x g.frozen cut in (g.front ++ d ∷ r.path, down r.path ∙ r.ends, r.is_slot)
+  pub cut_was_reached : (x : ℕ) → among (nodes_cut c (c a d) way) x ≡ true
+      → (q : List Side) × (follow c 1 q ≡ x) × (x ≢ 0)
+  cut_was_reached x cut = let r = stop c way (c a d) x g.frozen cut in
+      (g.front ++ d ∷ r.path, down r.path ∙ r.ends, r.is_slot)
 
   -- and is not reached any more
   pub cut_is_gone : (x : ℕ) → among (nodes_cut c (c a d) way) x ≡ true → (q : List Side) → follow c' 1 q ≡ x → ⊥
@@ -202,10 +223,12 @@ module _ (c c' : Children) (a : ℕ) (d : Side) (way : List Side) (g : Splicing 
 
       go : (o : Option (List Side)) → rest_after c a d 1 q ≡ o → ⊥
       go None h =
-          let same : g.front ++ d ∷ r.path ≡ q = g.alone _ q slot (old ∙ sym (sym (not_taken c c' a d _ g.exchanged 1 q h) ∙ is)) in
+          let same : g.front ++ d ∷ r.path ≡ q = g.alone _ q slot
+          (old ∙ sym (sym (not_taken c c' a d _ g.exchanged 1 q h) ∙ is)) in
           is_taken c a d 1 g.front r.path g.at_front (rw same h)
       go (Some t) h =
-          let leads : follow c 1 (g.front ++ d ∷ (way ++ t)) ≡ x = sym (led q ∙ ap (λ o. follow c 1 (old_path o q)) h) ∙ is in
+          let leads : follow c 1 (g.front ++ d ∷ (way ++ t))
+          ≡ x = sym (led q ∙ ap (λ o. follow c 1 (old_path o q)) h) ∙ is in
           let same : g.front ++ d ∷ r.path ≡ g.front ++ d ∷ (way ++ t) = g.alone _ _ slot (old ∙ sym leads) in
           let rest : r.path ≡ way ++ t = tail (append_cancel g.front _ _ same) in
           none-some t (sym r.short ∙ rw rest (beyond_whole way t))
@@ -214,7 +237,8 @@ module _ (c c' : Children) (a : ℕ) (d : Side) (way : List Side) (g : Splicing 
   pub still_alone : (q r : List Side) → follow c' 1 q ≢ 0 → follow c' 1 q ≡ follow c' 1 r → q ≡ r
   still_alone q r there same = go (rest_after c a d 1 q) (rest_after c a d 1 r) refl refl
     where
-      old_same : (o p : Option (List Side)) → rest_after c a d 1 q ≡ o → rest_after c a d 1 r ≡ p → old_path o q ≡ old_path p r
+      old_same : (o p : Option (List Side)) → rest_after c a d 1 q ≡ o → rest_after c a d 1 r ≡ p
+          → old_path o q ≡ old_path p r
       old_same o p h k =
           let lq : follow c' 1 q ≡ follow c 1 (old_path o q) = led q ∙ ap (λ o. follow c 1 (old_path o q)) h in
           let lr : follow c' 1 r ≡ follow c 1 (old_path p r) = led r ∙ ap (λ o. follow c 1 (old_path o r)) k in
@@ -223,7 +247,8 @@ module _ (c c' : Children) (a : ℕ) (d : Side) (way : List Side) (g : Splicing 
       mine : (q t : List Side) → rest_after c a d 1 q ≡ Some t → q ≡ g.front ++ d ∷ t
       mine q t h =
           let k = taken c c' a d _ g.exchanged 1 q t h in
-          let first : g.front ≡ k.front = g.alone g.front k.front (rw g.at_front g.is_slot) (g.at_front ∙ sym k.comes) in
+          let first : g.front ≡ k.front = g.alone g.front k.front (rw g.at_front g.is_slot)
+          (g.at_front ∙ sym k.comes) in
           k.is ∙ ap (λ (p : List Side). p ++ d ∷ t) (sym first)
 
       mixed : (q r t : List Side) → rest_after c a d 1 q ≡ None → q ≡ g.front ++ d ∷ (way ++ t) → ⊥

@@ -37,7 +37,8 @@ contains_among : (xs : List ℕ) (x : ℕ) → Contains xs x → among xs x ≡ 
 contains_among xs x c = at_among xs x c.0 (slice_get-get_or xs c.0 x c.1 ∙ ap Some c.2)
 
 among_contains : (xs : List ℕ) (x : ℕ) → among xs x ≡ true → Contains xs x
-among_contains xs x h = let k = among_at xs x h in (k.0, slice_get_within xs k.0 x k.1, get_or_from_slice_get xs k.0 x x k.1)
+among_contains xs x h = let k = among_at xs x h in
+    (k.0, slice_get_within xs k.0 x k.1, get_or_from_slice_get xs k.0 x x k.1)
 
 -- ---- a splice that is won
 
@@ -51,18 +52,28 @@ pub record Won (s : State) (w a : ℕ) (d : Side) (x p : ℕ) (keep : Side) (ns 
 same_cut : (ns ms : List NodeId) → Cut ns ≡ Cut ms → ns ≡ ms
 same_cut ns ms h = cc
 
-pub won_splice : (s : State) (w a : ℕ) (d : Side) (x p : ℕ) (keep : Side) (ns : List NodeId) → outcome s (w, Splice a d x p keep) ≡ Ok (Cut ns) → Won s w a d x p keep ns
+pub won_splice : (s : State) (w a : ℕ) (d : Side) (x p : ℕ) (keep : Side) (ns : List NodeId)
+    → outcome s (w, Splice a d x p keep) ≡ Ok (Cut ns) → Won s w a d x p keep ns
 unfolding outcome next reply
 won_splice s w a d x p keep ns h = go (refused s w (Splice a d x p keep)) refl h
   where
-    by : (b : Bool) → is_to (edge s.memory a d) x ≡ b → cond b (Cut (cut_nodes s.layout s.memory (of s w) x p keep)) (Lost (edge s.memory a d)) ≡ Cut ns → (is_to (edge s.memory a d) x ≡ true) × (cut_nodes s.layout s.memory (of s w) x p keep ≡ ns)
+    by : (b : Bool) → is_to (edge s.memory a d) x ≡ b
+        → cond b (Cut (cut_nodes s.layout s.memory (of s w) x p keep)) (Lost (edge s.memory a d)) ≡ Cut ns
+        → (is_to (edge s.memory a d) x ≡ true) × (cut_nodes s.layout s.memory (of s w) x p keep ≡ ns)
     by true i h = (i, same_cut _ _ h)
     by false i h = cc
 
-    go : (o : Option Refused) → refused s w (Splice a d x p keep) ≡ o → answered o (reply s.layout s.memory (of s w) (Splice a d x p keep)) ≡ Ok (Cut ns) → Won s w a d x p keep ns
+    go : (o : Option Refused) → refused s w (Splice a d x p keep) ≡ o
+        → answered o (reply s.layout s.memory (of s w) (Splice a d x p keep)) ≡ Ok (Cut ns) → Won s w a d x p keep ns
     go None is h =
         let k = by (is_to (edge s.memory a d) x) refl (same_reply _ _ h) in
-        record { ok = allowed s w (Splice a d x p keep) is; won = k.0; nodes = k.1; next_is = ap (λ o. unless_refused o s (applied s w (Splice a d x p keep))) is }
+        record {
+          ok = allowed s w (Splice a d x p keep) is;
+          won = k.0;
+          nodes = k.1;
+          next_is = ap
+              (λ o. unless_refused o s (applied s w (Splice a d x p keep))) is;
+        }
     go (Some r) is h = absurd (no_reply r (Cut ns) h)
 
 -- what the splice has shown, by the picture of the state
@@ -73,15 +84,22 @@ pub record Shown (s : State) (h : ℕ → ℕ) (w a : ℕ) (d : Side) (x p : ℕ
   pub flag : is_flagged (read (of s w) p (other keep)) ≡ true
   pub inside : a < length s.memory.nodes
   pub is : edge s.memory a d ≡ to x
-  pub splice : IsSplice s.layout.nodes (picture s h) w (length (held_queue (of s (h w)) w)) a d (sides ++ keep ∷ []) (kept (read (of s w) p keep))
+  pub splice : IsSplice s.layout.nodes (picture s h) w (length (held_queue (of s (h w)) w)) a d (sides ++ keep ∷ [])
+      (kept (read (of s w) p keep))
 
-pub shown : (s : State) (h : ℕ → ℕ) → Lawful s h → (w a : ℕ) (d : Side) (x p : ℕ) (keep : Side) → Allowed s w (Splice a d x p keep) → is_to (edge s.memory a d) x ≡ true → Shown s h w a d x p keep
-shown s h law w a d x p keep ok won = by (way s.layout.nodes (of s w) x p) refl (and_parts (is_some (way s.layout.nodes (of s w) x p)) (is_tagged (read (of s w) p keep) && is_flagged (read (of s w) p (other keep))) c.frozen)
+pub shown : (s : State) (h : ℕ → ℕ) → Lawful s h → (w a : ℕ) (d : Side) (x p : ℕ) (keep : Side)
+    → Allowed s w (Splice a d x p keep) → is_to (edge s.memory a d) x ≡ true → Shown s h w a d x p keep
+shown s h law w a d x p keep ok won = by (way s.layout.nodes (of s w) x p) refl
+    (and_parts (is_some (way s.layout.nodes (of s w) x p))
+    (is_tagged (read (of s w) p keep) && is_flagged (read (of s w) p (other keep))) c.frozen)
   where
     c : SpliceChecked s.layout (of s w) a x p keep
     c = splice_checked s w a d x p keep ok.event
 
-    by : (o : Option (List Side)) → way s.layout.nodes (of s w) x p ≡ o → (is_some (way s.layout.nodes (of s w) x p) ≡ true) × ((is_tagged (read (of s w) p keep) && is_flagged (read (of s w) p (other keep))) ≡ true) → Shown s h w a d x p keep
+    by : (o : Option (List Side)) → way s.layout.nodes (of s w) x p ≡ o
+        → (is_some (way s.layout.nodes (of s w) x p) ≡ true)
+        × ((is_tagged (read (of s w) p keep) && is_flagged (read (of s w) p (other keep))) ≡ true)
+        → Shown s h w a d x p keep
     by None found parts = absurd (true≢false (sym parts.0 ∙ ap is_some found))
     by (Some sides) found parts =
         let marks = and_parts (is_tagged (read (of s w) p keep)) (is_flagged (read (of s w) p (other keep))) parts.1 in
@@ -93,28 +111,47 @@ shown s h law w a d x p keep ok won = by (way s.layout.nodes (of s w) x p) refl 
           flag = marks.1;
           inside = let r = law.tree.known w a c.known in let size = law.roomy.nodes in omega arith;
           is = is;
-          splice = splice_shown s.layout.nodes s.memory (of s) h w a d x p keep sides c.high.0 c.high.1 c.known c.held found marks.0 marks.1 is law.tree;
+          splice = splice_shown s.layout.nodes s.memory (of s) h w a d x p keep sides c.high.0 c.high.1 c.known
+              c.held found marks.0 marks.1 is law.tree;
         }
 
-module _ (s : State) (h : ℕ → ℕ) (law : Lawful s h) (w a : ℕ) (d : Side) (x p : ℕ) (keep : Side) (k : Shown s h w a d x p keep) where
+module _ (s : State) (h : ℕ → ℕ) (law : Lawful s h) (w a : ℕ) (d : Side) (x p : ℕ) (keep : Side)
+    (k : Shown s h w a d x p keep) where
   -- the slots of the reply are those of the way
-  pub slots_are : slots_of (cut_nodes s.layout s.memory (of s w) x p keep) ≡ nodes_cut (below (picture s h)) x (k.sides ++ keep ∷ [])
-  slots_are = named_slots s.memory (cut_by (of s w) x (unwrap_or (way s.layout.nodes (of s w) x p) []) keep) ∙ cut_is s.layout.nodes s.memory (of s) h w x p keep k.sides k.found k.flag law.tree
+  pub slots_are : slots_of (cut_nodes s.layout s.memory (of s w) x p keep)
+      ≡ nodes_cut (below (picture s h)) x (k.sides ++ keep ∷ [])
+  slots_are = named_slots s.memory (cut_by (of s w) x (unwrap_or (way s.layout.nodes (of s w) x p) []) keep)
+      ∙ cut_is s.layout.nodes s.memory (of s) h w x p keep k.sides k.found k.flag law.tree
 
-  pub from_successor : nodes_cut (below (picture s h)) (edge s.memory a d).slot (k.sides ++ keep ∷ []) ≡ nodes_cut (below (picture s h)) x (k.sides ++ keep ∷ [])
-  from_successor = ap (λ (z : ℕ). nodes_cut (below (picture s h)) z (k.sides ++ keep ∷ [])) (ap (λ (e : Edge). e.slot) k.is)
+  pub from_successor : nodes_cut (below (picture s h)) (edge s.memory a d).slot (k.sides ++ keep ∷ [])
+      ≡ nodes_cut (below (picture s h)) x (k.sides ++ keep ∷ [])
+  from_successor = ap (λ (z : ℕ). nodes_cut (below (picture s h)) z (k.sides ++ keep ∷ []))
+      (ap (λ (e : Edge). e.slot) k.is)
 
   -- the paths after the splice
-  new_paths : (q : List Side) → at (put_edge s.memory a d (kept (read (of s w) p keep))) q ≡ follow (below (spliced (picture s h) w (length (held_queue (of s (h w)) w)) (nodes_cut (below (picture s h)) (edge s.memory a d).slot (k.sides ++ keep ∷ [])) a d (kept (read (of s w) p keep)))) 1 q
-  new_paths q = same_follow _ _ (λ z g. ap (λ (e : Edge). e.slot) (edge_put s.memory a d (kept (read (of s w) p keep)) k.inside z g)) 1 q
+  new_paths : (q : List Side) → at (put_edge s.memory a d (kept (read (of s w) p keep))) q
+      ≡ follow (below (spliced (picture s h) w (length (held_queue (of s (h w)) w))
+      (nodes_cut (below (picture s h)) (edge s.memory a d).slot (k.sides ++ keep ∷ [])) a d
+      (kept (read (of s w) p keep)))) 1 q
+  new_paths q = same_follow _ _ (λ z g. ap (λ (e : Edge). e.slot)
+      (edge_put s.memory a d (kept (read (of s w) p keep)) k.inside z g)) 1 q
 
-  cut_there : (y : ℕ) → among (slots_of (cut_nodes s.layout s.memory (of s w) x p keep)) y ≡ true → IsCut s.memory (put_edge s.memory a d (kept (read (of s w) p keep))) y
+  cut_there : (y : ℕ) → among (slots_of (cut_nodes s.layout s.memory (of s w) x p keep)) y ≡ true
+      → IsCut s.memory (put_edge s.memory a d (kept (read (of s w) p keep))) y
   cut_there y i =
-      let c = cut_law s.layout.nodes (picture s h) w (length (held_queue (of s (h w)) w)) a d (k.sides ++ keep ∷ []) (kept (read (of s w) p keep)) law.tree k.splice y (rw (slots_are ∙ sym from_successor) at i) in
-      record { was = record { path = c.0.path; ends = c.0.ends; is_slot = c.0.is_slot }; gone = λ r. c.1 (record { path = r.path; ends = sym (new_paths r.path) ∙ r.ends; is_slot = r.is_slot }) }
+      let c = cut_law s.layout.nodes (picture s h) w (length (held_queue (of s (h w)) w)) a d (k.sides ++ keep ∷ [])
+      (kept (read (of s w) p keep)) law.tree k.splice y (rw (slots_are ∙ sym from_successor) at i) in
+      record {
+        was = record { path = c.0.path; ends = c.0.ends; is_slot = c.0.is_slot };
+        gone = λ r. c.1
+            (record { path = r.path; ends = sym (new_paths r.path) ∙ r.ends; is_slot = r.is_slot });
+      }
 
-  cut_back : (y : ℕ) → IsCut s.memory (put_edge s.memory a d (kept (read (of s w) p keep))) y → among (slots_of (cut_nodes s.layout s.memory (of s w) x p keep)) y ≡ true
-  cut_back y c = rw (slots_are ∙ sym from_successor) (cut_law_back s.layout.nodes (picture s h) w (length (held_queue (of s (h w)) w)) a d (k.sides ++ keep ∷ []) (kept (read (of s w) p keep)) law.tree k.splice y
+  cut_back : (y : ℕ) → IsCut s.memory (put_edge s.memory a d (kept (read (of s w) p keep))) y
+      → among (slots_of (cut_nodes s.layout s.memory (of s w) x p keep)) y ≡ true
+  cut_back y c = rw (slots_are ∙ sym from_successor)
+      (cut_law_back s.layout.nodes (picture s h) w (length (held_queue (of s (h w)) w)) a d (k.sides ++ keep ∷ [])
+      (kept (read (of s w) p keep)) law.tree k.splice y
       (record { path = c.was.path; ends = c.was.ends; is_slot = c.was.is_slot })
       (λ r. c.gone (record { path = r.path; ends = new_paths r.path ∙ r.ends; is_slot = r.is_slot })))
 
@@ -129,7 +166,9 @@ cuts_just L enough turns w a d x p keep ns is y =
     let won = won_splice s w a d x p keep ns is in
     let l = lawful L enough turns in
     let k = shown s l.holder l.law w a d x p keep won.ok won.won in
-    let new_memory : exchanged s.memory a d x (kept (read (of s w) p keep)) ≡ put_edge s.memory a d (kept (read (of s w) p keep)) = cond-true (is_to (edge s.memory a d) x) _ s.memory won.won in
+    let new_memory : exchanged s.memory a d x (kept (read (of s w) p keep))
+    ≡ put_edge s.memory a d (kept (read (of s w) p keep)) = cond-true (is_to (edge s.memory a d) x) _ s.memory
+    won.won in
     rw (won.next_is, ← won.nodes) (
       (λ c. among_contains _ y (cut_back s l.holder l.law w a d x p keep k y (rw new_memory at c))),
       (λ c. rw new_memory (cut_there s l.holder l.law w a d x p keep k y (contains_among _ y c))),

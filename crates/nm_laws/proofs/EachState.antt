@@ -23,24 +23,31 @@ use Rattle.nm_laws.proofs.Views.{drafted_on, picture, is_late, label_below, held
 use Rattle.nm_laws.proofs.Lawful.{IsLawful, lawful}
 
 leaf_of : (m : Memory) (x : ℕ) → ((f : Side) → child m x f ≡ 0) → is_leaf (node m x) ≡ true
-leaf_of m x null = and_from ((node m x).left.slot == 0) ((node m x).right.slot == 0) (eq-eqb _ 0 (null Left)) (eq-eqb _ 0 (null Right))
+leaf_of m x null = and_from ((node m x).left.slot == 0) ((node m x).right.slot == 0) (eq-eqb _ 0 (null Left))
+    (eq-eqb _ 0 (null Right))
 
 module _ (s : State) (k : IsLawful s) where
   -- the queue of an origin that a worker holds is the one of the picture
   held_is : (w o i : ℕ) (e : Queued) → IsQueued s w o i e → slice_get (held_queue (of s (k.holder o)) o) i ≡ Some e
   held_is w o i e at = go (held (of s w).ledgers o) refl at
     where
-      go : (l : Option Ledger) → held (of s w).ledgers o ≡ l → slice_get (queue_of l) i ≡ Some e → slice_get (held_queue (of s (k.holder o)) o) i ≡ Some e
+      go : (l : Option Ledger) → held (of s w).ledgers o ≡ l → slice_get (queue_of l) i ≡ Some e
+          → slice_get (held_queue (of s (k.holder o)) o) i ≡ Some e
       go None is at = absurd (none-some e at)
-      go (Some l) is at = ap (λ (y : ℕ). slice_get (held_queue (of s y) o) i) (sym (k.law.holders.only w o (ap is_some is))) ∙ (ap (λ x. slice_get (queue_of x) i) is ∙ at)
+      go (Some l) is at = ap (λ (y : ℕ). slice_get (held_queue (of s y) o) i)
+          (sym (k.law.holders.only w o (ap is_some is))) ∙ (ap (λ x. slice_get (queue_of x) i) is ∙ at)
 
-  queued_at : (w o i x : ℕ) (e : Queued) → IsQueued s w o i e → e.node.slot ≡ x → (picture s k.holder).queue o i ≡ Some x
+  queued_at : (w o i x : ℕ) (e : Queued) → IsQueued s w o i e → e.node.slot ≡ x
+      → (picture s k.holder).queue o i ≡ Some x
   queued_at w o i x e at slot = ap (option_map slot_of) (held_is w o i e at) ∙ ap Some slot
 
   waiting_live : (x : ℕ) → IsWaiting s x → IsLive (picture s k.holder) x
   waiting_live x q = record {
-    pooled = false_from_ne_true _ (λ h. pool (nowhere_else (picture s k.holder) x InPool (InQueue q.1 q.2) (k.law.tree.places x some range.1) h here));
-    shared = λ u. false_from_ne_true _ (λ h. hands u (nowhere_else (picture s k.holder) x (PrivateTo u) (InQueue q.1 q.2) (k.law.tree.places x some range.1) h here));
+    pooled = false_from_ne_true _ (λ h. pool (nowhere_else (picture s k.holder) x InPool (InQueue q.1 q.2)
+        (k.law.tree.places x some range.1) h here));
+    shared = λ u. false_from_ne_true _ (λ h. hands u
+        (nowhere_else (picture s k.holder) x (PrivateTo u) (InQueue q.1 q.2) (k.law.tree.places x some range.1) h
+        here));
   }
     where
       here : (picture s k.holder).queue q.1 q.2 ≡ Some x
@@ -59,16 +66,20 @@ module _ (s : State) (k : IsLawful s) where
       hands u e = cc
 
   live_of : (x : ℕ) → Reached s.memory x ⊎ IsWaiting s x → IsLive (picture s k.holder) x
-  live_of x (inl r) = rw (← r.ends) (reached_live s.layout.nodes (picture s k.holder) k.law.tree r.path (rw r.ends r.is_slot))
+  live_of x (inl r) = rw (← r.ends) (reached_live s.layout.nodes (picture s k.holder) k.law.tree r.path
+      (rw r.ends r.is_slot))
   live_of x (inr q) = waiting_live x q
 
   in_reach : (w x : ℕ) → CanReach s w x → InReach (picture s k.holder) w x
   in_reach w x r = record { from = r.from; known = r.known; path = r.path; ends = r.ends; is_slot = r.is_slot }
 
   queued_nodes_are_frozen : QueuedNodesAreFrozen s
-  queued_nodes_are_frozen x side q inner = k.law.tree.queued q.1 q.2 x side (queued_at q.0 q.1 q.2 x q.3 q.4 q.5) (λ null. true≢false (sym (leaf_of s.memory x (both side null (k.law.tree.twins x side (waiting_live x q) null))) ∙ inner))
+  queued_nodes_are_frozen x side q inner = k.law.tree.queued q.1 q.2 x side (queued_at q.0 q.1 q.2 x q.3 q.4 q.5)
+      (λ null. true≢false (sym (leaf_of s.memory x (both side null (k.law.tree.twins x side (waiting_live x q) null)))
+      ∙ inner))
     where
-      both : (side : Side) → child s.memory x side ≡ 0 → child s.memory x (other side) ≡ 0 → (f : Side) → child s.memory x f ≡ 0
+      both : (side : Side) → child s.memory x side ≡ 0 → child s.memory x (other side) ≡ 0 → (f : Side)
+          → child s.memory x f ≡ 0
       both Left a b Left = a
       both Left a b Right = b
       both Right a b Left = b
@@ -78,25 +89,36 @@ module _ (s : State) (k : IsLawful s) where
   tagged_edges x side at = k.law.tree.frozen x side (live_of x at)
 
   flagged_edges : FlaggedEdgesLeadToLeaves s
-  flagged_edges x side (inl r) flag = leaf_of s.memory (child s.memory x side) (λ f. ap (λ (y : ℕ). child s.memory (child s.memory y side) f) (sym r.ends) ∙ k.law.tree.leaf_reached r.path side (ap (λ (y : ℕ). (edge s.memory y side).flag) r.ends ∙ flag) f)
-  flagged_edges x side (inr c) flag = leaf_of s.memory (child s.memory x side) (λ f. k.law.tree.leaf_known c.0 x side (in_reach c.0 x c.1) flag f)
+  flagged_edges x side (inl r) flag = leaf_of s.memory (child s.memory x side)
+      (λ f. ap (λ (y : ℕ). child s.memory (child s.memory y side) f) (sym r.ends)
+      ∙ k.law.tree.leaf_reached r.path side (ap (λ (y : ℕ). (edge s.memory y side).flag) r.ends ∙ flag) f)
+  flagged_edges x side (inr c) flag = leaf_of s.memory (child s.memory x side)
+      (λ f. k.law.tree.leaf_known c.0 x side (in_reach c.0 x c.1) flag f)
 
   reach_is_shared : ReachIsShared s
   reach_is_shared w x r = let l = k.law.tree.guarded w x (in_reach w x r) in (l.pooled, l.shared)
 
   reach_is_guarded : ReachIsGuarded s
   reach_is_guarded w x pin u o i label e r pinned at slot labelled =
-      ltb-false label pin (sym (ap (λ p. is_late p (slice_get (held_queue (of s (k.holder o)) o) i)) pinned ∙ (ap (is_late (Some pin)) (held_is u o i e at) ∙ ap (label_below pin) labelled))
+      ltb-false label pin (sym (ap (λ p. is_late p (slice_get (held_queue (of s (k.holder o)) o) i)) pinned
+      ∙ (ap (is_late (Some pin)) (held_is u o i e at) ∙ ap (label_below pin) labelled))
       ∙ k.law.tree.unlate w x o i (in_reach w x r) (queued_at u o i x e at slot))
 
   epochs_agree : EpochsAgree s
-  epochs_agree = record { announced = k.law.epochs.announced; pinned = k.law.epochs.noted; sights = k.law.epochs.sights; scans = k.law.epochs.scans }
+  epochs_agree = record {
+    announced = k.law.epochs.announced;
+    pinned = k.law.epochs.noted;
+    sights =
+        k.law.epochs.sights;
+    scans = k.law.epochs.scans;
+  }
 
   only_the_pinned_know : OnlyThePinnedKnow s
   only_the_pinned_know w x h = k.law.known w x h
 
   -- a known node, one of whose edges was read as null
-  null_read : (w x : ℕ) (side : Side) (o : Option Edge) → read (of s w) x side ≡ o → is_null o ≡ true → (child s.memory x side ≡ 0) × (child s.memory x (other side) ≡ 0)
+  null_read : (w x : ℕ) (side : Side) (o : Option Edge) → read (of s w) x side ≡ o → is_null o ≡ true
+      → (child s.memory x side ≡ 0) × (child s.memory x (other side) ≡ 0)
   null_read w x side None is null = absurd (true≢false (sym null))
   null_read w x side (Some e) is null = (here, k.law.tree.twins x side live here)
     where
@@ -107,12 +129,23 @@ module _ (s : State) (k : IsLawful s) where
       known = k.law.tree.reads w x side e is
 
       live : IsLive (picture s k.holder) x
-      live = k.law.tree.guarded w x (record { from = x; known = known; path = []; ends = refl; is_slot = λ z. (let r = k.law.tree.known w x known in absurd (omega arith)) })
+      live = k.law.tree.guarded w x (record {
+        from = x;
+        known = known;
+        path = [];
+        ends = refl;
+        is_slot = λ z.
+            (let r = k.law.tree.known w x known in absurd (omega arith));
+      })
 
   pub known_leaves : KnownLeavesAreLeaves s
   known_leaves w x leaf = elim (or_cases (is_null (read (of s w) x Left)) (is_null (read (of s w) x Right)) leaf) [
-    | inl left ↦ (let n = null_read w x Left _ refl left in and_from ((node s.memory x).left.slot == 0) ((node s.memory x).right.slot == 0) (eq-eqb _ 0 n.0) (eq-eqb _ 0 n.1))
-    | inr right ↦ (let n = null_read w x Right _ refl right in and_from ((node s.memory x).left.slot == 0) ((node s.memory x).right.slot == 0) (eq-eqb _ 0 n.1) (eq-eqb _ 0 n.0))
+    | inl left ↦ (let n = null_read w x Left _ refl left in
+        and_from ((node s.memory x).left.slot == 0) ((node s.memory x).right.slot == 0) (eq-eqb _ 0 n.0)
+        (eq-eqb _ 0 n.1))
+    | inr right ↦ (let n = null_read w x Right _ refl right in
+        and_from ((node s.memory x).left.slot == 0) ((node s.memory x).right.slot == 0) (eq-eqb _ 0 n.1)
+        (eq-eqb _ 0 n.0))
   ]
 
   reads_stand : EachReadStands s

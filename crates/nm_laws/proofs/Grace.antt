@@ -64,7 +64,8 @@ leave_departs e is = absurd is
 
 module _ (w : ℕ) (k : Knowledge) (e : ℕ) (pin : k.brief.pin ≡ Some e) where
   sight_pin : (n : ℕ) → (learn w k Sight (reply_sight k n)).brief.pin ≡ Some e
-  sight_pin n = cond_both k.brief.unlabelled (Labelled n) (confirmed k.brief.pin k.brief.announcement n) (λ r. (learn w k Sight r).brief.pin ≡ Some e)
+  sight_pin n = cond_both k.brief.unlabelled (Labelled n) (confirmed k.brief.pin k.brief.announcement n)
+      (λ r. (learn w k Sight r).brief.pin ≡ Some e)
       (λ _. rw (learn_labelled w k n) pin) (λ _. by k.brief.pin refl)
     where
       by : (o : Option ℕ) → k.brief.pin ≡ o → (learn w k Sight (confirmed o k.brief.announcement n)).brief.pin ≡ Some e
@@ -80,15 +81,19 @@ module _ (w : ℕ) (k : Knowledge) (e : ℕ) (pin : k.brief.pin ≡ Some e) wher
   advance_pin false n m = rw (learn_behind w k m) pin
 
 -- a worker's own event keeps its pin, or is its leave
-own_pin : (s : State) (w : ℕ) (e : Event) (p : ℕ) → ((v : ℕ) → e ≡ Join v → ⊥) → (of s w).brief.pin ≡ Some p → IsLeave e ⊎ ((learn w (of s w) e (reply_of s w e)).brief.pin ≡ Some p)
+own_pin : (s : State) (w : ℕ) (e : Event) (p : ℕ) → ((v : ℕ) → e ≡ Join v → ⊥) → (of s w).brief.pin ≡ Some p
+    → IsLeave e ⊎ ((learn w (of s w) e (reply_of s w e)).brief.pin ≡ Some p)
 unfolding reply
 own_pin s w Sight p alone pin = inr (sight_pin w (of s w) p pin s.memory.epoch)
-own_pin s w (SightFor op key) p alone pin = inr (rw (learn_sight_for w (of s w) op key (reply_sight (of s w) s.memory.epoch)) (sight_pin w (of s w) p pin s.memory.epoch))
+own_pin s w (SightFor op key) p alone pin = inr (rw
+    (learn_sight_for w (of s w) op key (reply_sight (of s w) s.memory.epoch))
+    (sight_pin w (of s w) p pin s.memory.epoch))
 own_pin s w Announce p alone pin = inr (rw (learn_announced w (of s w) _) pin)
 own_pin s w Leave p alone pin = inl tt
 own_pin s w (LeaveWith answer) p alone pin = inl tt
 own_pin s w (Scan u) p alone pin = inr (scan_pin w (of s w) p pin u (announcement s.memory u))
-own_pin s w Advance p alone pin = inr (advance_pin w (of s w) p pin (is_number (of s w).brief.seen s.memory.epoch) (s.memory.epoch + 1) s.memory.epoch)
+own_pin s w Advance p alone pin = inr (advance_pin w (of s w) p pin (is_number (of s w).brief.seen s.memory.epoch)
+    (s.memory.epoch + 1) s.memory.epoch)
 own_pin s w (Claim x) p alone pin = inr ((alike_claim w (of s w) x _).pin ∙ pin)
 own_pin s w (Give x) p alone pin = inr ((alike_give w (of s w) x _).pin ∙ pin)
 own_pin s w (Look x f) p alone pin = inr ((alike_look w (of s w) x f _).pin ∙ pin)
@@ -114,11 +119,17 @@ is_departed s w e leave = elim leave [ ]
 abbrev IsLeaveOf : ℕ → Turn → Type 0
 IsLeaveOf u t = (e : Event) × IsLeave e × (t ≡ left_by u e)
 
-pin_turn : (s : State) → Staffed s → (t : ℕ × Event) (u p : ℕ) → (of s u).brief.pin ≡ Some p → IsLeaveOf u (told_as s t) ⊎ ((of (next s t) u).brief.pin ≡ Some p)
+pin_turn : (s : State) → Staffed s → (t : ℕ × Event) (u p : ℕ) → (of s u).brief.pin ≡ Some p
+    → IsLeaveOf u (told_as s t) ⊎ ((of (next s t) u).brief.pin ≡ Some p)
 unfolding next outcome
 pin_turn s staffed t u p pin = go (refused s t.0 t.1) refl
   where
-    go : (o : Option Refused) → refused s t.0 t.1 ≡ o → IsLeaveOf u (record { worker = t.0; event = t.1; outcome = answered (refused s t.0 t.1) (reply_of s t.0 t.1) }) ⊎ ((of (unless_refused (refused s t.0 t.1) s (applied s t.0 t.1)) u).brief.pin ≡ Some p)
+    go : (o : Option Refused) → refused s t.0 t.1 ≡ o
+        → IsLeaveOf u (record {
+          worker = t.0;
+          event = t.1;
+          outcome = answered (refused s t.0 t.1) (reply_of s t.0 t.1);
+        }) ⊎ ((of (unless_refused (refused s t.0 t.1) s (applied s t.0 t.1)) u).brief.pin ≡ Some p)
     go (Some r) is = rw is (inr pin)
     go None is = rw is (by (join_or_not t.1))
       where
@@ -128,46 +139,75 @@ pin_turn s staffed t u p pin = go (refused s t.0 t.1) refl
         inside : t.0 < length s.workers
         inside = let size = staffed.workers in let lt = ok.worker in omega arith
 
-        by : JoinOrNot t.1 → IsLeaveOf u (record { worker = t.0; event = t.1; outcome = Ok (reply_of s t.0 t.1) }) ⊎ ((of (applied s t.0 t.1) u).brief.pin ≡ Some p)
-        by (IsJoin v e) = inr (subst (λ (x : Event). Allowed s t.0 x → (of (applied s t.0 x) u).brief.pin ≡ Some p) (sym e)
+        by : JoinOrNot t.1 → IsLeaveOf u (record { worker = t.0; event = t.1; outcome = Ok (reply_of s t.0 t.1) })
+            ⊎ ((of (applied s t.0 t.1) u).brief.pin ≡ Some p)
+        by (IsJoin v e) = inr (subst (λ (x : Event). Allowed s t.0 x → (of (applied s t.0 x) u).brief.pin ≡ Some p)
+            (sym e)
             (λ ok.
             let there = other_worker s t.0 v ok.event in
-            by_worker s (applied s t.0 (Join v)) t.0 v (joins s t.0 v inside (let size = staffed.workers in let lt = there.1 in omega arith) there.0) (λ y k. (of s y).brief.pin ≡ Some p → k.brief.pin ≡ Some p) (λ z. z) (λ z. z) (λ y _ _ z. z) u pin) ok)
+            by_worker s (applied s t.0 (Join v)) t.0 v (joins s t.0 v inside
+            (let size = staffed.workers in let lt = there.1 in omega arith) there.0)
+            (λ y k. (of s y).brief.pin ≡ Some p → k.brief.pin ≡ Some p) (λ z. z) (λ z. z) (λ y _ _ z. z) u pin) ok)
         by (IsNone alone) = elim (ℕ_discrete u t.0) [
           | yes e ↦ own (own_pin s t.0 t.1 p alone (ap (λ (y : ℕ). (of s y).brief.pin) (sym e) ∙ pin)) e
-          | no ne ↦ inr (rw (applied_is s t.0 t.1 alone) (each s.layout (λ y k. y ≢ t.0 → (of s y).brief.pin ≡ Some p → k.brief.pin ≡ Some p) s.workers t.0 _ inside (λ far _. absurd (far refl)) (λ y _ _ z. z) u ne pin))
+          | no ne ↦ inr (rw (applied_is s t.0 t.1 alone)
+              (each s.layout (λ y k. y ≢ t.0 → (of s y).brief.pin ≡ Some p → k.brief.pin ≡ Some p) s.workers t.0 _
+              inside (λ far _. absurd (far refl)) (λ y _ _ z. z) u ne pin))
         ]
           where
-            own : IsLeave t.1 ⊎ ((learn t.0 (of s t.0) t.1 (reply_of s t.0 t.1)).brief.pin ≡ Some p) → u ≡ t.0 → IsLeaveOf u (record { worker = t.0; event = t.1; outcome = Ok (reply_of s t.0 t.1) }) ⊎ ((of (applied s t.0 t.1) u).brief.pin ≡ Some p)
-            own (inl leave) e = inl (t.1, leave, λ i. record { worker = sym e i; event = t.1; outcome = Ok (is_departed s t.0 t.1 leave i) })
-            own (inr same) e = inr (rw (applied_is s t.0 t.1 alone) (each s.layout (λ y k. y ≡ t.0 → k.brief.pin ≡ Some p) s.workers t.0 _ inside (λ _. same) (λ y far z. absurd (far z)) u e))
+            own : IsLeave t.1 ⊎ ((learn t.0 (of s t.0) t.1 (reply_of s t.0 t.1)).brief.pin ≡ Some p) → u ≡ t.0
+                → IsLeaveOf u (record { worker = t.0; event = t.1; outcome = Ok (reply_of s t.0 t.1) })
+                ⊎ ((of (applied s t.0 t.1) u).brief.pin ≡ Some p)
+            own (inl leave) e = inl (
+              t.1,
+              leave,
+              λ i. record {
+                worker = sym e i;
+                event = t.1;
+                outcome = Ok
+                    (is_departed s t.0 t.1 leave i);
+              },
+            )
+            own (inr same) e = inr (rw (applied_is s t.0 t.1 alone)
+                (each s.layout (λ y k. y ≡ t.0 → k.brief.pin ≡ Some p) s.workers t.0 _ inside (λ _. same)
+                (λ y far z. absurd (far z)) u e))
 
 leaves_by : (u : ℕ) (t : Turn) → IsLeaveOf u t → leaves u t ≡ true
-leaves_by u t left = ap (leaves u) left.2 ∙ and_from (u == u) (departs left.0 (Ok Departed)) (eq-eqb u u refl) (leave_departs left.0 left.1)
+leaves_by u t left = ap (leaves u) left.2 ∙ and_from (u == u) (departs left.0 (Ok Departed)) (eq-eqb u u refl)
+    (leave_departs left.0 left.1)
 
 -- over a run a pin stays, or its worker left
-pub left_or_pinned : (s : State) → Staffed s → (ts : List (ℕ × Event)) (u p : ℕ) → (of s u).brief.pin ≡ Some p → HasLeft u (trace s ts) ⊎ ((of (after s ts) u).brief.pin ≡ Some p)
+pub left_or_pinned : (s : State) → Staffed s → (ts : List (ℕ × Event)) (u p : ℕ) → (of s u).brief.pin ≡ Some p
+    → HasLeft u (trace s ts) ⊎ ((of (after s ts) u).brief.pin ≡ Some p)
 unfolding after trace
 left_or_pinned s staffed [] u p pin = inr pin
-left_or_pinned s staffed (t ∷ ts) u p pin = go (pin_turn s staffed t u p pin) (λ still. left_or_pinned (next s t) (staffed_next s t staffed) ts u p still)
+left_or_pinned s staffed (t ∷ ts) u p pin = go (pin_turn s staffed t u p pin)
+    (λ still. left_or_pinned (next s t) (staffed_next s t staffed) ts u p still)
   where
-    on : HasLeft u (trace (next s t) ts) ⊎ ((of (after (next s t) ts) u).brief.pin ≡ Some p) → HasLeft u (told_as s t ∷ trace (next s t) ts) ⊎ ((of (after (next s t) ts) u).brief.pin ≡ Some p)
-    on (inl left) = inl (ap (λ (b : Bool). leaves u (told_as s t) || b) left ∙ or_right (leaves u (told_as s t)) true refl)
+    on : HasLeft u (trace (next s t) ts) ⊎ ((of (after (next s t) ts) u).brief.pin ≡ Some p)
+        → HasLeft u (told_as s t ∷ trace (next s t) ts) ⊎ ((of (after (next s t) ts) u).brief.pin ≡ Some p)
+    on (inl left) = inl (ap (λ (b : Bool). leaves u (told_as s t) || b) left
+        ∙ or_right (leaves u (told_as s t)) true refl)
     on (inr still) = inr still
 
-    go : IsLeaveOf u (told_as s t) ⊎ ((of (next s t) u).brief.pin ≡ Some p) → ((of (next s t) u).brief.pin ≡ Some p → HasLeft u (trace (next s t) ts) ⊎ ((of (after (next s t) ts) u).brief.pin ≡ Some p))
+    go : IsLeaveOf u (told_as s t) ⊎ ((of (next s t) u).brief.pin ≡ Some p)
+        → ((of (next s t) u).brief.pin ≡ Some p → HasLeft u (trace (next s t) ts)
+        ⊎ ((of (after (next s t) ts) u).brief.pin ≡ Some p))
         → HasLeft u (told_as s t ∷ trace (next s t) ts) ⊎ ((of (after (next s t) ts) u).brief.pin ≡ Some p)
-    go (inl leave) rest = inl (ap (λ (b : Bool). b || list_any (leaves u) (trace (next s t) ts)) (leaves_by u (told_as s t) leave))
+    go (inl leave) rest = inl (ap (λ (b : Bool). b || list_any (leaves u) (trace (next s t) ts))
+        (leaves_by u (told_as s t) leave))
     go (inr still) rest = on (rest still)
 
 -- ---- the epoch never falls
 
 exchanged_epoch : (m : Memory) (p : ℕ) (d : Side) (leaf : ℕ) (e : Edge) → m.epoch ≤ (exchanged m p d leaf e).epoch
-exchanged_epoch m p d leaf e = cond_both (is_to (edge m p d) leaf) (put_edge m p d e) m (λ n. m.epoch ≤ n.epoch) (λ _. le_of_eq refl) (λ _. le_of_eq refl)
+exchanged_epoch m p d leaf e = cond_both (is_to (edge m p d) leaf) (put_edge m p d e) m (λ n. m.epoch ≤ n.epoch)
+    (λ _. le_of_eq refl) (λ _. le_of_eq refl)
 
 written_epoch : (m : Memory) (k : Knowledge) (w : ℕ) (e : Event) → m.epoch ≤ (write m k w e).epoch
 unfolding write
-written_epoch m k w Advance = cond_both (is_number k.brief.seen m.epoch) (record m { epoch = m.epoch + 1 }) m (λ n. m.epoch ≤ n.epoch) (λ _. omega arith) (λ _. le_of_eq refl)
+written_epoch m k w Advance = cond_both (is_number k.brief.seen m.epoch) (record m { epoch = m.epoch + 1 }) m
+    (λ n. m.epoch ≤ n.epoch) (λ _. omega arith) (λ _. le_of_eq refl)
 written_epoch m k w (Link p d leaf new) = exchanged_epoch m p d leaf _
 written_epoch m k w (Flag p d leaf) = exchanged_epoch m p d leaf _
 written_epoch m k w (Splice a d x p keep) = exchanged_epoch m a d x _
@@ -191,15 +231,21 @@ IsNotBelow e (Some l) = e ≤ l
 -- of an origin's queue, what was retired from index n on is unlabelled or has a label of e at least
 abbrev pub IsGuarded : ℕ → ℕ → Option Ledger → Type 0
 IsGuarded e n None = Unit {0}
-IsGuarded e n (Some l) = (j : ℕ) (q : Queued) → slice_get l.queue j ≡ Some q → n ≤ length l.freed + j → IsNotBelow e q.label
+IsGuarded e n (Some l) = (j : ℕ) (q : Queued) → slice_get l.queue j ≡ Some q → n ≤ length l.freed + j
+    → IsNotBelow e q.label
 
-labelled_not_below : (e m : ℕ) (xs : List Queued) (j : ℕ) (q : Queued) → e ≤ m → slice_get (map (with_label m) xs) j ≡ Some q → ((y : Queued) → slice_get xs j ≡ Some y → IsNotBelow e y.label) → IsNotBelow e q.label
+labelled_not_below : (e m : ℕ) (xs : List Queued) (j : ℕ) (q : Queued) → e ≤ m
+    → slice_get (map (with_label m) xs) j ≡ Some q → ((y : Queued) → slice_get xs j ≡ Some y → IsNotBelow e y.label)
+    → IsNotBelow e q.label
 labelled_not_below e m [] j q le at was = absurd (none-some q at)
-labelled_not_below e m (x ∷ xs) zero q le at was = rw (← ap (λ (y : Queued). y.label) (same_Some (with_label m x) q at)) (go x.label refl)
+labelled_not_below e m (x ∷ xs) zero q le at was = rw
+    (← ap (λ (y : Queued). y.label) (same_Some (with_label m x) q at)) (go x.label refl)
   where
-    go : (o : Option ℕ) → x.label ≡ o → IsNotBelow e (cond (is_none x.label) (record { node = x.node; label = Some m }) x).label
+    go : (o : Option ℕ) → x.label ≡ o → IsNotBelow e
+        (cond (is_none x.label) (record { node = x.node; label = Some m }) x).label
     go None is = rw is le
-    go (Some l) is = subst (λ (b : Bool). IsNotBelow e (cond b (record { node = x.node; label = Some m }) x).label) (sym (ap is_none is)) (was x refl)
+    go (Some l) is = subst (λ (b : Bool). IsNotBelow e (cond b (record { node = x.node; label = Some m }) x).label)
+        (sym (ap is_none is)) (was x refl)
 labelled_not_below e m (x ∷ xs) (suc j) q le at was = labelled_not_below e m xs j q le at was
 
 pub unlabelled_at : (ns : List NodeId) (i : ℕ) (q : Queued) → slice_get (map unlabelled ns) i ≡ Some q → q.label ≡ None
@@ -208,13 +254,15 @@ unlabelled_at (n ∷ ns) zero q at = ap (λ (y : Queued). y.label) (sym (same_So
 unlabelled_at (n ∷ ns) (suc i) q at = unlabelled_at ns i q at
 
 -- a cut adds unlabelled entries alone
-extended_guard : (e n : ℕ) (l : Ledger) (ns : List NodeId) → IsGuarded e n (Some l) → IsGuarded e n (Some (with_cut ns l))
+extended_guard : (e n : ℕ) (l : Ledger) (ns : List NodeId) → IsGuarded e n (Some l)
+    → IsGuarded e n (Some (with_cut ns l))
 extended_guard e n l ns was j q at le = elim (cases_lt j (length l.queue)) [
   | inl lt ↦ was j q (get_left l.queue (map unlabelled ns) j q lt at) le
   | inr ge ↦ rw (unlabelled_at ns (j - length l.queue) q (sym (get_right l.queue (map unlabelled ns) j ge) ∙ at)) tt
 ]
 
-guard_step : (e n : ℕ) (s : State) (t : ℕ × Event) (o : ℕ) (before after : Option Ledger) → e ≤ s.memory.epoch → OriginStep s t o before after → IsGuarded e n before → IsGuarded e n after
+guard_step : (e n : ℕ) (s : State) (t : ℕ × Event) (o : ℕ) (before after : Option Ledger) → e ≤ s.memory.epoch
+    → OriginStep s t o before after → IsGuarded e n before → IsGuarded e n after
 guard_step e n s t o before after le (Unchanged is _) g = rw is g
 guard_step e n s t o before after le (Relabelled is _) g = rw is (go before g)
   where
@@ -223,7 +271,9 @@ guard_step e n s t o before after le (Relabelled is _) g = rw is (go before g)
     go (Some l) g = λ j q at more. labelled_not_below e s.memory.epoch l.queue j q le at (λ y is. g j y is more)
 guard_step e n s t o before after le (Extended l ns was is _ _ _ _) g = rw is (extended_guard e n l ns (rw was at g))
 guard_step e n s t o before after le (Shortened l q rest was queue is _ _ _ _) g = rw is (λ j y at more.
-    (rw was at g) (suc j) y (ap (λ (xs : List Queued). slice_get xs (suc j)) queue ∙ (sym (ap (λ (xs : List Queued). slice_get (drop 1 xs) j) queue) ∙ at)) (let k = length-append l.freed (q.node ∷ []) in omega arith))
+    (rw was at g) (suc j) y (ap (λ (xs : List Queued). slice_get xs (suc j)) queue
+    ∙ (sym (ap (λ (xs : List Queued). slice_get (drop 1 xs) j) queue) ∙ at))
+    (let k = length-append l.freed (q.node ∷ []) in omega arith))
 
 -- ---- the origin of a node that is freed
 
@@ -237,7 +287,8 @@ pub record FreedFrom (s : State) (h : ℕ → ℕ) (w : ℕ) (n : NodeId) : Type
   pub node : entry.node ≡ n
   pub ripe : Ripe (of s w).brief.seen entry
 
-pub freed_from : (s : State) (h : ℕ → ℕ) → Lawful s h → (t : ℕ × Event) (n : NodeId) → outcome s t ≡ Ok (Freed n) → FreedFrom s h t.0 n
+pub freed_from : (s : State) (h : ℕ → ℕ) → Lawful s h → (t : ℕ × Event) (n : NodeId) → outcome s t ≡ Ok (Freed n)
+    → FreedFrom s h t.0 n
 unfolding outcome
 freed_from s h law t n is = go (refused s t.0 t.1) refl is
   where
@@ -262,7 +313,8 @@ freed_from s h law t n is = go (refused s t.0 t.1) refl is
       ledger = f.ledger;
       entry = y;
       rest = f.rest;
-      is = ap (λ (z : ℕ). held (of s z).ledgers f.origin) (sym (law.holders.only t.0 f.origin (ap is_some f.is_held))) ∙ f.is_held;
+      is = ap (λ (z : ℕ). held (of s z).ledgers f.origin)
+          (sym (law.holders.only t.0 f.origin (ap is_some f.is_held))) ∙ f.is_held;
       queue = f.queue;
       node = same (sym q ∙ r);
       ripe = ripe;
@@ -277,7 +329,8 @@ freed_from s h law t n is = go (refused s t.0 t.1) refl is
         no : Joined (of s v).ledgers ≡ Freed n → ⊥
         no e = cc
 
-    go : (o : Option Refused) → refused s t.0 t.1 ≡ o → ◌≡◌ {A = Result Reply Refused} (answered o (reply_of s t.0 t.1)) (Ok (Freed n)) → FreedFrom s h t.0 n
+    go : (o : Option Refused) → refused s t.0 t.1 ≡ o
+        → ◌≡◌ {A = Result Reply Refused} (answered o (reply_of s t.0 t.1)) (Ok (Freed n)) → FreedFrom s h t.0 n
     go (Some r) i is = absurd (differ r is)
     go None i is = on (join_or_not t.1)
       where
@@ -294,16 +347,21 @@ record Since (e n o k : ℕ) (x : NodeId) (s : State) (h : ℕ → ℕ) : Type 0
   guard : IsGuarded e n (ledger_at s h o)
   stands : slice_get (retired_in (ledger_at s h o)) k ≡ Some x
 
-since_step : (e n o k : ℕ) (x : NodeId) (s : State) (h : ℕ → ℕ) → Lawful s h → OnceLaw s h → (t : ℕ × Event) (turn : LawfulTurn s h t) → Since e n o k x s h → Since e n o k x (next s t) turn.holder
+since_step : (e n o k : ℕ) (x : NodeId) (s : State) (h : ℕ → ℕ) → Lawful s h → OnceLaw s h
+    → (t : ℕ × Event) (turn : LawfulTurn s h t) → Since e n o k x s h → Since e n o k x (next s t) turn.holder
 since_step e n o k x s h law once t turn was = record {
   epoch = let more = epoch_grows s t in let le = was.epoch in omega arith;
   guard = guard_step e n s t o (ledger_at s h o) (ledger_at (next s t) turn.holder o) was.epoch (turn.step o) was.guard;
-  stands = ap (λ ns. slice_get ns k) (retired_step s t o (ledger_at s h o) (ledger_at (next s t) turn.holder o) (turn.step o)) ∙ get_stays (retired_in (ledger_at s h o)) (cut_at s t o) k x was.stands;
+  stands = ap (λ ns. slice_get ns k) (retired_step s t o (ledger_at s h o) (ledger_at (next s t) turn.holder o)
+      (turn.step o)) ∙ get_stays (retired_in (ledger_at s h o)) (cut_at s t o) k x was.stands;
 }
 
 -- right after the cut
-since_cut : (s : State) (h : ℕ → ℕ) → Lawful s h → OnceLaw s h → (t : ℕ × Event) (turn : LawfulTurn s h t) (ns : List NodeId) (i : ℕ) (x : NodeId) → outcome s t ≡ Ok (Cut ns) → slice_get ns i ≡ Some x
-    → Since s.memory.epoch (length (retired_in (ledger_at s h t.0))) t.0 (length (retired_in (ledger_at s h t.0)) + i) x (next s t) turn.holder
+since_cut : (s : State) (h : ℕ → ℕ) → Lawful s h → OnceLaw s h
+    → (t : ℕ × Event) (turn : LawfulTurn s h t) (ns : List NodeId) (i : ℕ) (x : NodeId) → outcome s t ≡ Ok (Cut ns)
+    → slice_get ns i ≡ Some x
+    → Since s.memory.epoch (length (retired_in (ledger_at s h t.0))) t.0
+    (length (retired_in (ledger_at s h t.0)) + i) x (next s t) turn.holder
 since_cut s h law once t turn ns i x is at = go (turn.step t.0)
   where
     cuts : cut_at s t t.0 ≡ ns
@@ -315,32 +373,41 @@ since_cut s h law once t turn ns i x is at = go (turn.step t.0)
     same_cut : (ms : List NodeId) → ◌≡◌ {A = Result Reply Refused} (Ok (Cut ms)) (Ok (Cut ns)) → ms ≡ ns
     same_cut ms e = cc
 
-    go : OriginStep s t t.0 (ledger_at s h t.0) (ledger_at (next s t) turn.holder t.0) → Since s.memory.epoch (length (retired_in (ledger_at s h t.0))) t.0 (length (retired_in (ledger_at s h t.0)) + i) x (next s t) turn.holder
+    go : OriginStep s t t.0 (ledger_at s h t.0) (ledger_at (next s t) turn.holder t.0)
+        → Since s.memory.epoch (length (retired_in (ledger_at s h t.0))) t.0
+        (length (retired_in (ledger_at s h t.0)) + i) x (next s t) turn.holder
     go (Unchanged _ none) = absurd (nothing none)
     go (Relabelled _ none) = absurd (nothing none)
     go (Shortened _ _ _ _ _ _ _ none _ _) = absurd (nothing none)
     go (Extended l ms was now _ _ r _) = record {
       epoch = epoch_grows s t;
       guard = rw (was, now) (guard_new l ms (rw was at (once.balanced t.0)));
-      stands = rw (was, now) (get_right l.retired ms (length l.retired + i) (omega arith) ∙ (ap (slice_get ms) index ∙ (ap (λ (ys : List NodeId). slice_get ys i) (same_cut ms (sym r ∙ is)) ∙ at)));
+      stands = rw (was, now) (get_right l.retired ms (length l.retired + i) (omega arith)
+          ∙ (ap (slice_get ms) index ∙ (ap (λ (ys : List NodeId). slice_get ys i) (same_cut ms (sym r ∙ is)) ∙ at)));
     }
       where
         index : length l.retired + i - length l.retired ≡ i
         index = omega arith
 
-        guard_new : (l : Ledger) (ms : List NodeId) → l.retired ≡ l.freed ++ map node_in l.queue → IsGuarded s.memory.epoch (length l.retired) (Some (with_cut ms l))
-        guard_new l ms b j q at le = rw (unlabelled_at ms (j - length l.queue) q (sym (get_right l.queue (map unlabelled ms) j past) ∙ at)) tt
+        guard_new : (l : Ledger) (ms : List NodeId) → l.retired ≡ l.freed ++ map node_in l.queue
+            → IsGuarded s.memory.epoch (length l.retired) (Some (with_cut ms l))
+        guard_new l ms b j q at le = rw (unlabelled_at ms (j - length l.queue) q
+            (sym (get_right l.queue (map unlabelled ms) j past) ∙ at)) tt
           where
             past : length l.queue ≤ j
-            past = let size = ap (λ (ys : List NodeId). length ys) b ∙ length-append l.freed (map node_in l.queue) in let same = length-map l.queue node_in in omega arith
+            past = let size = ap (λ (ys : List NodeId). length ys) b ∙ length-append l.freed (map node_in l.queue) in
+                let same = length-map l.queue node_in in omega arith
 
 -- a worker that was pinned at the cut cannot be pinned still when the node is freed
-no_grace_lost : (s : State) (h : ℕ → ℕ) → Lawful s h → OnceLaw s h → (e n o k : ℕ) (x : NodeId) → Since e n o k x s h → n ≤ k → (w : ℕ) → FreedFrom s h w x → (u p : ℕ) → (of s u).brief.pin ≡ Some p → p ≤ e → ⊥
-no_grace_lost s h law once e n o k x since after' w f u p pin low = clash f.entry.label refl (guarded 0 f.entry (ap (λ (ys : List Queued). slice_get ys 0) f.queue) (let at = same.1 in omega arith))
+no_grace_lost : (s : State) (h : ℕ → ℕ) → Lawful s h → OnceLaw s h → (e n o k : ℕ) (x : NodeId) → Since e n o k x s h
+    → n ≤ k → (w : ℕ) → FreedFrom s h w x → (u p : ℕ) → (of s u).brief.pin ≡ Some p → p ≤ e → ⊥
+no_grace_lost s h law once e n o k x since after' w f u p pin low = clash f.entry.label refl
+    (guarded 0 f.entry (ap (λ (ys : List Queued). slice_get ys 0) f.queue) (let at = same.1 in omega arith))
   where
     front : slice_get (retired_in (ledger_at s h f.origin)) (length f.ledger.freed) ≡ Some x
     front = ap (λ y. slice_get (retired_in y) (length f.ledger.freed)) f.is
-        ∙ (ap (λ (ys : List NodeId). slice_get ys (length f.ledger.freed)) (rw f.is at (once.balanced f.origin) ∙ ap (λ (es : List Queued). f.ledger.freed ++ map node_in es) f.queue)
+        ∙ (ap (λ (ys : List NodeId). slice_get ys (length f.ledger.freed))
+        (rw f.is at (once.balanced f.origin) ∙ ap (λ (es : List Queued). f.ledger.freed ++ map node_in es) f.queue)
         ∙ (get_right f.ledger.freed (f.entry.node ∷ map node_in f.rest) (length f.ledger.freed) (le_of_eq refl)
         ∙ (ap (slice_get (f.entry.node ∷ map node_in f.rest)) none ∙ ap Some f.node)))
       where
@@ -363,7 +430,8 @@ no_grace_lost s h law once e n o k x since after' w f u p pin low = clash f.entr
         omega arith
 
 pub grace_holds : OfEachState GraceHolds
-grace_holds L enough before cut between free ns n w e is there freed pin = go (left_or_pinned (next s cut) (staffed_next s cut k.law.staffed) between w e pinned)
+grace_holds L enough before cut between free ns n w e is there freed pin = go
+    (left_or_pinned (next s cut) (staffed_next s cut k.law.staffed) between w e pinned)
   where
     s : State
     s = after (start L) before
@@ -375,7 +443,12 @@ grace_holds L enough before cut between free ns n w e is there freed pin = go (l
     turn = lawful_turn (after (start L) before) k.holder k.law k.once.born cut
 
     now : IsSound (next (after (start L) before) cut)
-    now = record { holder = turn.holder; law = turn.law; once = once_turn (after (start L) before) k.holder k.law k.once cut turn }
+    now = record {
+      holder = turn.holder;
+      law = turn.law;
+      once = once_turn (after (start L) before) k.holder k.law
+          k.once cut turn;
+    }
 
     at_cut : slice_get ns there.0 ≡ Some n
     at_cut = slice_get-get_or ns there.0 n there.1 ∙ ap Some there.2
@@ -386,9 +459,16 @@ grace_holds L enough before cut between free ns n w e is there freed pin = go (l
     n0 : ℕ
     n0 = length (retired_in (ledger_at (after (start L) before) k.holder cut.0))
 
-    last : (t : IsSound (after (next (after (start L) before) cut) between)) × Since (after (start L) before).memory.epoch (length (retired_in (ledger_at (after (start L) before) k.holder cut.0))) cut.0 (length (retired_in (ledger_at (after (start L) before) k.holder cut.0)) + there.0) n (after (next (after (start L) before) cut) between) t.holder
-    last = sound_over (λ t h. Since (after (start L) before).memory.epoch (length (retired_in (ledger_at (after (start L) before) k.holder cut.0))) cut.0 (length (retired_in (ledger_at (after (start L) before) k.holder cut.0)) + there.0) n t h)
-        (since_step _ _ _ _ n) (next (after (start L) before) cut) now between (since_cut (after (start L) before) k.holder k.law k.once cut turn ns there.0 n is at_cut)
+    last : (t : IsSound (after (next (after (start L) before) cut) between))
+        × Since (after (start L) before).memory.epoch (length
+        (retired_in (ledger_at (after (start L) before) k.holder cut.0))) cut.0
+        (length (retired_in (ledger_at (after (start L) before) k.holder cut.0)) + there.0) n
+        (after (next (after (start L) before) cut) between) t.holder
+    last = sound_over (λ t h. Since (after (start L) before).memory.epoch
+        (length (retired_in (ledger_at (after (start L) before) k.holder cut.0))) cut.0
+        (length (retired_in (ledger_at (after (start L) before) k.holder cut.0)) + there.0) n t h)
+        (since_step _ _ _ _ n) (next (after (start L) before) cut) now between
+        (since_cut (after (start L) before) k.holder k.law k.once cut turn ns there.0 n is at_cut)
 
     -- a cut is no leave
     pinned : (of (next (after (start L) before) cut) w).brief.pin ≡ Some e
@@ -397,11 +477,17 @@ grace_holds L enough before cut between free ns n w e is there freed pin = go (l
         no : ◌≡◌ {A = Result Reply Refused} (Ok (Cut ns)) (Ok Departed) → ⊥
         no z = cc
 
-        by : IsLeaveOf w (told_as (after (start L) before) cut) ⊎ ((of (next (after (start L) before) cut) w).brief.pin ≡ Some e) → (of (next (after (start L) before) cut) w).brief.pin ≡ Some e
+        by : IsLeaveOf w (told_as (after (start L) before) cut)
+            ⊎ ((of (next (after (start L) before) cut) w).brief.pin ≡ Some e)
+            → (of (next (after (start L) before) cut) w).brief.pin ≡ Some e
         by (inl leave) = absurd (no (sym is ∙ ap (λ (y : Turn). y.outcome) leave.2))
         by (inr still) = still
 
-    go : HasLeft w (trace (next (after (start L) before) cut) between) ⊎ ((of (after (next (after (start L) before) cut) between) w).brief.pin ≡ Some e) → HasLeft w (trace (next (after (start L) before) cut) between)
+    go : HasLeft w (trace (next (after (start L) before) cut) between)
+        ⊎ ((of (after (next (after (start L) before) cut) between) w).brief.pin ≡ Some e)
+        → HasLeft w (trace (next (after (start L) before) cut) between)
     go (inl left) = left
-    go (inr still) = absurd (no_grace_lost (after (next (after (start L) before) cut) between) last.0.holder last.0.law last.0.once _ _ _ _ n last.1 (omega arith) free.0
-        (freed_from (after (next (after (start L) before) cut) between) last.0.holder last.0.law free n freed) w e still (k.law.epochs.pins w e pin).0)
+    go (inr still) = absurd (no_grace_lost (after (next (after (start L) before) cut) between) last.0.holder
+        last.0.law last.0.once _ _ _ _ n last.1 (omega arith) free.0
+        (freed_from (after (next (after (start L) before) cut) between) last.0.holder last.0.law free n freed) w e
+        still (k.law.epochs.pins w e pin).0)

@@ -37,31 +37,42 @@ is_some_map : (f : Ledger → Ledger) (o : Option Ledger) → is_some (option_ma
 is_some_map f None = refl
 is_some_map f (Some l) = refl
 
-pub still_held : (s : State) (w : ℕ) (e : Event) (r : Reply) (k : Knowledge) → w < length (of s w).ledgers → Change s w e r k → (o : ℕ) → is_some (held k.ledgers o) ≡ is_some (held (of s w).ledgers o)
+pub still_held : (s : State) (w : ℕ) (e : Event) (r : Reply) (k : Knowledge) → w < length (of s w).ledgers
+    → Change s w e r k → (o : ℕ) → is_some (held k.ledgers o) ≡ is_some (held (of s w).ledgers o)
 still_held s w e r k inside (Keeps same _ _ _) o = ap (λ ls. is_some (held ls o)) same
-still_held s w e r k inside (Labels is _ _) o = ap (λ ls. is_some (held ls o)) is ∙ (ap is_some (held-label s.memory.epoch (of s w).ledgers o) ∙ is_some_map (labelled s.memory.epoch) (held (of s w).ledgers o))
+still_held s w e r k inside (Labels is _ _) o = ap (λ ls. is_some (held ls o)) is
+    ∙ (ap is_some (held-label s.memory.epoch (of s w).ledgers o)
+    ∙ is_some_map (labelled s.memory.epoch) (held (of s w).ledgers o))
 still_held s w e r k inside (Cuts ns is _ _ _) o = ap (λ ls. is_some (held ls o)) is ∙ elim (ℕ_discrete o w) [
-  | yes e ↦ rw e (ap is_some (held-retire_same (of s w).ledgers w ns inside) ∙ is_some_map (with_cut ns) (held (of s w).ledgers w))
+  | yes e ↦ rw e (ap is_some (held-retire_same (of s w).ledgers w ns inside)
+      ∙ is_some_map (with_cut ns) (held (of s w).ledgers w))
   | no ne ↦ ap is_some (held-retire_other (of s w).ledgers w ns o ne)
 ]
-still_held s w e r k inside (Frees x q f _ is _ _ _) o = ap (λ ls. is_some (held ls o)) is ∙ elim (ℕ_discrete o f.origin) [
-  | yes e ↦ rw e (ap is_some f.after ∙ sym (ap is_some f.is_held))
-  | no ne ↦ ap is_some (f.others o ne)
-]
+still_held s w e r k inside (Frees x q f _ is _ _ _) o = ap (λ ls. is_some (held ls o)) is
+    ∙ elim (ℕ_discrete o f.origin) [
+      | yes e ↦ rw e (ap is_some f.after ∙ sym (ap is_some f.is_held))
+      | no ne ↦ ap is_some (f.others o ne)
+    ]
 
-pub still_long : (s : State) (w : ℕ) (e : Event) (r : Reply) (k : Knowledge) → Change s w e r k → length k.ledgers ≡ length (of s w).ledgers
+pub still_long : (s : State) (w : ℕ) (e : Event) (r : Reply) (k : Knowledge) → Change s w e r k
+    → length k.ledgers ≡ length (of s w).ledgers
 still_long s w e r k (Keeps same _ _ _) = ap length same
 still_long s w e r k (Labels is _ _) = ap length is ∙ length-label s.memory.epoch (of s w).ledgers
 still_long s w e r k (Cuts ns is _ _ _) = ap length is ∙ length-retire (of s w).ledgers w ns
 still_long s w e r k (Frees x q f _ is _ _ _) = ap length is ∙ length-free (of s w).ledgers q.node
 
-pub holders_moved : (s : State) (h : ℕ → ℕ) (w : ℕ) (m : Memory) (e : Event) (r : Reply) (k : Knowledge) → w < length s.workers → w < s.layout.workers → Changed s w e r k → Holders s h → Holders (moved s w m k) h
+pub holders_moved : (s : State) (h : ℕ → ℕ) (w : ℕ) (m : Memory) (e : Event) (r : Reply) (k : Knowledge)
+    → w < length s.workers → w < s.layout.workers → Changed s w e r k → Holders s h → Holders (moved s w m k) h
 holders_moved s h w m e r k inside worker changed law = record {
-  sizes = each s.layout (λ u x. length x.ledgers ≡ s.layout.workers) s.workers w k inside (still_long s w e r k changed.ledgers ∙ law.sizes w) (λ u _. law.sizes u);
-  only = each s.layout (λ u x. (o : ℕ) → is_some (held x.ledgers o) ≡ true → u ≡ h o) s.workers w k inside (λ o i. law.only w o (sym (same o) ∙ i)) (λ u _. law.only u);
+  sizes = each s.layout (λ u x. length x.ledgers ≡ s.layout.workers) s.workers w k inside
+      (still_long s w e r k changed.ledgers ∙ law.sizes w) (λ u _. law.sizes u);
+  only = each s.layout (λ u x. (o : ℕ) → is_some (held x.ledgers o) ≡ true → u ≡ h o) s.workers w k inside
+      (λ o i. law.only w o (sym (same o) ∙ i)) (λ u _. law.only u);
   some = λ o lt. each s.layout (λ u x. h o ≡ u → is_some (held x.ledgers o) ≡ true) s.workers w k inside
-      (λ e. same o ∙ (ap (λ (y : ℕ). is_some (held (of s y).ledgers o)) (sym e) ∙ law.some o lt)) (λ u _ e. ap (λ (y : ℕ). is_some (held (of s y).ledgers o)) (sym e) ∙ law.some o lt) (h o) refl;
-  own = each s.layout (λ u x. u < s.layout.workers → x.gone ≡ false → h u ≡ u) s.workers w k inside (λ lt g. law.own w lt (sym changed.gone ∙ g)) (λ u _. law.own u);
+      (λ e. same o ∙ (ap (λ (y : ℕ). is_some (held (of s y).ledgers o)) (sym e) ∙ law.some o lt))
+      (λ u _ e. ap (λ (y : ℕ). is_some (held (of s y).ledgers o)) (sym e) ∙ law.some o lt) (h o) refl;
+  own = each s.layout (λ u x. u < s.layout.workers → x.gone ≡ false → h u ≡ u) s.workers w k inside
+      (λ lt g. law.own w lt (sym changed.gone ∙ g)) (λ u _. law.own u);
   staff = law.staff;
 }
   where
@@ -80,21 +91,28 @@ pub record Joins (s t : State) (w v : ℕ) : Type 0 where
   pub leaver : of t v ≡ resigned (of s v)
   pub others : (u : ℕ) → u ≢ w → u ≢ v → of t u ≡ of s u
 
-pub joins : (s : State) (w v : ℕ) → w < length s.workers → v < length s.workers → v ≢ w → Joins s (applied s w (Join v)) w v
+pub joins : (s : State) (w v : ℕ) → w < length s.workers → v < length s.workers → v ≢ w
+    → Joins s (applied s w (Join v)) w v
 unfolding applied
 joins s w v inside there ne = record {
   heir = both s.layout (λ u x. u ≡ w → x ≡ inheriting (of s w) (of s v).ledgers) s.workers w v _ _ inside there
-      (λ _. learn_joined w (of s w) v (of s v).ledgers ∙ cond-false (eqb w v) (resigned (of s w)) (inheriting (of s w) (of s v).ledgers) (ne_eqb w v (λ e. ne (sym e))))
+      (λ _. learn_joined w (of s w) v (of s v).ledgers
+      ∙ cond-false (eqb w v) (resigned (of s w)) (inheriting (of s w) (of s v).ledgers)
+      (ne_eqb w v (λ e. ne (sym e))))
       (λ e. absurd (ne e)) (λ u other _ e. absurd (other e)) w refl;
   leaver = both s.layout (λ u x. u ≡ v → x ≡ resigned (of s v)) s.workers w v _ _ inside there
       (λ e. absurd (ne (sym e)))
-      (λ _. learn_joined v (of s v) v (of s v).ledgers ∙ cond-true (eqb v v) (resigned (of s v)) (inheriting (of s v) (of s v).ledgers) (eq-eqb v v refl)) (λ u _ other e. absurd (other e)) v refl;
+      (λ _. learn_joined v (of s v) v (of s v).ledgers
+      ∙ cond-true (eqb v v) (resigned (of s v)) (inheriting (of s v) (of s v).ledgers) (eq-eqb v v refl))
+      (λ u _ other e. absurd (other e)) v refl;
   others = both s.layout (λ u x. u ≢ w → u ≢ v → x ≡ of s u) s.workers w v _ _ inside there
       (λ a _. absurd (a refl)) (λ _ b. absurd (b refl)) (λ u _ _ _ _. refl);
 }
 
 -- of what holds of each worker: it holds of the heir, of the one that left, and of each other
-pub by_worker : (s t : State) (w v : ℕ) → Joins s t w v → (P : ℕ → Knowledge → Type 0) → P w (inheriting (of s w) (of s v).ledgers) → P v (resigned (of s v)) → ((u : ℕ) → u ≢ w → u ≢ v → P u (of s u)) → (u : ℕ) → P u (of t u)
+pub by_worker : (s t : State) (w v : ℕ) → Joins s t w v → (P : ℕ → Knowledge → Type 0)
+    → P w (inheriting (of s w) (of s v).ledgers) → P v (resigned (of s v)) → ((u : ℕ) → u ≢ w → u ≢ v → P u (of s u))
+    → (u : ℕ) → P u (of t u)
 by_worker s t w v j P heir leaver others u = elim (ℕ_discrete u w) [
   | yes e ↦ rw (e, j.heir) heir
   | no ne ↦ elim (ℕ_discrete u v) [
@@ -106,11 +124,16 @@ by_worker s t w v j P heir leaver others u = elim (ℕ_discrete u w) [
 pub none_held : (n o : ℕ) → held (replicate n None) o ≡ None
 none_held n o = repeated n o None
 
-pub holders_joined : (s : State) (h : ℕ → ℕ) (w v : ℕ) (t : State) → t.layout ≡ s.layout → Joins s t w v → v ≢ w → w < s.layout.workers → (of s w).gone ≡ false → Holders s h → Holders t (heirs h w v)
+pub holders_joined : (s : State) (h : ℕ → ℕ) (w v : ℕ) (t : State) → t.layout ≡ s.layout → Joins s t w v → v ≢ w
+    → w < s.layout.workers → (of s w).gone ≡ false → Holders s h → Holders t (heirs h w v)
 holders_joined s h w v t layout j ne worker staying law = record {
-  sizes = by_worker s t w v j (λ u x. length x.ledgers ≡ t.layout.workers) (length-taken_over (of s w).ledgers (of s v).ledgers ∙ (law.sizes w ∙ same_workers)) (length-replicate (length (of s v).ledgers) None ∙ (law.sizes v ∙ same_workers)) (λ u _ _. law.sizes u ∙ same_workers);
+  sizes = by_worker s t w v j (λ u x. length x.ledgers ≡ t.layout.workers)
+      (length-taken_over (of s w).ledgers (of s v).ledgers ∙ (law.sizes w ∙ same_workers))
+      (length-replicate (length (of s v).ledgers) None ∙ (law.sizes v ∙ same_workers))
+      (λ u _ _. law.sizes u ∙ same_workers);
   only = by_worker s t w v j (λ u x. (o : ℕ) → is_some (held x.ledgers o) ≡ true → u ≡ heirs h w v o)
-      (λ o i. heir_only o (held (of s v).ledgers o) (held (of s w).ledgers o) refl refl (sym (ap is_some (taken o)) ∙ i))
+      (λ o i. heir_only o (held (of s v).ledgers o) (held (of s w).ledgers o) refl refl
+      (sym (ap is_some (taken o)) ∙ i))
       (λ o i. absurd (true≢false (sym i ∙ ap is_some (none_held (length (of s v).ledgers) o))))
       (λ u a b o i. let e = law.only u o i in e ∙ sym (apart o (λ z. b (e ∙ z))));
   some = λ o lt. by_worker s t w v j (λ u x. heirs h w v o ≡ u → is_some (held x.ledgers o) ≡ true)
@@ -127,7 +150,8 @@ holders_joined s h w v t layout j ne worker staying law = record {
     same_workers : s.layout.workers ≡ t.layout.workers
     same_workers = ap (λ L. L.workers) (sym layout)
 
-    taken : (o : ℕ) → held (taken_over (of s w).ledgers (of s v).ledgers) o ≡ or_else (held (of s v).ledgers o) (held (of s w).ledgers o)
+    taken : (o : ℕ) → held (taken_over (of s w).ledgers (of s v).ledgers) o
+        ≡ or_else (held (of s v).ledgers o) (held (of s w).ledgers o)
     taken o = held-taken_over (of s w).ledgers (of s v).ledgers o (law.sizes w ∙ sym (law.sizes v))
 
     apart : (o : ℕ) → (h o ≡ v → ⊥) → heirs h w v o ≡ h o
@@ -136,9 +160,11 @@ holders_joined s h w v t layout j ne worker staying law = record {
     passed : (o : ℕ) → h o ≡ v → heirs h w v o ≡ w
     passed o e = cond-true (eqb (h o) v) w (h o) (eq-eqb (h o) v e)
 
-    heir_only : (o : ℕ) (a b : Option Ledger) → held (of s v).ledgers o ≡ a → held (of s w).ledgers o ≡ b → is_some (or_else a b) ≡ true → w ≡ heirs h w v o
+    heir_only : (o : ℕ) (a b : Option Ledger) → held (of s v).ledgers o ≡ a → held (of s w).ledgers o ≡ b
+        → is_some (or_else a b) ≡ true → w ≡ heirs h w v o
     heir_only o (Some l) b i k some = sym (passed o (sym (law.only v o (ap is_some i))))
-    heir_only o None (Some l) i k some = let e = law.only w o (ap is_some k) in e ∙ sym (apart o (λ z. ne (sym z ∙ sym e)))
+    heir_only o None (Some l) i k some = let e = law.only w o (ap is_some k) in
+        e ∙ sym (apart o (λ z. ne (sym z ∙ sym e)))
     heir_only o None None i k some = absurd (true≢false (sym some))
 
     either_some : (a b : Option Ledger) → is_some a ≡ true → is_some (or_else a b) ≡ true
@@ -149,16 +175,20 @@ holders_joined s h w v t layout j ne worker staying law = record {
     or_some (Some l) b i = refl
     or_some None b i = i
 
-    heir_some : (o : ℕ) → o < s.layout.workers → heirs h w v o ≡ w → is_some (or_else (held (of s v).ledgers o) (held (of s w).ledgers o)) ≡ true
+    heir_some : (o : ℕ) → o < s.layout.workers → heirs h w v o ≡ w
+        → is_some (or_else (held (of s v).ledgers o) (held (of s w).ledgers o)) ≡ true
     heir_some o lt e = elim (ℕ_discrete (h o) v) [
-      | yes z ↦ either_some (held (of s v).ledgers o) (held (of s w).ledgers o) (ap (λ (y : ℕ). is_some (held (of s y).ledgers o)) (sym z) ∙ law.some o lt)
-      | no z ↦ or_some (held (of s v).ledgers o) (held (of s w).ledgers o) (ap (λ (y : ℕ). is_some (held (of s y).ledgers o)) (sym e ∙ apart o z) ∙ law.some o lt)
+      | yes z ↦ either_some (held (of s v).ledgers o) (held (of s w).ledgers o)
+          (ap (λ (y : ℕ). is_some (held (of s y).ledgers o)) (sym z) ∙ law.some o lt)
+      | no z ↦ or_some (held (of s v).ledgers o) (held (of s w).ledgers o)
+          (ap (λ (y : ℕ). is_some (held (of s y).ledgers o)) (sym e ∙ apart o z) ∙ law.some o lt)
     ]
 
     not_leaver : (o : ℕ) → heirs h w v o ≡ v → ⊥
     not_leaver o e = elim (ℕ_discrete (h o) v) [ yes z ↦ ne (sym e ∙ passed o z) | no z ↦ z (sym (apart o z) ∙ e) ]
 
-    other_some : (o : ℕ) → o < s.layout.workers → (u : ℕ) → u ≢ w → heirs h w v o ≡ u → is_some (held (of s u).ledgers o) ≡ true
+    other_some : (o : ℕ) → o < s.layout.workers → (u : ℕ) → u ≢ w → heirs h w v o ≡ u
+        → is_some (held (of s u).ledgers o) ≡ true
     other_some o lt u a e = elim (ℕ_discrete (h o) v) [
       | yes z ↦ absurd (a (sym e ∙ passed o z))
       | no z ↦ ap (λ (y : ℕ). is_some (held (of s y).ledgers o)) (sym e ∙ apart o z) ∙ law.some o lt
@@ -172,14 +202,17 @@ holders_joined s h w v t layout j ne worker staying law = record {
 own_ledger : (L : Layout) (w o : ℕ) → is_some (held (newcomer L w).ledgers o) ≡ true → w ≡ o
 own_ledger L w o i = elim (ℕ_discrete o w) [
   | yes e ↦ sym e
-  | no ne ↦ absurd (true≢false (sym i ∙ ap is_some (get_or-set_other (replicate L.workers None) w o (Some fresh_ledger) None ne ∙ none_held L.workers o)))
+  | no ne ↦ absurd (true≢false (sym i ∙ ap is_some
+      (get_or-set_other (replicate L.workers None) w o (Some fresh_ledger) None ne ∙ none_held L.workers o)))
 ]
 
 pub holders_start : (L : Layout) → Holders (start L) (λ o. o)
 holders_start L = record {
-  sizes = λ w. rw (all_new L w) (length-set (replicate L.workers None) w (Some fresh_ledger) ∙ length-replicate L.workers None);
+  sizes = λ w. rw (all_new L w) (length-set (replicate L.workers None) w (Some fresh_ledger)
+      ∙ length-replicate L.workers None);
   only = λ w o. rw (all_new L w) (own_ledger L w o);
-  some = λ o lt. rw (all_new L o) (ap is_some (get_or-set_same (replicate L.workers None) o (Some fresh_ledger) None (let e = length-replicate {A = Option Ledger} L.workers None in omega arith)));
+  some = λ o lt. rw (all_new L o) (ap is_some (get_or-set_same (replicate L.workers None) o (Some fresh_ledger) None
+      (let e = length-replicate {A = Option Ledger} L.workers None in omega arith)));
   own = λ w _ _. refl;
   staff = λ o lt. lt;
 }

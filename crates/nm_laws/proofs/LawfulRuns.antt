@@ -58,14 +58,16 @@ same_head x y xs ys e = (cc, cc)
 pub no_turn : (x : Turn) (xs : List Turn) → [] ≡ x ∷ xs → ⊥
 no_turn x xs e = cc
 
-head_of : (s : State) (ts : List (ℕ × Event)) (turn : Turn) (rest : List Turn) → trace s ts ≡ turn ∷ rest → Head s ts turn rest
+head_of : (s : State) (ts : List (ℕ × Event)) (turn : Turn) (rest : List Turn) → trace s ts ≡ turn ∷ rest
+    → Head s ts turn rest
 unfolding trace
 head_of s [] turn rest e = absurd (no_turn turn rest e)
 head_of s (t ∷ ts) turn rest e =
     let same = same_head (told s t) turn (trace (next s t) ts) rest e in
     record { event = t; others = ts; all = refl; turn_is = sym same.0; rest_is = sym same.1 }
 
-parts_of : (s : State) (ts : List (ℕ × Event)) (first rest : List Turn) → trace s ts ≡ first ++ rest → Parts s ts first rest
+parts_of : (s : State) (ts : List (ℕ × Event)) (first rest : List Turn) → trace s ts ≡ first ++ rest
+    → Parts s ts first rest
 unfolding after trace
 parts_of s ts [] rest e = record { early = []; late = ts; all = refl; first_is = refl; rest_is = sym e; size = refl }
 parts_of s ts (x ∷ xs) rest e =
@@ -92,8 +94,10 @@ take_first [] ys = refl
 take_first (x ∷ xs) ys = ap (λ (zs : List (ℕ × Event)). x ∷ zs) (take_first xs ys)
 
 -- the state after some events, by their number alone
-after_first : (s : State) (ts early late : List (ℕ × Event)) (n : ℕ) → ts ≡ early ++ late → length early ≡ n → after s (take n ts) ≡ after s early
-after_first s ts early late n all size = ap (λ (us : List (ℕ × Event)). after s us) (ap (take n) all ∙ (ap (λ (m : ℕ). take m (early ++ late)) (sym size) ∙ take_first early late))
+after_first : (s : State) (ts early late : List (ℕ × Event)) (n : ℕ) → ts ≡ early ++ late → length early ≡ n
+    → after s (take n ts) ≡ after s early
+after_first s ts early late n all size = ap (λ (us : List (ℕ × Event)). after s us)
+    (ap (take n) all ∙ (ap (λ (m : ℕ). take m (early ++ late)) (sym size) ∙ take_first early late))
 
 -- ---- one turn
 
@@ -107,7 +111,8 @@ told_of (Ok (Cut ns)) = CutNodes ns refl
 told_of o = NoCut refl (λ ns e. cc)
 
 nothing_in : (x : ℕ) (xs : List ℕ) → xs ≡ [] → Contains xs x → ⊥
-nothing_in x xs none there = let size = ap (λ (ys : List ℕ). length ys) none in let below = there.1 in absurd (omega arith)
+nothing_in x xs none there = let size = ap (λ (ys : List ℕ). length ys) none in let below = there.1 in
+    absurd (omega arith)
 
 abbrev CutsItsNodes : State → ℕ × Event → Type 0
 CutsItsNodes s t = CutsJust s.memory (nodes_cut_of (outcome s t)) (next s t).memory
@@ -133,7 +138,10 @@ turn_cuts s r t = go (told_of (outcome s t))
             (OfEachSwap (λ before leaf ns after. CutsJust before.memory ns
             after.memory)) swaps_cut_just s r t.0 by.0 by.1 by.2 by.3 ns (rw (← e) is) x)
     go (NoCut none uncut) =
-        λ x. ((λ c. absurd (c.gone (of_reachable NothingElseCuts nothing_else_cuts s r t uncut x c.was))), (λ c. absurd (nothing_in x _ (ap slots_of none) c)))
+        λ x. (
+          (λ c. absurd (c.gone (of_reachable NothingElseCuts nothing_else_cuts s r t uncut x c.was))),
+          (λ c. absurd (nothing_in x _ (ap slots_of none) c)),
+        )
 
 -- ---- the states of a run
 
@@ -151,7 +159,8 @@ split_of_runs : OfEachState LedgersAreSplit
 split_of_runs L enough turns w o l is = freed_then_queue L turns w o l is
 
 holders_of_runs : OfEachState EachHasOneHolder
-holders_of_runs L enough turns o inside = each_ledger_has_one_holder L turns o (subst (λ (M : Layout). o < M.workers) (layout_after L turns) inside)
+holders_of_runs L enough turns o inside = each_ledger_has_one_holder L turns o
+    (subst (λ (M : Layout). o < M.workers) (layout_after L turns) inside)
 
 pub lawful_state : (s : State) → IsReachable s → IsLawfulState s
 lawful_state s r = record {
@@ -178,7 +187,8 @@ lawful_state s r = record {
 
 -- no node was retired twice, and what goes with it
 sound_state : (s : State) → IsReachable s → IsSound s
-sound_state s r = subst (λ (t : State). IsSound t) r.leads (sound s.layout (let enough = r.fits.least in omega arith) r.events)
+sound_state s r = subst (λ (t : State). IsSound t) r.leads
+    (sound s.layout (let enough = r.fits.least in omega arith) r.events)
 
 module _ (s : State) (reachable : IsReachable s) (ts : List (ℕ × Event)) where
   abbrev states : ℕ → State
@@ -189,26 +199,37 @@ module _ (s : State) (reachable : IsReachable s) (ts : List (ℕ × Event)) wher
 
   growing : LedgersGrowByTheCuts states (trace s ts)
   unfolding after
-  growing i w v origin l m is is' = rw (take-trace i s ts) (of_reachable RetiredGrowsByTheCuts retired_grows s reachable (take i ts) w v origin l m is is')
+  growing i w v origin l m is is' = rw (take-trace i s ts)
+      (of_reachable RetiredGrowsByTheCuts retired_grows s reachable (take i ts) w v origin l m is is')
 
   freed : LedgersFreeWhatGivesFreed states (trace s ts)
   unfolding after
-  freed i w v origin l m is is' = rw (take-trace i s ts) (freed_grows s (sound_state s reachable) (take i ts) w v origin l m is is')
+  freed i w v origin l m is is' = rw (take-trace i s ts)
+      (freed_grows s (sound_state s reachable) (take i ts) w v origin l m is is')
 
   pub grace : GraceInRun states (trace s ts)
-  grace first between rest cut free ns n w e all cuts there frees pin = at_cut (parts_of s ts first (cut ∷ (between ++ free ∷ rest)) all)
+  grace first between rest cut free ns n w e all cuts there frees pin = at_cut
+      (parts_of s ts first (cut ∷ (between ++ free ∷ rest)) all)
     where
-      at_free : (p : Parts s ts first (cut ∷ (between ++ free ∷ rest))) (h : Head (after s p.early) p.late cut (between ++ free ∷ rest)) (q : Parts (next (after s p.early) h.event) h.others between (free ∷ rest))
+      at_free : (p : Parts s ts first (cut ∷ (between ++ free ∷ rest)))
+          (h : Head (after s p.early) p.late cut (between ++ free ∷ rest))
+          (q : Parts (next (after s p.early) h.event) h.others between (free ∷ rest))
           (f : Head (after (next (after s p.early) h.event) q.early) q.late free rest) → HasLeft w between
-      at_free p h q f = rw q.first_is (of_reachable GraceHolds grace_holds (after s p.early) (reachable_after s reachable p.early) h.event q.early f.event ns n w e
-          (sym (ap (λ (t : Turn). t.outcome) h.turn_is) ∙ cuts) there (sym (ap (λ (t : Turn). t.outcome) f.turn_is) ∙ frees)
-          (subst (λ (t : State). (of t w).brief.pin ≡ Some e) (state_before first (cut ∷ (between ++ free ∷ rest)) p) pin))
+      at_free p h q f = rw q.first_is (of_reachable GraceHolds grace_holds (after s p.early)
+          (reachable_after s reachable p.early) h.event q.early f.event ns n w e
+          (sym (ap (λ (t : Turn). t.outcome) h.turn_is) ∙ cuts) there
+          (sym (ap (λ (t : Turn). t.outcome) f.turn_is) ∙ frees)
+          (subst (λ (t : State). (of t w).brief.pin ≡ Some e) (state_before first (cut ∷ (between ++ free ∷ rest)) p)
+          pin))
 
-      between_them : (p : Parts s ts first (cut ∷ (between ++ free ∷ rest))) (h : Head (after s p.early) p.late cut (between ++ free ∷ rest)) (q : Parts (next (after s p.early) h.event) h.others between (free ∷ rest)) → HasLeft w between
+      between_them : (p : Parts s ts first (cut ∷ (between ++ free ∷ rest)))
+          (h : Head (after s p.early) p.late cut (between ++ free ∷ rest))
+          (q : Parts (next (after s p.early) h.event) h.others between (free ∷ rest)) → HasLeft w between
       between_them p h q = at_free p h q (head_of _ q.late free rest (sym q.rest_is))
 
       at_cut : Parts s ts first (cut ∷ (between ++ free ∷ rest)) → HasLeft w between
-      at_cut p = let h = head_of (after s p.early) p.late cut (between ++ free ∷ rest) (sym p.rest_is) in between_them p h (parts_of _ h.others between (free ∷ rest) (sym h.rest_is))
+      at_cut p = let h = head_of (after s p.early) p.late cut (between ++ free ∷ rest) (sym p.rest_is) in
+          between_them p h (parts_of _ h.others between (free ∷ rest) (sym h.rest_is))
 
   pub lawful_run : IsLawfulRun states (trace s ts)
   lawful_run = record {

@@ -19,27 +19,39 @@ use Rattle.nm_model.specs.Learning.{learn, saw, labelling, pinned, departed, sca
 
 -- ---- what a sight, a scan and a look may change
 
-pub sight_teaches : (k : Knowledge) (r : Reply) → learn_sight k r ≡ record k { brief = (learn_sight k r).brief; scanned = (learn_sight k r).scanned; known = (learn_sight k r).known; ledgers = (learn_sight k r).ledgers }
+pub sight_teaches : (k : Knowledge) (r : Reply) → learn_sight k r
+    ≡ record k {
+      brief = (learn_sight k r).brief;
+      scanned = (learn_sight k r).scanned;
+      known =
+          (learn_sight k r).known;
+      ledgers = (learn_sight k r).ledgers;
+    }
 sight_teaches k (Saw e) = refl
 sight_teaches k (Labelled e) = refl
 sight_teaches k (Pinned e) = refl
 sight_teaches k (Missed e) = refl
 sight_teaches k _ = refl
 
-pub scan_teaches : (k : Knowledge) (u : ℕ) (r : Reply) → learn_scan k u r ≡ record k { scanned = (learn_scan k u r).scanned }
+pub scan_teaches : (k : Knowledge) (u : ℕ) (r : Reply)
+    → learn_scan k u r ≡ record k { scanned = (learn_scan k u r).scanned }
 scan_teaches k u Idle = refl
 scan_teaches k u (In e) = refl
 scan_teaches k u _ = refl
 
-pub look_teaches : (k : Knowledge) (s : ℕ) (f : Field) (r : Reply) → looked k s f r ≡ record k { known = (looked k s f r).known; drafts = (looked k s f r).drafts }
-look_teaches k s f r = cond_both (is_private k s) (look_private k s f r) (look_known k s f r) (λ (l : Knowledge). l ≡ record k { known = l.known; drafts = l.drafts })
+pub look_teaches : (k : Knowledge) (s : ℕ) (f : Field) (r : Reply)
+    → looked k s f r ≡ record k { known = (looked k s f r).known; drafts = (looked k s f r).drafts }
+look_teaches k s f r = cond_both (is_private k s) (look_private k s f r) (look_known k s f r)
+    (λ (l : Knowledge). l ≡ record k { known = l.known; drafts = l.drafts })
     (λ _. own f r) (λ _. shared f r)
   where
-    own : (f : Field) (r : Reply) → look_private k s f r ≡ record k { known = (look_private k s f r).known; drafts = (look_private k s f r).drafts }
+    own : (f : Field) (r : Reply) → look_private k s f r
+        ≡ record k { known = (look_private k s f r).known; drafts = (look_private k s f r).drafts }
     own Birth (BirthIs b) = refl
     own _ _ = refl
 
-    shared : (f : Field) (r : Reply) → look_known k s f r ≡ record k { known = (look_known k s f r).known; drafts = (look_known k s f r).drafts }
+    shared : (f : Field) (r : Reply) → look_known k s f r
+        ≡ record k { known = (look_known k s f r).known; drafts = (look_known k s f r).drafts }
     shared (EdgeOn side) (EdgeIs e) = refl
     shared Birth (BirthIs b) = refl
     shared _ _ = refl
@@ -63,7 +75,8 @@ module _ (w : ℕ) (k : Knowledge) where
   unfolding learn
   learn_missed e = refl
 
-  pub learn_announced : (e : ℕ) → learn w k Announce (Announced e) ≡ record k { brief = record k.brief { announcement = Some e } }
+  pub learn_announced : (e : ℕ) → learn w k Announce (Announced e)
+      ≡ record k { brief = record k.brief { announcement = Some e } }
   unfolding learn
   learn_announced e = refl
 
@@ -113,27 +126,33 @@ module _ (w : ℕ) (k : Knowledge) where
   unfolding learn
   learn_freed s n = refl
 
-  pub learn_look : (s : ℕ) (f : Field) (r : Reply) → learn w k (Look s f) r ≡ cond (is_private k s) (look_private k s f r) (look_known k s f r)
+  pub learn_look : (s : ℕ) (f : Field) (r : Reply)
+      → learn w k (Look s f) r ≡ cond (is_private k s) (look_private k s f r) (look_known k s f r)
   unfolding learn
   learn_look s f r = refl
 
-  pub learn_filled : (s : ℕ) (f : Field) (v : ℕ) → learn w k (Fill s f v) Filled ≡ record k { drafts = put k.drafts s (filled_in (draft_of k s) f v) }
+  pub learn_filled : (s : ℕ) (f : Field) (v : ℕ) → learn w k (Fill s f v) Filled
+      ≡ record k { drafts = put k.drafts s (filled_in (draft_of k s) f v) }
   unfolding learn
   learn_filled s f v = refl
 
-  pub learn_linked : (p : ℕ) (side : Side) (leaf new : ℕ) (n : NodeId) → learn w k (Link p side leaf new) (Linked n) ≡ linked_in k leaf new
+  pub learn_linked : (p : ℕ) (side : Side) (leaf new : ℕ) (n : NodeId)
+      → learn w k (Link p side leaf new) (Linked n) ≡ linked_in k leaf new
   unfolding learn
   learn_linked p side leaf new n = refl
 
-  pub learn_link_lost : (p : ℕ) (side : Side) (leaf new : ℕ) (e : Edge) → learn w k (Link p side leaf new) (Lost e) ≡ read_edge k p side e
+  pub learn_link_lost : (p : ℕ) (side : Side) (leaf new : ℕ) (e : Edge)
+      → learn w k (Link p side leaf new) (Lost e) ≡ read_edge k p side e
   unfolding learn
   learn_link_lost p side leaf new e = refl
 
-  pub learn_flagged : (p : ℕ) (side : Side) (leaf : ℕ) (n : NodeId) → learn w k (Flag p side leaf) (Flagged n) ≡ read_edge k p side (flag_to leaf)
+  pub learn_flagged : (p : ℕ) (side : Side) (leaf : ℕ) (n : NodeId)
+      → learn w k (Flag p side leaf) (Flagged n) ≡ read_edge k p side (flag_to leaf)
   unfolding learn
   learn_flagged p side leaf n = refl
 
-  pub learn_flag_lost : (p : ℕ) (side : Side) (leaf : ℕ) (e : Edge) → learn w k (Flag p side leaf) (Lost e) ≡ read_edge k p side e
+  pub learn_flag_lost : (p : ℕ) (side : Side) (leaf : ℕ) (e : Edge)
+      → learn w k (Flag p side leaf) (Lost e) ≡ read_edge k p side e
   unfolding learn
   learn_flag_lost p side leaf e = refl
 
@@ -141,11 +160,13 @@ module _ (w : ℕ) (k : Knowledge) where
   unfolding learn
   learn_was p side e = refl
 
-  pub learn_cut : (a : ℕ) (side : Side) (s p : ℕ) (keep : Side) (ns : List NodeId) → learn w k (Splice a side s p keep) (Cut ns) ≡ cutting w k ns
+  pub learn_cut : (a : ℕ) (side : Side) (s p : ℕ) (keep : Side) (ns : List NodeId)
+      → learn w k (Splice a side s p keep) (Cut ns) ≡ cutting w k ns
   unfolding learn
   learn_cut a side s p keep ns = refl
 
-  pub learn_splice_lost : (a : ℕ) (side : Side) (s p : ℕ) (keep : Side) (e : Edge) → learn w k (Splice a side s p keep) (Lost e) ≡ read_edge k a side e
+  pub learn_splice_lost : (a : ℕ) (side : Side) (s p : ℕ) (keep : Side) (e : Edge)
+      → learn w k (Splice a side s p keep) (Lost e) ≡ read_edge k a side e
   unfolding learn
   learn_splice_lost a side s p keep e = refl
 
@@ -159,6 +180,7 @@ module _ (w : ℕ) (k : Knowledge) where
   unfolding learn
   learn_swap_lost p side leaf new e = refl
 
-  pub learn_joined : (v : ℕ) (ls : List (Option Ledger)) → learn w k (Join v) (Joined ls) ≡ cond (w == v) (resigned k) (inheriting k ls)
+  pub learn_joined : (v : ℕ) (ls : List (Option Ledger))
+      → learn w k (Join v) (Joined ls) ≡ cond (w == v) (resigned k) (inheriting k ls)
   unfolding learn
   learn_joined v ls = refl

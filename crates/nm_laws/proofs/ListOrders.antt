@@ -57,15 +57,21 @@ pairs_tail R x xs h i j d less below = h (suc i) (suc j) d (omega arith) (omega 
 pairs_head : {X : Type 0} (R : X → X → Type 0) (x : X) (xs : List X) → AllPairs R (x ∷ xs) → All (R x) xs
 pairs_head R x xs h k d below = h 0 (suc k) d (omega arith) (omega arith)
 
-pub pairs_append : {X : Type 0} (R : X → X → Type 0) (xs ys : List X) → AllPairs R xs → AllPairs R ys → All (λ x. All (R x) ys) xs → AllPairs R (xs ++ ys)
+pub pairs_append : {X : Type 0} (R : X → X → Type 0) (xs ys : List X) → AllPairs R xs → AllPairs R ys
+    → All (λ x. All (R x) ys) xs → AllPairs R (xs ++ ys)
 pairs_append R [] ys left right across = right
 pairs_append R (x ∷ xs) ys left right across =
-    AllPairs-cons R x (xs ++ ys) (All-append (R x) xs ys (pairs_head R x xs left) (across 0 x (omega arith))) (pairs_append R xs ys (pairs_tail R x xs left) right (λ k d below. across (suc k) d (omega arith)))
+    AllPairs-cons R x (xs ++ ys) (All-append (R x) xs ys (pairs_head R x xs left) (across 0 x (omega arith)))
+    (pairs_append R xs ys (pairs_tail R x xs left) right (λ k d below. across (suc k) d (omega arith)))
 
 all_mapped : {X Y : Type 0} (f : X → Y) (P : Y → Type 0) (xs : List X) → All (λ x. P (f x)) xs → All P (map f xs)
 all_mapped f P [] all = λ k d below. absurd (omega arith)
-all_mapped f P (x ∷ xs) all = All-cons P (f x) (map f xs) (all 0 x (omega arith)) (all_mapped f P xs (λ k d below. all (suc k) d (omega arith)))
+all_mapped f P (x ∷ xs) all = All-cons P (f x) (map f xs) (all 0 x (omega arith))
+    (all_mapped f P xs (λ k d below. all (suc k) d (omega arith)))
 
-pub pairs_map : {X Y : Type 0} (f : X → Y) (R : Y → Y → Type 0) (xs : List X) → AllPairs (λ x y. R (f x) (f y)) xs → AllPairs R (map f xs)
+pub pairs_map : {X Y : Type 0} (f : X → Y) (R : Y → Y → Type 0) (xs : List X) → AllPairs (λ x y. R (f x) (f y)) xs
+    → AllPairs R (map f xs)
 pairs_map f R [] h = λ i j d less below. absurd (omega arith)
-pairs_map f R (x ∷ xs) h = AllPairs-cons R (f x) (map f xs) (all_mapped f (R (f x)) xs (pairs_head (λ x y. R (f x) (f y)) x xs h)) (pairs_map f R xs (pairs_tail (λ x y. R (f x) (f y)) x xs h))
+pairs_map f R (x ∷ xs) h = AllPairs-cons R (f x) (map f xs)
+    (all_mapped f (R (f x)) xs (pairs_head (λ x y. R (f x) (f y)) x xs h))
+    (pairs_map f R xs (pairs_tail (λ x y. R (f x) (f y)) x xs h))

@@ -29,7 +29,8 @@ module _ (s : State) (h : ℕ → ℕ) (holders : Holders s h) (x : ℕ) where
   there (SpotInQueue o i) is = is
 
   -- what stands in a queue stands in the queue of its one holder
-  holder_is : (w o i : ℕ) (l : Option Ledger) → held (of s w).ledgers o ≡ l → option_map slot_of (slice_get (queue_of l) i) ≡ Some x → w ≡ h o
+  holder_is : (w o i : ℕ) (l : Option Ledger) → held (of s w).ledgers o ≡ l
+      → option_map slot_of (slice_get (queue_of l) i) ≡ Some x → w ≡ h o
   holder_is w o i None is at = absurd (none-some x at)
   holder_is w o i (Some l) is at = holders.only w o (ap is_some is)
 
@@ -42,7 +43,9 @@ module _ (s : State) (h : ℕ → ℕ) (holders : Holders s h) (x : ℕ) where
       back (OnPath path) is = ap place_of (once.only (SpotOnPath path) is)
       back (InQueue w o i) is =
           let here = holder_is w o i (held (of s w).ledgers o) refl is in
-          ap (λ (y : ℕ). InQueue y o i) here ∙ ap place_of (once.only (SpotInQueue o i) (ap (λ (y : ℕ). option_map slot_of (slice_get (queue_of (held (of s y).ledgers o)) i)) (sym here) ∙ is))
+          ap (λ (y : ℕ). InQueue y o i) here ∙ ap place_of
+          (once.only (SpotInQueue o i) (ap (λ (y : ℕ). option_map slot_of
+          (slice_get (queue_of (held (of s y).ledgers o)) i)) (sym here) ∙ is))
 
 pub lawful_places : (s : State) → IsLawful s → EachSlotInOnePlace s
 lawful_places s l x some inside = one_place s l.holder l.law.holders x (l.law.tree.places x some inside)

@@ -30,16 +30,21 @@ abbrev opened : Layout → Picture
 opened L = view (start L).memory (newcomer L) (λ o. o)
 
 edge_six : (L : Layout) (x : ℕ) (d : Side) → (opened L).edges (suc (suc (suc (suc (suc (suc x)))))) d ≡ to 0
-edge_six L x d = ap (λ (n : Node). edge_of n d) (repeated (L.nodes - 5) x blank) ∙ each_side (λ e. edge_of blank e ≡ to 0) refl refl d
+edge_six L x d = ap (λ (n : Node). edge_of n d) (repeated (L.nodes - 5) x blank)
+    ∙ each_side (λ e. edge_of blank e ≡ to 0) refl refl d
 
 -- nothing waits in a newcomer's queues
 pub new_queue : (L : Layout) (u o : ℕ) → held_queue (newcomer L u) o ≡ []
 new_queue L u o = elim (ℕ_discrete o u) [
   | yes e ↦ rw e (elim (cases_lt u L.workers) [
-    | inl below ↦ ap queue_of (get_or-set_same (replicate L.workers None) u (Some fresh_ledger) None (let e = length-replicate {A = Option Ledger} L.workers None in omega arith))
-    | inr past ↦ ap (λ ls. queue_of (held ls u)) (set_past (replicate L.workers None) u (Some fresh_ledger) (let e = length-replicate {A = Option Ledger} L.workers None in omega arith)) ∙ ap queue_of (none_held L.workers u)
+    | inl below ↦ ap queue_of (get_or-set_same (replicate L.workers None) u (Some fresh_ledger) None
+        (let e = length-replicate {A = Option Ledger} L.workers None in omega arith))
+    | inr past ↦ ap (λ ls. queue_of (held ls u)) (set_past (replicate L.workers None) u (Some fresh_ledger)
+        (let e = length-replicate {A = Option Ledger} L.workers None in omega arith))
+        ∙ ap queue_of (none_held L.workers u)
   ])
-  | no ne ↦ ap queue_of (get_or-set_other (replicate L.workers None) u o (Some fresh_ledger) None ne ∙ none_held L.workers o)
+  | no ne ↦ ap queue_of (get_or-set_other (replicate L.workers None) u o (Some fresh_ledger) None ne
+      ∙ none_held L.workers o)
 ]
 
 module _ (L : Layout) (enough : 5 ≤ L.nodes) where
@@ -50,15 +55,20 @@ module _ (L : Layout) (enough : 5 ≤ L.nodes) where
   no_queue o i x h = none-some x (sym (ap (λ q. queued_at q i) (new_queue L o o)) ∙ h)
 
   null : (x : ℕ) (d : Side) → x ≢ 1 → x ≢ 2 → P.edges x d ≡ to 0
-  null = each_slot (λ x. (d : Side) → x ≢ 1 → x ≢ 2 → P.edges x d ≡ to 0) (each_side _ (λ a b. refl) (λ a b. refl)) (λ d a b. absurd (a refl)) (λ d a b. absurd (b refl))
-      (each_side _ (λ a b. refl) (λ a b. refl)) (each_side _ (λ a b. refl) (λ a b. refl)) (each_side _ (λ a b. refl) (λ a b. refl)) (λ x d a b. edge_six L x d)
+  null = each_slot (λ x. (d : Side) → x ≢ 1 → x ≢ 2 → P.edges x d ≡ to 0) (each_side _ (λ a b. refl) (λ a b. refl))
+      (λ d a b. absurd (a refl)) (λ d a b. absurd (b refl))
+      (each_side _ (λ a b. refl) (λ a b. refl)) (each_side _ (λ a b. refl) (λ a b. refl))
+      (each_side _ (λ a b. refl) (λ a b. refl)) (λ x d a b. edge_six L x d)
 
   -- what holds of a null edge and of the edges of slots 1 and 2 holds of each
-  each_edge : (Q : Edge → Type 0) → Q (to 0) → ((d : Side) → Q (P.edges 1 d)) → ((d : Side) → Q (P.edges 2 d)) → (x : ℕ) (d : Side) → Q (P.edges x d)
+  each_edge : (Q : Edge → Type 0) → Q (to 0) → ((d : Side) → Q (P.edges 1 d)) → ((d : Side) → Q (P.edges 2 d))
+      → (x : ℕ) (d : Side) → Q (P.edges x d)
   each_edge Q none one two (suc zero) d = one d
   each_edge Q none one two (suc (suc zero)) d = two d
-  each_edge Q none one two zero d = subst Q (sym (null zero d (λ h. absurd (omega arith)) (λ h. absurd (omega arith)))) none
-  each_edge Q none one two (suc (suc (suc x))) d = subst Q (sym (null (suc (suc (suc x))) d (λ h. absurd (omega arith)) (λ h. absurd (omega arith)))) none
+  each_edge Q none one two zero d = subst Q (sym (null zero d (λ h. absurd (omega arith))
+      (λ h. absurd (omega arith)))) none
+  each_edge Q none one two (suc (suc (suc x))) d = subst Q
+      (sym (null (suc (suc (suc x))) d (λ h. absurd (omega arith)) (λ h. absurd (omega arith)))) none
 
   pub plain : (x : ℕ) (d : Side) → (P.edges x d).flag ≡ false
   plain = each_edge (λ e. e.flag ≡ false) refl (each_side _ refl refl) (each_side _ refl refl)
@@ -67,10 +77,12 @@ module _ (L : Layout) (enough : 5 ≤ L.nodes) where
   untagged = each_edge (λ e. e.tag ≡ false) refl (each_side _ refl refl) (each_side _ refl refl)
 
   low : (x : ℕ) (d : Side) → below P x d ≤ 5
-  low = each_edge (λ e. e.slot ≤ 5) (omega arith) (each_side _ (omega arith) (omega arith)) (each_side _ (omega arith) (omega arith))
+  low = each_edge (λ e. e.slot ≤ 5) (omega arith) (each_side _ (omega arith) (omega arith))
+      (each_side _ (omega arith) (omega arith))
 
   nothing : (q : List Side) → follow (below P) 0 q ≡ 0
-  nothing q = follow_none (below P) (λ d. ap (λ (e : Edge). e.slot) (null 0 d (λ h. absurd (omega arith)) (λ h. absurd (omega arith)))) q
+  nothing q = follow_none (below P) (λ d. ap (λ (e : Edge). e.slot)
+      (null 0 d (λ h. absurd (omega arith)) (λ h. absurd (omega arith)))) q
 
   abbrev the_path : ℕ → List Side
   the_path (suc (suc zero)) = Left ∷ []
@@ -109,7 +121,12 @@ module _ (L : Layout) (enough : 5 ≤ L.nodes) where
       each (InQueue u i) h = absurd (no_queue u i x h)
 
   pooled : (x : ℕ) → suc (suc (suc (suc (suc (suc x))))) ≤ L.nodes → Once P (suc (suc (suc (suc (suc (suc x))))))
-  pooled x inside = record { place = InPool; here = get_or-replicate (L.nodes - 5) x true false (omega arith); only = each }
+  pooled x inside = record {
+    place = InPool;
+    here = get_or-replicate (L.nodes - 5) x true false (omega arith);
+    only =
+        each;
+  }
     where
       each : (q : SeekRecord) → Stands P (suc (suc (suc (suc (suc (suc x)))))) q → q ≡ InPool
       each InPool h = refl
@@ -118,26 +135,35 @@ module _ (L : Layout) (enough : 5 ≤ L.nodes) where
       each (InQueue u i) h = absurd (no_queue u i _ h)
 
   places : (x : ℕ) → x ≢ 0 → x ≤ L.nodes → Once P x
-  places = each_slot (λ x. x ≢ 0 → x ≤ L.nodes → Once P x) (λ some inside. absurd (some refl)) (λ some inside. fixed 1 some refl refl) (λ some inside. fixed 2 some refl refl)
-      (λ some inside. fixed 3 some refl refl) (λ some inside. fixed 4 some refl refl) (λ some inside. fixed 5 some refl refl) (λ x some inside. pooled x inside)
+  places = each_slot (λ x. x ≢ 0 → x ≤ L.nodes → Once P x) (λ some inside. absurd (some refl))
+      (λ some inside. fixed 1 some refl refl) (λ some inside. fixed 2 some refl refl)
+      (λ some inside. fixed 3 some refl refl) (λ some inside. fixed 4 some refl refl)
+      (λ some inside. fixed 5 some refl refl) (λ x some inside. pooled x inside)
 
   pool_range : (x : ℕ) → P.pool x ≡ true → (6 ≤ x) × (x ≤ L.nodes)
   pool_range = each_slot (λ x. P.pool x ≡ true → (6 ≤ x) × (x ≤ L.nodes)) out out out out out out
-      (λ x h. (omega arith, elim (cases_lt x (L.nodes - 5)) [ inl lt ↦ omega arith | inr past ↦ absurd (true≢false (sym h ∙ over x past)) ]))
+      (λ x h. (
+        omega arith,
+        elim (cases_lt x (L.nodes - 5))
+            [ inl lt ↦ omega arith | inr past ↦ absurd (true≢false (sym h ∙ over x past)) ],
+      ))
     where
       out : {x : ℕ} → false ≡ true → (6 ≤ x) × (x ≤ L.nodes)
       out h = absurd (true≢false (sym h))
 
       over : (x : ℕ) → L.nodes - 5 ≤ x → get_or (replicate (L.nodes - 5) true) x false ≡ false
-      over x past = get_or_past (replicate (L.nodes - 5) true) x false (let n = length-replicate (L.nodes - 5) true in omega arith)
+      over x past = get_or_past (replicate (L.nodes - 5) true) x false
+          (let n = length-replicate (L.nodes - 5) true in omega arith)
 
   twin : (x : ℕ) (d : Side) → below P x d ≡ 0 → below P x (other d) ≡ 0
   twin (suc zero) Left h = absurd (omega arith)
   twin (suc zero) Right h = absurd (omega arith)
   twin (suc (suc zero)) Left h = absurd (omega arith)
   twin (suc (suc zero)) Right h = absurd (omega arith)
-  twin zero d h = ap (λ (e : Edge). e.slot) (null zero (other d) (λ h. absurd (omega arith)) (λ h. absurd (omega arith)))
-  twin (suc (suc (suc x))) d h = ap (λ (e : Edge). e.slot) (null (suc (suc (suc x))) (other d) (λ h. absurd (omega arith)) (λ h. absurd (omega arith)))
+  twin zero d h = ap (λ (e : Edge). e.slot) (null zero (other d) (λ h. absurd (omega arith))
+      (λ h. absurd (omega arith)))
+  twin (suc (suc (suc x))) d h = ap (λ (e : Edge). e.slot)
+      (null (suc (suc (suc x))) (other d) (λ h. absurd (omega arith)) (λ h. absurd (omega arith)))
 
   unread_none : (d : Side) (e : Edge) → read_on unread d ≡ Some e → ⊥
   unread_none Left e h = none-some e h
@@ -176,4 +202,5 @@ module _ (L : Layout) (enough : 5 ≤ L.nodes) where
   }
 
   pub tree_start : TreeLaw L.nodes (picture (start L) (λ o. o))
-  tree_start = subst (λ (kn : ℕ → Knowledge). TreeLaw L.nodes (view (start L).memory kn (λ o. o))) (fun_ext (λ u. sym (all_new L u))) opened_law
+  tree_start = subst (λ (kn : ℕ → Knowledge). TreeLaw L.nodes (view (start L).memory kn (λ o. o)))
+      (fun_ext (λ u. sym (all_new L u))) opened_law

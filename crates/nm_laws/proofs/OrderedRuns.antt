@@ -53,7 +53,8 @@ alike_take (suc i) (x ∷ xs) [] a = absurd a
 alike_take (suc i) (x ∷ xs) (y ∷ ys) a = (a.0, alike_take i xs ys a.1)
 
 -- a refused turn cuts nothing, whoever made it
-cut_by_turn : (w : ℕ) (x y : Turn) → AlikeTurn x y → cond (x.worker == w) (nodes_cut_of x.outcome) [] ≡ cond (y.worker == w) (nodes_cut_of y.outcome) []
+cut_by_turn : (w : ℕ) (x y : Turn) → AlikeTurn x y
+    → cond (x.worker == w) (nodes_cut_of x.outcome) [] ≡ cond (y.worker == w) (nodes_cut_of y.outcome) []
 cut_by_turn w x y (Same e) = ap (λ (t : Turn). cond (t.worker == w) (nodes_cut_of t.outcome) []) e
 cut_by_turn w x y (BothRefused q r a b) = rw (a, b) (nothing (x.worker == w) ∙ sym (nothing (y.worker == w)))
   where
@@ -87,7 +88,8 @@ none_departs (LeaveWith answer) q = refl
 none_departs e q = refl
 
 none_leaves : (w : ℕ) (t : Turn) (q : Refused) → t.outcome ≡ Err q → leaves w t ≡ false
-none_leaves w t q is = ap (λ (b : Bool). (t.worker == w) && b) (ap (departs t.event) is ∙ none_departs t.event q) ∙ never (t.worker == w)
+none_leaves w t q is = ap (λ (b : Bool). (t.worker == w) && b) (ap (departs t.event) is ∙ none_departs t.event q)
+    ∙ never (t.worker == w)
   where
     never : (b : Bool) → (b && false) ≡ false
     never true = refl
@@ -117,11 +119,20 @@ record Split (xs first : List Turn) (turn : Turn) (rest : List Turn) : Type 0 wh
   alike_here : AlikeTurn here turn
   alike_behind : Alike behind rest
 
-split_alike : (xs first : List Turn) (turn : Turn) (rest : List Turn) → Alike xs (first ++ turn ∷ rest) → Split xs first turn rest
+split_alike : (xs first : List Turn) (turn : Turn) (rest : List Turn) → Alike xs (first ++ turn ∷ rest)
+    → Split xs first turn rest
 unfolding Alike
 split_alike [] [] turn rest a = absurd a
 split_alike [] (y ∷ ys) turn rest a = absurd a
-split_alike (x ∷ xs) [] turn rest a = record { before = []; here = x; behind = xs; all = refl; alike_before = tt; alike_here = a.0; alike_behind = a.1 }
+split_alike (x ∷ xs) [] turn rest a = record {
+  before = [];
+  here = x;
+  behind = xs;
+  all = refl;
+  alike_before = tt;
+  alike_here = a.0;
+  alike_behind = a.1;
+}
 split_alike (x ∷ xs) (y ∷ ys) turn rest a =
     let s = split_alike xs ys turn rest a.1 in
     record {
@@ -138,8 +149,11 @@ module _ (states : ℕ → State) (xs ys : List Turn) (a : Alike xs ys) where
   lawful_alike : IsLawfulRun states xs → IsLawfulRun states ys
   lawful_alike law = record {
     each = law.each;
-    growing = λ i w v origin l m is is'. law.growing i w v origin l m is is' ∙ ap (λ (ns : List NodeId). l.retired ++ ns) (same_cuts origin (take i xs) (take i ys) (alike_take i xs ys a));
-    freed = λ i w v origin l m is is'. law.freed i w v origin l m is is' ∙ ap (λ (ns : List NodeId). l.freed ++ filter (is_among m.retired) ns) (same_frees (take i xs) (take i ys) (alike_take i xs ys a));
+    growing = λ i w v origin l m is is'. law.growing i w v origin l m is is'
+        ∙ ap (λ (ns : List NodeId). l.retired ++ ns) (same_cuts origin (take i xs) (take i ys) (alike_take i xs ys a));
+    freed = λ i w v origin l m is is'. law.freed i w v origin l m is is'
+        ∙ ap (λ (ns : List NodeId). l.freed ++ filter (is_among m.retired) ns)
+        (same_frees (take i xs) (take i ys) (alike_take i xs ys a));
   }
 
   grace_alike : GraceInRun states xs → GraceInRun states ys
@@ -147,7 +161,8 @@ module _ (states : ℕ → State) (xs ys : List Turn) (a : Alike xs ys) where
       let s = split_alike xs first cut (between ++ free ∷ rest) (subst (λ (zs : List Turn). Alike xs zs) all a) in
       let t = split_alike s.behind between free rest s.alike_behind in
       left_alike w t.before between t.alike_before
-      (law s.before t.before t.behind s.here t.here ns n w e (s.all ∙ ap (λ (zs : List Turn). s.before ++ s.here ∷ zs) t.all)
+      (law s.before t.before t.behind s.here t.here ns n w e
+      (s.all ∙ ap (λ (zs : List Turn). s.before ++ s.here ∷ zs) t.all)
       (same_reply s.here cut (Cut ns) s.alike_here cuts) there (same_reply t.here free (Freed n) t.alike_here frees)
       (subst (λ (i : ℕ). (of (states i) w).brief.pin ≡ Some e) (sym (same_length s.before first s.alike_before)) pin))
 
@@ -184,7 +199,8 @@ stand_ins c (t ∷ ts) = stand_in c t ∷ stand_ins (next_in c t) ts
 -- what is left, and how it is told
 record StandsIn (c : Configuration) (t x : ℕ × Event) : Type 0 where
   leads : next c.state x ≡ (next_in c t).state
-  is_told : AlikeTurn (record { worker = x.0; event = x.1; outcome = outcome c.state x }) (record { worker = t.0; event = t.1; outcome = outcome_in c t })
+  is_told : AlikeTurn (record { worker = x.0; event = x.1; outcome = outcome c.state x })
+      (record { worker = t.0; event = t.1; outcome = outcome_in c t })
 
 stands_in : (c : Configuration) (t : ℕ × Event) → StandsIn c t (stand_in c t)
 stands_in c t = go (refused_in c t.0 t.1) refl
@@ -196,24 +212,40 @@ stands_in c t = go (refused_in c t.0 t.1) refl
     })
     go None is = rw is (record {
       leads = allowed_state c t is;
-      is_told = Same (λ i. record { worker = t.0; event = t.1; outcome = (state_outcome c t is ∙ sym (allowed_outcome c t is)) i });
+      is_told = Same (λ i. record {
+        worker = t.0;
+        event = t.1;
+        outcome =
+            (state_outcome c t is ∙ sym (allowed_outcome c t is)) i;
+      });
     })
 
-same_states : (i : ℕ) (c : Configuration) (ts : List (ℕ × Event)) → after c.state (take i (stand_ins c ts)) ≡ (after_in c (take i ts)).state
+same_states : (i : ℕ) (c : Configuration) (ts : List (ℕ × Event))
+    → after c.state (take i (stand_ins c ts)) ≡ (after_in c (take i ts)).state
 unfolding after after_in stand_ins
 same_states zero c ts = refl
 same_states (suc i) c [] = refl
-same_states (suc i) c (t ∷ ts) = ap (λ (s : State). after s (take i (stand_ins (next_in c t) ts))) (stands_in c t).leads ∙ same_states i (next_in c t) ts
+same_states (suc i) c (t ∷ ts) = ap (λ (s : State). after s (take i (stand_ins (next_in c t) ts)))
+    (stands_in c t).leads ∙ same_states i (next_in c t) ts
 
 alike_traces : (c : Configuration) (ts : List (ℕ × Event)) → Alike (trace c.state (stand_ins c ts)) (trace_in c ts)
 unfolding trace trace_in stand_ins Alike
 alike_traces c [] = tt
-alike_traces c (t ∷ ts) = ((stands_in c t).is_told, subst (λ (s : State). Alike (trace s (stand_ins (next_in c t) ts)) (trace_in (next_in c t) ts)) (sym (stands_in c t).leads) (alike_traces (next_in c t) ts))
+alike_traces c (t ∷ ts) = (
+  (stands_in c t).is_told,
+  subst
+      (λ (s : State). Alike (trace s (stand_ins (next_in c t) ts)) (trace_in (next_in c t) ts))
+      (sym (stands_in c t).leads) (alike_traces (next_in c t) ts),
+)
 
-pub lawful_run_in : (c : Configuration) → IsReached c → (ts : List (ℕ × Event)) → IsLawfulRun (λ i. (after_in c (take i ts)).state) (trace_in c ts)
+pub lawful_run_in : (c : Configuration) → IsReached c → (ts : List (ℕ × Event))
+    → IsLawfulRun (λ i. (after_in c (take i ts)).state) (trace_in c ts)
 lawful_run_in c r ts = subst (λ (states : ℕ → State). IsLawfulRun states (trace_in c ts)) (λ j i. same_states i c ts j)
-    (lawful_alike (λ i. after c.state (take i (stand_ins c ts))) (trace c.state (stand_ins c ts)) (trace_in c ts) (alike_traces c ts) (lawful_run c.state (reached_state c r) (stand_ins c ts)))
+    (lawful_alike (λ i. after c.state (take i (stand_ins c ts))) (trace c.state (stand_ins c ts)) (trace_in c ts)
+    (alike_traces c ts) (lawful_run c.state (reached_state c r) (stand_ins c ts)))
 
-pub grace_in : (c : Configuration) → IsReached c → (ts : List (ℕ × Event)) → GraceInRun (λ i. (after_in c (take i ts)).state) (trace_in c ts)
+pub grace_in : (c : Configuration) → IsReached c → (ts : List (ℕ × Event))
+    → GraceInRun (λ i. (after_in c (take i ts)).state) (trace_in c ts)
 grace_in c r ts = subst (λ (states : ℕ → State). GraceInRun states (trace_in c ts)) (λ j i. same_states i c ts j)
-    (grace_alike (λ i. after c.state (take i (stand_ins c ts))) (trace c.state (stand_ins c ts)) (trace_in c ts) (alike_traces c ts) (grace c.state (reached_state c r) (stand_ins c ts)))
+    (grace_alike (λ i. after c.state (take i (stand_ins c ts))) (trace c.state (stand_ins c ts)) (trace_in c ts)
+    (alike_traces c ts) (grace c.state (reached_state c r) (stand_ins c ts)))

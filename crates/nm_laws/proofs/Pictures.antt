@@ -66,10 +66,22 @@ pub record IsOnPath (P : Picture) (x : ℕ) : Type 0 where
   pub is_slot : x ≢ 0
 
 pub on_path : (P : Picture) (x : ℕ) (e : Side) → IsOnPath P x → below P x e ≢ 0 → IsOnPath P (below P x e)
-on_path P x e r n = record { path = r.path ++ e ∷ []; ends = follow-append (below P) 1 r.path (e ∷ []) ∙ ap (λ (z : ℕ). below P z e) r.ends; is_slot = n }
+on_path P x e r n = record {
+  path = r.path ++ e ∷ [];
+  ends = follow-append (below P) 1 r.path (e ∷ [])
+      ∙ ap (λ (z : ℕ). below P z e) r.ends;
+  is_slot = n;
+}
 
 pub in_reach : (P : Picture) (u x : ℕ) (e : Side) → InReach P u x → below P x e ≢ 0 → InReach P u (below P x e)
-in_reach P u x e r n = record { from = r.from; known = r.known; path = r.path ++ e ∷ []; ends = follow-append (below P) r.from r.path (e ∷ []) ∙ ap (λ (z : ℕ). below P z e) r.ends; is_slot = n }
+in_reach P u x e r n = record {
+  from = r.from;
+  known = r.known;
+  path = r.path ++ e
+      ∷ [];
+  ends = follow-append (below P) r.from r.path (e ∷ []) ∙ ap (λ (z : ℕ). below P z e) r.ends;
+  is_slot = n;
+}
 
 pub record TreeLaw (N : ℕ) (P : Picture) : Type 0 where
   pub room : 5 ≤ N
@@ -88,26 +100,38 @@ pub record TreeLaw (N : ℕ) (P : Picture) : Type 0 where
   pub twins : (x : ℕ) (d : Side) → IsLive P x → below P x d ≡ 0 → below P x (other d) ≡ 0
   pub flags : (x : ℕ) (d : Side) → IsLive P x → (P.edges x d).flag ≡ true → 6 ≤ below P x d
   pub frozen : (x : ℕ) (d : Side) → IsLive P x → (P.edges x d).tag ≡ true → (P.edges x (other d)).flag ≡ true
-  pub queued : (u i x : ℕ) (d : Side) → P.queue u i ≡ Some x → below P x d ≢ 0 → ((P.edges x d).flag || (P.edges x d).tag) ≡ true
+  pub queued : (u i x : ℕ) (d : Side) → P.queue u i ≡ Some x → below P x d ≢ 0
+      → ((P.edges x d).flag || (P.edges x d).tag) ≡ true
   -- a flagged edge leads to a leaf, from where somebody may come
-  pub leaf_reached : (q : List Side) (d : Side) → (P.edges (follow (below P) 1 q) d).flag ≡ true → (f : Side) → below P (below P (follow (below P) 1 q) d) f ≡ 0
-  pub leaf_known : (u x : ℕ) (d : Side) → InReach P u x → (P.edges x d).flag ≡ true → (f : Side) → below P (below P x d) f ≡ 0
+  pub leaf_reached : (q : List Side) (d : Side) → (P.edges (follow (below P) 1 q) d).flag ≡ true → (f : Side)
+      → below P (below P (follow (below P) 1 q) d) f ≡ 0
+  pub leaf_known : (u x : ℕ) (d : Side) → InReach P u x → (P.edges x d).flag ≡ true → (f : Side)
+      → below P (below P x d) f ≡ 0
   pub guarded : (u x : ℕ) → InReach P u x → IsLive P x
   pub unlate : (u x v i : ℕ) → InReach P u x → P.queue v i ≡ Some x → P.late u v i ≡ false
   -- what is known is so
   pub reads : (u x : ℕ) (d : Side) (e : Edge) → P.read u x d ≡ Some e → P.knows u x ≡ true
-  pub flag_read : (u x : ℕ) (d : Side) (e : Edge) → P.read u x d ≡ Some e → e.flag ≡ true → ((P.edges x d).flag ≡ true) × (below P x d ≡ e.slot)
+  pub flag_read : (u x : ℕ) (d : Side) (e : Edge) → P.read u x d ≡ Some e → e.flag ≡ true
+      → ((P.edges x d).flag ≡ true) × (below P x d ≡ e.slot)
   pub tag_read : (u x : ℕ) (d : Side) (e : Edge) → P.read u x d ≡ Some e → e.tag ≡ true → P.edges x d ≡ e
   pub null_read : (u x : ℕ) (d : Side) (e : Edge) → P.read u x d ≡ Some e → e.slot ≡ 0 → below P x d ≡ 0
   pub drafts : (u x : ℕ) (d : Side) (v : ℕ) → P.drafted u x d ≡ Some v → (P.private u x ≡ true) × (P.edges x d ≡ to v)
 
 -- ---- places
 
-pub same_place : (P Q : Picture) (x : ℕ) → ((q : SeekRecord) → Stands P x q → Stands Q x q) → ((q : SeekRecord) → Stands Q x q → Stands P x q) → Once P x → Once Q x
-same_place P Q x there back once = record { place = once.place; here = there once.place once.here; only = λ q h. once.only q (back q h) }
+pub same_place : (P Q : Picture) (x : ℕ) → ((q : SeekRecord) → Stands P x q → Stands Q x q)
+    → ((q : SeekRecord) → Stands Q x q → Stands P x q) → Once P x → Once Q x
+same_place P Q x there back once = record {
+  place = once.place;
+  here = there once.place once.here;
+  only = λ q h.
+      once.only q (back q h);
+}
 
 -- pool, hands and queues have the slot as before, and each path leads where it led
-pub same_ways : (P Q : Picture) (x : ℕ) → Q.pool x ≡ P.pool x → ((u : ℕ) → Q.private u x ≡ P.private u x) → ((u i : ℕ) → Q.queue u i ≡ P.queue u i) → ((q : List Side) → follow (below Q) 1 q ≡ follow (below P) 1 q) → Once P x → Once Q x
+pub same_ways : (P Q : Picture) (x : ℕ) → Q.pool x ≡ P.pool x → ((u : ℕ) → Q.private u x ≡ P.private u x)
+    → ((u i : ℕ) → Q.queue u i ≡ P.queue u i) → ((q : List Side) → follow (below Q) 1 q ≡ follow (below P) 1 q)
+    → Once P x → Once Q x
 same_ways P Q x pool private queue path = same_place P Q x there back
   where
     there : (q : SeekRecord) → Stands P x q → Stands Q x q
@@ -123,7 +147,8 @@ same_ways P Q x pool private queue path = same_place P Q x there back
     back (InQueue u i) h = sym (queue u i) ∙ h
 
 -- it goes from old to new, and stood nowhere else
-pub new_place : (P Q : Picture) (x : ℕ) (old new : SeekRecord) → Stands P x old → Stands Q x new → ((q : SeekRecord) → Stands Q x q → (q ≡ new) ⊎ (Stands P x q × (q ≢ old))) → Once P x → Once Q x
+pub new_place : (P Q : Picture) (x : ℕ) (old new : SeekRecord) → Stands P x old → Stands Q x new
+    → ((q : SeekRecord) → Stands Q x q → (q ≡ new) ⊎ (Stands P x q × (q ≢ old))) → Once P x → Once Q x
 new_place P Q x old new was is each once = record { place = new; here = is; only = λ q h. go q (each q h) }
   where
     go : (q : SeekRecord) → (q ≡ new) ⊎ (Stands P x q × (q ≢ old)) → q ≡ new
@@ -154,13 +179,17 @@ module _ (N : ℕ) (P : Picture) (law : TreeLaw N P) where
 
   -- each slot ends one path at most
   pub alone : (q r : List Side) → follow (below P) 1 q ≢ 0 → follow (below P) 1 q ≡ follow (below P) 1 r → q ≡ r
-  alone q r there same = path_of _ _ (nowhere_else P (follow (below P) 1 q) (OnPath q) (OnPath r) (law.places _ there (reached_within q)) refl (sym same))
+  alone q r there same = path_of _ _ (nowhere_else P (follow (below P) 1 q) (OnPath q) (OnPath r)
+      (law.places _ there (reached_within q)) refl (sym same))
     where
       path_of : (q r : List Side) → OnPath q ≡ OnPath r → q ≡ r
       path_of q r h = cc
 
-  pub path_not_queued : (q : List Side) (u i : ℕ) → follow (below P) 1 q ≢ 0 → P.queue u i ≡ Some (follow (below P) 1 q) → ⊥
-  path_not_queued q u i there h = let e : InQueue u i ≡ OnPath q = nowhere_else P _ (InQueue u i) (OnPath q) (law.places _ there (reached_within q)) h refl in cc
+  pub path_not_queued : (q : List Side) (u i : ℕ) → follow (below P) 1 q ≢ 0
+      → P.queue u i ≡ Some (follow (below P) 1 q) → ⊥
+  path_not_queued q u i there h =
+      let e : InQueue u i ≡ OnPath q = nowhere_else P _ (InQueue u i) (OnPath q)
+      (law.places _ there (reached_within q)) h refl in cc
 
   pub null_below : (d : Side) → below P 0 d ≡ 0
   null_below d = ap (λ (e : Edge). e.slot) (law.nothing d)

@@ -20,7 +20,8 @@ use Rattle.nm_laws.proofs.Epochs.{EpochLaw, epoch_step}
 pub all_new : (L : Layout) (w : ℕ) → of (start L) w ≡ newcomer L w
 all_new L w = elim (cases_lt w L.workers) [
   | inl below ↦ get_or-map-range_with_len (newcomer L) 0 L.workers w w (newcomer L w) below (omega arith)
-  | inr past ↦ get_or_past _ w (newcomer L w) (let e = length-map-range_with_len (newcomer L) 0 L.workers in omega arith)
+  | inr past ↦ get_or_past _ w (newcomer L w) (let e = length-map-range_with_len (newcomer L) 0 L.workers in
+      omega arith)
 ]
 
 pub epoch_start : (L : Layout) → EpochLaw (start L)

@@ -23,7 +23,8 @@ pub reachable_after : (s : State) → IsReachable s → (ts : List (ℕ × Event
 reachable_after s r ts = record {
   fits = rw (layout_kept s ts) r.fits;
   events = r.events ++ ts;
-  leads = ap (λ (L : Layout). after (start L) (r.events ++ ts)) (layout_kept s ts) ∙ (after-append (start s.layout) r.events ts ∙ ap (λ (t : State). after t ts) r.leads);
+  leads = ap (λ (L : Layout). after (start L) (r.events ++ ts)) (layout_kept s ts)
+      ∙ (after-append (start s.layout) r.events ts ∙ ap (λ (t : State). after t ts) r.leads);
 }
 
 -- ---- what was retired, over a run from any state
@@ -31,9 +32,12 @@ reachable_after s r ts = record {
 grown : (s : State) → IsLawful s → RetiredGrowsByTheCuts s
 grown s k ts w v o l m is is' =
     let now : Manned s = record { staffed = k.law.staffed; holder = k.holder; holders = k.law.holders } in
-    let run = over_runs (λ o x told. retired_in x ≡ told) (λ s t o before after told step p. retired_step s t o before after step ∙ ap (λ (ns : List NodeId). ns ++ cut_at s t o) p)
+    let run = over_runs (λ o x told. retired_in x ≡ told)
+    (λ s t o before after told step p. retired_step s t o before after step
+    ∙ ap (λ (ns : List NodeId). ns ++ cut_at s t o) p)
     s now ts (λ o. retired_in (ledger_at s k.holder o)) (λ o. refl) in
-    sym (ap retired_in (the_ledger (after s ts) run.0 v o m is')) ∙ (run.1 o ∙ ap (λ (ns : List NodeId). ns ++ cuts_of o (trace s ts)) (ap retired_in (the_ledger s now w o l is)))
+    sym (ap retired_in (the_ledger (after s ts) run.0 v o m is'))
+    ∙ (run.1 o ∙ ap (λ (ns : List NodeId). ns ++ cuts_of o (trace s ts)) (ap retired_in (the_ledger s now w o l is)))
 
 pub retired_grows : OfEachState RetiredGrowsByTheCuts
 retired_grows L enough turns = grown (after (start L) turns) (lawful L enough turns)

@@ -21,7 +21,8 @@ after-append s (t ∷ ts) us = after-append (next s t) ts us
 pub trace-append : (s : State) (ts us : List (ℕ × Event)) → trace s (ts ++ us) ≡ trace s ts ++ trace (after s ts) us
 unfolding after trace
 trace-append s [] us = refl
-trace-append s (t ∷ ts) us = ap (λ (rest : List Turn). record { worker = t.0; event = t.1; outcome = outcome s t } ∷ rest) (trace-append (next s t) ts us)
+trace-append s (t ∷ ts) us = ap (λ (rest : List Turn). record { worker = t.0; event = t.1; outcome = outcome s t }
+    ∷ rest) (trace-append (next s t) ts us)
 
 -- each event leaves the layout
 next-layout : (s : State) (t : ℕ × Event) → (next s t).layout ≡ s.layout
@@ -40,5 +41,6 @@ reachable_next s t r =
     record {
       fits = rw kept r.fits;
       events = r.events ++ t ∷ [];
-      leads = ap (λ (L : Layout). after (start L) (r.events ++ t ∷ [])) kept ∙ after-append (start s.layout) r.events (t ∷ []) ∙ ap (λ (x : State). next x t) r.leads;
+      leads = ap (λ (L : Layout). after (start L) (r.events ++ t ∷ [])) kept
+          ∙ after-append (start s.layout) r.events (t ∷ []) ∙ ap (λ (x : State). next x t) r.leads;
     }

@@ -43,7 +43,14 @@ mapped f grows (a ∷ xs) = (grows a, mapped f grows xs)
 
 keyed_grows : (slot v : ℕ) (a : Arrival) → GrowsTo a (keyed slot v a)
 keyed_grows slot v a = cond_both ((a.slot == slot) && is_none a.key) (record a { key = Some v }) a (GrowsTo a)
-    (λ both. record { slot = refl; parent = refl; side = refl; key = λ u is. absurd (has_none a.key (and_parts (a.slot == slot) (is_none a.key) both).1 u is); ended = λ is. is })
+    (λ both. record {
+      slot = refl;
+      parent = refl;
+      side = refl;
+      key = λ u is. absurd
+          (has_none a.key (and_parts (a.slot == slot) (is_none a.key) both).1 u is);
+      ended = λ is. is;
+    })
     (λ _. same_arrival a)
   where
     has_none : (o : Option ℕ) → is_none o ≡ true → (u : ℕ) → o ≡ Some u → ⊥
@@ -56,12 +63,17 @@ ended_grows k slot side a = cond_both (goes_on k slot side a) (record a { ended 
     (λ _. same_arrival a)
 
 entered : (ws : List Arrival) (slot parent : ℕ) (side : Side) → Grown ws (with_arrival ws slot parent side)
-entered ws slot parent side = cond_both (list_any (is_by slot parent side) ws) ws (ws ++ new_arrival slot parent side ∷ []) (Grown ws) (λ _. unchanged ws) (λ _. same_arrivals ws (new_arrival slot parent side ∷ []))
+entered ws slot parent side = cond_both (list_any (is_by slot parent side) ws) ws
+    (ws ++ new_arrival slot parent side ∷ []) (Grown ws) (λ _. unchanged ws)
+    (λ _. same_arrivals ws (new_arrival slot parent side ∷ []))
 
-edge_grows : (k : ℕ) (ws : List Arrival) (slot : ℕ) (side : Side) (child : ℕ) → Grown ws (walk_edge k ws slot side child)
-edge_grows k ws slot side child = cond_both (child == 0) (map (ended k slot side) ws) (cond (is_first slot side || list_any (goes_on k slot side) ws) (with_arrival ws child slot side) ws) (Grown ws)
+edge_grows : (k : ℕ) (ws : List Arrival) (slot : ℕ) (side : Side) (child : ℕ)
+    → Grown ws (walk_edge k ws slot side child)
+edge_grows k ws slot side child = cond_both (child == 0) (map (ended k slot side) ws)
+    (cond (is_first slot side || list_any (goes_on k slot side) ws) (with_arrival ws child slot side) ws) (Grown ws)
     (λ _. mapped (ended k slot side) (ended_grows k slot side) ws)
-    (λ _. cond_both (is_first slot side || list_any (goes_on k slot side) ws) (with_arrival ws child slot side) ws (Grown ws) (λ _. entered ws child slot side) (λ _. unchanged ws))
+    (λ _. cond_both (is_first slot side || list_any (goes_on k slot side) ws) (with_arrival ws child slot side) ws
+    (Grown ws) (λ _. entered ws child slot side) (λ _. unchanged ws))
 
 walked_grows : (k : ℕ) (ws : List Arrival) (slot : ℕ) (f : Field) (r : Reply) → Grown ws (walked k ws slot f r)
 walked_grows k ws slot Key (KeyIs v) = mapped (keyed slot v) (keyed_grows slot v) ws
@@ -69,7 +81,8 @@ walked_grows k ws slot (EdgeOn side) (EdgeIs e) = edge_grows k ws slot side e.sl
 walked_grows k ws slot f r = unchanged ws
 
 -- an arrival of the first list has one in the second that it grew to
-found : (xs bs : List Arrival) → Grown xs bs → (a : Arrival) (i : ℕ) → i < length xs → get_or xs i a ≡ a → (b : Arrival) × Contains bs b × GrowsTo a b
+found : (xs bs : List Arrival) → Grown xs bs → (a : Arrival) (i : ℕ) → i < length xs → get_or xs i a ≡ a
+    → (b : Arrival) × Contains bs b × GrowsTo a b
 found [] bs grown a i below at = absurd (omega (arith, below))
 found (x ∷ xs) [] grown a i below at = absurd grown
 found (x ∷ xs) (y ∷ bs) grown a zero below at = rw (← at) (y, (0, omega arith, refl), grown.0)
@@ -102,12 +115,14 @@ look_grows s slot f r (Some c) = grows s (look_for s (Some c) slot f r) refl (λ
 -- ---- one event
 
 -- a look changes the arrivals alone
-pub look_beside : (s : Search) (o : Option Call) (slot : ℕ) (f : Field) (r : Reply) → look_for s o slot f r ≡ record s { walks = (look_for s o slot f r).walks; later = (look_for s o slot f r).later }
+pub look_beside : (s : Search) (o : Option Call) (slot : ℕ) (f : Field) (r : Reply)
+    → look_for s o slot f r ≡ record s { walks = (look_for s o slot f r).walks; later = (look_for s o slot f r).later }
 look_beside s None slot f r = refl
 look_beside s (Some c) slot f r = refl
 
 -- where a pin is confirmed or left, nothing is known but the call
-pub begun_is : (s : Search) (e : Event) (r : Reply) → begins_anew (e, r) ≡ true → searched s e r ≡ record idle { call = (searched s e r).call }
+pub begun_is : (s : Search) (e : Event) (r : Reply) → begins_anew (e, r) ≡ true
+    → searched s e r ≡ record idle { call = (searched s e r).call }
 unfolding searched
 begun_is s Sight (Pinned n) anew = refl
 begun_is s (SightFor op key) (Pinned n) anew = refl
@@ -117,13 +132,17 @@ begun_is s e r anew = absurd (true≢false (sym anew))
 
 -- what holds after a look, a link, a flag, a splice and a swap, and where the search stays, holds after
 -- each event while the pin stands
-pub search_goes : (P : Event → Reply → Search → Type 0) (s : Search) → ((slot : ℕ) (f : Field) (r : Reply) → P (Look slot f) r (look_for s s.call slot f r))
-    → ((p : ℕ) (side : Side) (leaf new : ℕ) (n : NodeId) → P (Link p side leaf new) (Linked n) (record s { linked = true }))
+pub search_goes : (P : Event → Reply → Search → Type 0) (s : Search)
+    → ((slot : ℕ) (f : Field) (r : Reply) → P (Look slot f) r (look_for s s.call slot f r))
+    → ((p : ℕ) (side : Side) (leaf new : ℕ) (n : NodeId)
+    → P (Link p side leaf new) (Linked n) (record s { linked = true }))
     → ((p : ℕ) (side : Side) (leaf : ℕ) (n : NodeId) → P (Flag p side leaf) (Flagged n) (record s { flagged = Some n }))
-    → ((a : ℕ) (side : Side) (x p : ℕ) (keep : Side) (ns : List NodeId) → P (Splice a side x p keep) (Cut ns) (record s { cut = s.cut || is_flagged_in s.flagged ns }))
+    → ((a : ℕ) (side : Side) (x p : ℕ) (keep : Side) (ns : List NodeId)
+    → P (Splice a side x p keep) (Cut ns) (record s { cut = s.cut || is_flagged_in s.flagged ns }))
     → ((p : ℕ) (side : Side) (leaf new : ℕ) (ns : List NodeId)
     → P (Swap p side leaf new) (Cut ns) (record s { swapped = true }))
-    → ((e : Event) (r : Reply) → P e r s) → (e : Event) (r : Reply) → begins_anew (e, r) ≡ false → P e r (searched s e r)
+    → ((e : Event) (r : Reply) → P e r s) → (e : Event) (r : Reply) → begins_anew (e, r) ≡ false
+    → P e r (searched s e r)
 unfolding searched
 search_goes P s looks links flags splices swaps stays Sight (Pinned n) stands = absurd (true≢false stands)
 search_goes P s looks links flags splices swaps stays (SightFor op key) (Pinned n) stands = absurd (true≢false stands)

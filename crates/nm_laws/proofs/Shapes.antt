@@ -26,12 +26,18 @@ use Rattle.nm_laws.proofs.Held.{length-free, length-taken_over}
 
 -- ---- one worker
 
-length-saw : (k : Knowledge) (e : ℕ) → length (cond (is_number k.brief.seen e) k.scanned (forgotten k.scanned)) ≡ length k.scanned
-length-saw k e = cond_both (is_number k.brief.seen e) k.scanned (forgotten k.scanned) (λ xs. length xs ≡ length k.scanned) (λ _. refl) (λ _. length-replicate _ _)
+length-saw : (k : Knowledge) (e : ℕ) → length (cond (is_number k.brief.seen e) k.scanned (forgotten k.scanned))
+    ≡ length k.scanned
+length-saw k e = cond_both (is_number k.brief.seen e) k.scanned (forgotten k.scanned)
+    (λ xs. length xs ≡ length k.scanned) (λ _. refl) (λ _. length-replicate _ _)
 
 row_sight : (n : ℕ) (k : Knowledge) (r : Reply) → IsRow n k → IsRow n (learn_sight k r)
 row_sight n k (Saw e) h = record { scanned = length-saw k e ∙ h.scanned; ledgers = h.ledgers }
-row_sight n k (Labelled e) h = record { scanned = length-saw k e ∙ h.scanned; ledgers = length-map k.ledgers _ ∙ h.ledgers }
+row_sight n k (Labelled e) h = record {
+  scanned = length-saw k e ∙ h.scanned;
+  ledgers = length-map k.ledgers _
+      ∙ h.ledgers;
+}
 row_sight n k (Pinned e) h = record { scanned = length-saw k e ∙ h.scanned; ledgers = h.ledgers }
 row_sight n k (Missed e) h = record { scanned = length-saw k e ∙ h.scanned; ledgers = h.ledgers }
 row_sight n k _ h = h
@@ -63,20 +69,23 @@ row_learn n w k Advance (Behind e) h = record { scanned = length-replicate _ _ �
 row_learn n w k (Claim s) (Claimed t) h = record { scanned = h.scanned; ledgers = h.ledgers }
 row_learn n w k (Give s) (Returned t) h = record { scanned = h.scanned; ledgers = h.ledgers }
 row_learn n w k (Give s) (Freed m) h = record { scanned = h.scanned; ledgers = length-free k.ledgers m ∙ h.ledgers }
-row_learn n w k (Look s f) r h = cond_both (is_private k s) (look_private k s f r) (look_known k s f r) (IsRow n) (λ _. row_look_private n k s f r h) (λ _. row_look_known n k s f r h)
+row_learn n w k (Look s f) r h = cond_both (is_private k s) (look_private k s f r) (look_known k s f r) (IsRow n)
+    (λ _. row_look_private n k s f r h) (λ _. row_look_known n k s f r h)
 row_learn n w k (Fill s f v) Filled h = record { scanned = h.scanned; ledgers = h.ledgers }
 row_learn n w k (Link p side leaf new) (Linked m) h = record { scanned = h.scanned; ledgers = h.ledgers }
 row_learn n w k (Link p side leaf new) (Lost e) h = record { scanned = h.scanned; ledgers = h.ledgers }
 row_learn n w k (Flag p side leaf) (Flagged m) h = record { scanned = h.scanned; ledgers = h.ledgers }
 row_learn n w k (Flag p side leaf) (Lost e) h = record { scanned = h.scanned; ledgers = h.ledgers }
 row_learn n w k (Tag p side) (Was e) h = record { scanned = h.scanned; ledgers = h.ledgers }
-row_learn n w k (Splice a side s p keep) (Cut ns) h = record { scanned = h.scanned; ledgers = length-set _ _ _ ∙ h.ledgers }
+row_learn n w k (Splice a side s p keep) (Cut ns) h =
+    record { scanned = h.scanned; ledgers = length-set _ _ _ ∙ h.ledgers }
 row_learn n w k (Splice a side s p keep) (Lost e) h = record { scanned = h.scanned; ledgers = h.ledgers }
 row_learn n w k (Swap p side leaf new) (Cut ns) h =
     record { scanned = h.scanned; ledgers = length-set _ _ _ ∙ h.ledgers }
 row_learn n w k (Swap p side leaf new) (Lost e) h = record { scanned = h.scanned; ledgers = h.ledgers }
 row_learn n w k (Join v) (Joined ls) h =
-    cond_both (eqb w v) (record k { ledgers = replicate (length k.ledgers) None; gone = true }) (record k { ledgers = taken_over k.ledgers ls }) (IsRow n)
+    cond_both (eqb w v) (record k { ledgers = replicate (length k.ledgers) None; gone = true })
+    (record k { ledgers = taken_over k.ledgers ls }) (IsRow n)
     (λ _. record { scanned = h.scanned; ledgers = length-replicate _ _ ∙ h.ledgers })
     (λ _. record { scanned = h.scanned; ledgers = length-taken_over k.ledgers ls ∙ h.ledgers })
 row_learn n w k _ _ h = h
@@ -84,9 +93,11 @@ row_learn n w k _ _ h = h
 -- ---- a state
 
 row_of : (s : State) (w : ℕ) → IsShaped s → w < s.layout.workers → IsRow s.layout.workers (of s w)
-row_of s w h there = All-get_or (IsRow s.layout.workers) s.workers w (newcomer s.layout w) (let all = h.workers in omega arith) h.rows
+row_of s w h there = All-get_or (IsRow s.layout.workers) s.workers w (newcomer s.layout w)
+    (let all = h.workers in omega arith) h.rows
 
-shaped_by : (s : State) (w : ℕ) (e : Event) (k : Knowledge) → IsShaped s → IsRow s.layout.workers k → IsShaped (record { layout = s.layout; memory = (applied s w e).memory; workers = set s.workers w k })
+shaped_by : (s : State) (w : ℕ) (e : Event) (k : Knowledge) → IsShaped s → IsRow s.layout.workers k
+    → IsShaped (record { layout = s.layout; memory = (applied s w e).memory; workers = set s.workers w k })
 unfolding applied
 shaped_by s w e k h row =
     let long = written_as_long s.memory (of s w) w e in
@@ -105,16 +116,19 @@ leaver_there s w v h = (is_worker s v (or_parts (v == w) (is_no_worker s v) (pas
 shaped_step : (s : State) (w : ℕ) (e : Event) → IsShaped s → Allowed s w e → IsShaped (applied s w e)
 unfolding applied
 shaped_step s w (Join v) h allowed =
-    let first = shaped_by s w (Join v) _ h (row_learn s.layout.workers w (of s w) (Join v) _ (row_of s w h allowed.worker)) in
+    let first = shaped_by s w (Join v) _ h (row_learn s.layout.workers w (of s w) (Join v) _
+    (row_of s w h allowed.worker)) in
     let n = s.layout.workers in
     record {
       announcements = first.announcements;
       nodes = first.nodes;
       pool = first.pool;
       workers = length-set _ v _ ∙ first.workers;
-      rows = All-set (IsRow n) _ v _ (row_learn n v (of s v) (Join v) _ (row_of s v h (leaver_there s w v allowed.event))) first.rows;
+      rows = All-set (IsRow n) _ v _ (row_learn n v (of s v) (Join v) _
+          (row_of s v h (leaver_there s w v allowed.event))) first.rows;
     }
-shaped_step s w e h allowed = shaped_by s w e _ h (row_learn s.layout.workers w (of s w) e _ (row_of s w h allowed.worker))
+shaped_step s w e h allowed = shaped_by s w e _ h
+    (row_learn s.layout.workers w (of s w) e _ (row_of s w h allowed.worker))
 
 pub row_newcomer : (L : Layout) (w : ℕ) → IsRow L.workers (newcomer L w)
 row_newcomer L w = record { scanned = length-replicate _ _; ledgers = length-set _ _ _ ∙ length-replicate _ _ }
@@ -125,8 +139,10 @@ shaped_start L fits = record {
   nodes = let least = fits.least in let rest = length-replicate (L.nodes - 5) blank in omega arith;
   pool = let least = fits.least in let rest = length-replicate (L.nodes - 5) true in omega arith;
   workers = length-map-range_with_len (newcomer L) 0 L.workers;
-  rows = λ w d there. rw (get_or-map-range_with_len (newcomer L) 0 L.workers w w d (let all = length-map-range_with_len (newcomer L) 0 L.workers in omega arith) (omega arith)) (row_newcomer L w);
+  rows = λ w d there. rw (get_or-map-range_with_len (newcomer L) 0 L.workers w w d
+      (let all = length-map-range_with_len (newcomer L) 0 L.workers in omega arith) (omega arith)) (row_newcomer L w);
 }
 
 pub reachable_shaped : (s : State) → IsReachable s → IsShaped s
-reachable_shaped s r = subst IsShaped r.leads (by_steps IsShaped shaped_step r.events (start s.layout) (shaped_start s.layout r.fits))
+reachable_shaped s r = subst IsShaped r.leads (by_steps IsShaped shaped_step r.events (start s.layout)
+    (shaped_start s.layout r.fits))

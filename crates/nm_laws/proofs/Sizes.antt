@@ -35,7 +35,8 @@ written_as_long m k w Announce = record { announcements = length-set _ w _; node
 written_as_long m k w Leave = record { announcements = length-set _ w _; nodes = refl; pool = refl }
 written_as_long m k w (LeaveWith answer) = record { announcements = length-set _ w _; nodes = refl; pool = refl }
 written_as_long m k w (Scan u) = as_itself m
-written_as_long m k w Advance = cond_both (is_number k.brief.seen m.epoch) (record m { epoch = m.epoch + 1 }) m (λ x. AsLong x m) (λ _. record { announcements = refl; nodes = refl; pool = refl }) (λ _. as_itself m)
+written_as_long m k w Advance = cond_both (is_number k.brief.seen m.epoch) (record m { epoch = m.epoch + 1 }) m
+    (λ x. AsLong x m) (λ _. record { announcements = refl; nodes = refl; pool = refl }) (λ _. as_itself m)
 written_as_long m k w (Claim s) = record { announcements = refl; nodes = refl; pool = length-set _ s _ }
 written_as_long m k w (Give s) = record { announcements = refl; nodes = refl; pool = length-set _ s _ }
 written_as_long m k w (Look s f) = as_itself m

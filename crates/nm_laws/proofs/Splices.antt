@@ -35,17 +35,26 @@ module _ (N : ℕ) (P : Picture) (law : TreeLaw N P) where
       let high = law.flags s (other e) live flag in omega arith
 
   -- a way from a reached slot is frozen
-  pub frozen_way : (q : List Side) (way : List Side) → follow (below P) 1 q ≢ 0 → IsWay P (follow (below P) 1 q) way → IsFrozen (below P) (follow (below P) 1 q) way
+  pub frozen_way : (q : List Side) (way : List Side) → follow (below P) 1 q ≢ 0 → IsWay P (follow (below P) 1 q) way
+      → IsFrozen (below P) (follow (below P) 1 q) way
   frozen_way q [] some w = tt
   frozen_way q (e ∷ way) some w =
       let live = reached_live N P law q some in
-      let next : follow (below P) 1 (q ++ e ∷ []) ≡ below P (follow (below P) 1 q) e = follow-append (below P) 1 q (e ∷ []) in
+      let next : follow (below P) 1 (q ++ e ∷ []) ≡ below P (follow (below P) 1 q) e = follow-append (below P) 1 q
+      (e ∷ []) in
       let slot = onward_slot (follow (below P) 1 q) e live w.1 in
-      let rest = frozen_way (q ++ e ∷ []) way (rw next slot) (rw next w.2) in
-      (some, (λ z. let high = law.flags _ (other e) live w.1 in absurd (omega arith)), law.leaf_reached q (other e) w.1, rw next at rest)
+      let rest = frozen_way (q ++ e ∷ []) way (rw next slot) (rw next w.2) in (
+        some,
+        (λ z. let high = law.flags _ (other e) live w.1 in absurd (omega arith)),
+        law.leaf_reached q (other e)
+            w.1,
+        rw next at rest,
+      )
 
   -- a node on a way from above 5 is above 5: the fixed nodes stand higher
-  pub high_way : (q : List Side) (e : Side) → follow (below P) 1 q ≢ 0 → 6 ≤ follow (below P) 1 q → (P.edges (follow (below P) 1 q) (other e)).flag ≡ true → (f : Side) → (P.edges (below P (follow (below P) 1 q) e) f).flag ≡ true → 6 ≤ below P (follow (below P) 1 q) e
+  pub high_way : (q : List Side) (e : Side) → follow (below P) 1 q ≢ 0 → 6 ≤ follow (below P) 1 q
+      → (P.edges (follow (below P) 1 q) (other e)).flag ≡ true → (f : Side)
+      → (P.edges (below P (follow (below P) 1 q) e) f).flag ≡ true → 6 ≤ below P (follow (below P) 1 q) e
   high_way q e some high flag f on = elim (ℕ_discrete (below P (follow (below P) 1 q) e) 1) [
     | yes one ↦ absurd (not_root one)
     | no n1 ↦ elim (ℕ_discrete (below P (follow (below P) 1 q) e) 2) [
@@ -87,7 +96,8 @@ module _ (N : ℕ) (P : Picture) (law : TreeLaw N P) where
           short (x ∷ []) h high = cc
           short (x ∷ (y ∷ q)) h high = cc
 
-      not_leaf : below P (follow (below P) 1 q) e ≢ 1 → below P (follow (below P) 1 q) e ≢ 2 → below P (follow (below P) 1 q) e < 6 → ⊥
+      not_leaf : below P (follow (below P) 1 q) e ≢ 1 → below P (follow (below P) 1 q) e ≢ 2
+          → below P (follow (below P) 1 q) e < 6 → ⊥
       not_leaf n1 n2 low =
           let n0 : below P (follow (below P) 1 q) e ≢ 0 = slot in
           let none = law.sentinels (below P (follow (below P) 1 q) e) f (omega arith) (omega arith) in
@@ -100,14 +110,16 @@ module _ (N : ℕ) (P : Picture) (law : TreeLaw N P) where
 pub repathed : (P Q : Picture) (x : ℕ)
     → (P.pool x ≡ true → Q.pool x ≡ true) → (Q.pool x ≡ true → P.pool x ≡ true)
     → ((u : ℕ) → P.private u x ≡ true → Q.private u x ≡ true) → ((u : ℕ) → Q.private u x ≡ true → P.private u x ≡ true)
-    → ((u i : ℕ) → P.queue u i ≡ Some x → Q.queue u i ≡ Some x) → ((u i : ℕ) → Q.queue u i ≡ Some x → P.queue u i ≡ Some x)
+    → ((u i : ℕ) → P.queue u i ≡ Some x → Q.queue u i ≡ Some x)
+    → ((u i : ℕ) → Q.queue u i ≡ Some x → P.queue u i ≡ Some x)
     → ((p : List Side) → follow (below P) 1 p ≡ x → (r : List Side) × (follow (below Q) 1 r ≡ x))
     → ((r : List Side) → follow (below Q) 1 r ≡ x → (p : List Side) × (follow (below P) 1 p ≡ x))
     → ((p r : List Side) → follow (below Q) 1 p ≡ x → follow (below Q) 1 r ≡ x → p ≡ r)
     → Once P x → Once Q x
 repathed P Q x pool pool' private private' queue queue' forth came alone once = go once.place once.here once.only
   where
-    stay : (place : SeekRecord) → Stands Q x place → ((p : List Side) → OnPath p ≡ place → ⊥) → ((q : SeekRecord) → Stands P x q → q ≡ place) → Once Q x
+    stay : (place : SeekRecord) → Stands Q x place → ((p : List Side) → OnPath p ≡ place → ⊥)
+        → ((q : SeekRecord) → Stands P x q → q ≡ place) → Once Q x
     stay place here apart only = record { place = place; here = here; only = each }
       where
         each : (q : SeekRecord) → Stands Q x q → q ≡ place
@@ -139,7 +151,8 @@ cut_path (e ∷ way) zero = []
 cut_path (e ∷ way) (suc zero) = other e ∷ []
 cut_path (e ∷ way) (suc (suc j)) = e ∷ cut_path way j
 
-pub cut_at : (c : Children) (way : List Side) (s j x : ℕ) → slice_get (nodes_cut c s way) j ≡ Some x → follow c s (cut_path way j) ≡ x
+pub cut_at : (c : Children) (way : List Side) (s j x : ℕ) → slice_get (nodes_cut c s way) j ≡ Some x
+    → follow c s (cut_path way j) ≡ x
 cut_at c [] s j x h = absurd (none-some x h)
 cut_at c (e ∷ way) s zero x h = same_Some _ x h
 cut_at c (e ∷ way) s (suc zero) x h = same_Some _ x h
@@ -158,7 +171,8 @@ tails h = cc
 nil-cons : (e : Side) (p : List Side) → [] ≡ e ∷ p → ⊥
 nil-cons e p h = cc
 
-pub cut_apart : (c : Children) (way : List Side) (s j k x y : ℕ) → slice_get (nodes_cut c s way) j ≡ Some x → slice_get (nodes_cut c s way) k ≡ Some y → cut_path way j ≡ cut_path way k → j ≡ k
+pub cut_apart : (c : Children) (way : List Side) (s j k x y : ℕ) → slice_get (nodes_cut c s way) j ≡ Some x
+    → slice_get (nodes_cut c s way) k ≡ Some y → cut_path way j ≡ cut_path way k → j ≡ k
 cut_apart c [] s j k x y h i e = absurd (none-some x h)
 cut_apart c (d ∷ way) s zero zero x y h i e = refl
 cut_apart c (d ∷ way) s zero (suc zero) x y h i e = absurd (nil-cons (other d) [] e)
@@ -168,7 +182,8 @@ cut_apart c (d ∷ way) s (suc zero) (suc zero) x y h i e = refl
 cut_apart c (d ∷ way) s (suc zero) (suc (suc k)) x y h i e = absurd (not_itself d (heads e))
 cut_apart c (d ∷ way) s (suc (suc j)) zero x y h i e = absurd (nil-cons d (cut_path way j) (sym e))
 cut_apart c (d ∷ way) s (suc (suc j)) (suc zero) x y h i e = absurd (not_itself d (sym (heads e)))
-cut_apart c (d ∷ way) s (suc (suc j)) (suc (suc k)) x y h i e = ap (λ (n : ℕ). suc (suc n)) (cut_apart c way (c s d) j k x y h i (tails e))
+cut_apart c (d ∷ way) s (suc (suc j)) (suc (suc k)) x y h i e = ap (λ (n : ℕ). suc (suc n))
+    (cut_apart c way (c s d) j k x y h i (tails e))
 
 pub among_at : (xs : List ℕ) (x : ℕ) → among xs x ≡ true → (j : ℕ) × (slice_get xs j ≡ Some x)
 among_at [] x h = absurd (true≢false (sym h))
@@ -184,7 +199,8 @@ at_among (y ∷ xs) x (suc j) h = or_right (eqb x y) (among xs x) (at_among xs x
 
 -- ---- what is shared and isn't queued is reached
 
-pub live_on_path : (N : ℕ) (P : Picture) (x : ℕ) → TreeLaw N P → IsLive P x → x ≢ 0 → x ≤ N → ((u i : ℕ) → P.queue u i ≡ Some x → ⊥) → IsOnPath P x
+pub live_on_path : (N : ℕ) (P : Picture) (x : ℕ) → TreeLaw N P → IsLive P x → x ≢ 0 → x ≤ N
+    → ((u i : ℕ) → P.queue u i ≡ Some x → ⊥) → IsOnPath P x
 live_on_path N P x law live some inside unqueued = go (law.places x some inside).place (law.places x some inside).here
   where
     go : (p : SeekRecord) → Stands P x p → IsOnPath P x
@@ -194,7 +210,8 @@ live_on_path N P x law live some inside unqueued = go (law.places x some inside)
     go (InQueue u i) h = absurd (unqueued u i h)
 
 -- a node with an unmarked edge to a slot isn't queued
-pub unmarked_not_queued : (N : ℕ) (P : Picture) (x : ℕ) (d : Side) (s : ℕ) → TreeLaw N P → P.edges x d ≡ to s → s ≢ 0 → (u i : ℕ) → P.queue u i ≡ Some x → ⊥
+pub unmarked_not_queued : (N : ℕ) (P : Picture) (x : ℕ) (d : Side) (s : ℕ) → TreeLaw N P → P.edges x d ≡ to s → s ≢ 0
+    → (u i : ℕ) → P.queue u i ≡ Some x → ⊥
 unmarked_not_queued N P x d s law edge some u i h =
     let marked = law.queued u i x d h (λ z. some (sym (ap (λ (e : Edge). e.slot) edge) ∙ z)) in
     true≢false (sym marked ∙ ap (λ (e : Edge). e.flag || e.tag) edge)
@@ -229,7 +246,8 @@ pub record IsSplice (N : ℕ) (P : Picture) (w n a : ℕ) (d : Side) (way : List
   pub flag_leaf : e.flag ≡ true → (f : Side) → below P e.slot f ≡ 0
   pub full : (i : ℕ) → n ≤ i → P.queue w i ≡ None
 
-module _ (N : ℕ) (P : Picture) (w n a : ℕ) (d : Side) (way : List Side) (e : Edge) (law : TreeLaw N P) (splice : IsSplice N P w n a d way e) where
+module _ (N : ℕ) (P : Picture) (w n a : ℕ) (d : Side) (way : List Side) (e : Edge) (law : TreeLaw N P)
+    (splice : IsSplice N P w n a d way e) where
   abbrev pub cut_list : List ℕ
   cut_list = nodes_cut (below P) (below P a d) way
 
@@ -240,7 +258,8 @@ module _ (N : ℕ) (P : Picture) (w n a : ℕ) (d : Side) (way : List Side) (e :
   first_slot z = let h = splice.high in omega arith
 
   pub a_on_path : IsOnPath P a
-  a_on_path = live_on_path N P a law splice.live splice.is_slot splice.inside (unmarked_not_queued N P a d (below P a d) law splice.unmarked first_slot)
+  a_on_path = live_on_path N P a law splice.live splice.is_slot splice.inside
+      (unmarked_not_queued N P a d (below P a d) law splice.unmarked first_slot)
 
   first_path : follow (below P) 1 (a_on_path.path ++ d ∷ []) ≡ below P a d
   first_path = follow-append (below P) 1 a_on_path.path (d ∷ []) ∙ ap (λ (y : ℕ). below P y d) a_on_path.ends
@@ -252,21 +271,26 @@ module _ (N : ℕ) (P : Picture) (w n a : ℕ) (d : Side) (way : List Side) (e :
     front = a_on_path.path;
     at_front = a_on_path.ends;
     is_slot = splice.is_slot;
-    frozen = rw first_path at (frozen_way N P law (a_on_path.path ++ d ∷ []) way (rw first_path first_slot) (rw first_path splice.is_way));
+    frozen = rw first_path at (frozen_way N P law (a_on_path.path ++ d ∷ []) way (rw first_path first_slot)
+        (rw first_path splice.is_way));
     exchanged = rw (← splice.leads) (is_exchanged P a d e);
   }
 
   -- the cut, by the paths before and after
   pub cut_law : (x : ℕ) → among cut_list x ≡ true → IsOnPath P x × (IsOnPath Q x → ⊥)
   cut_law x h =
-      let was = cut_was_reached (below P) (below Q) a d way splicing x h in
-      (record { path = was.0; ends = was.1; is_slot = was.2 }, λ r. cut_is_gone (below P) (below Q) a d way splicing x h r.path r.ends)
+      let was = cut_was_reached (below P) (below Q) a d way splicing x h in (
+        record { path = was.0; ends = was.1; is_slot = was.2 },
+        λ r. cut_is_gone (below P) (below Q) a d way splicing
+            x h r.path r.ends,
+      )
 
   pub cut_law_back : (x : ℕ) → IsOnPath P x → (IsOnPath Q x → ⊥) → among cut_list x ≡ true
   cut_law_back x r gone = elim (cases_Bool (among cut_list x)) [
     | inl yes' ↦ yes'
     | inr not' ↦
-        let out : among cut_list (follow (below P) 1 r.path) ≡ true → ⊥ = λ h. true≢false (sym (rw r.ends at h) ∙ not') in
+        let out : among cut_list (follow (below P) 1 r.path) ≡ true
+        → ⊥ = λ h. true≢false (sym (rw r.ends at h) ∙ not') in
         let still = stays_reached (below P) (below Q) a d way splicing r.path (rw r.ends r.is_slot) out in
         absurd (gone (record { path = still.0; ends = still.1 ∙ r.ends; is_slot = r.is_slot }))
   ]
@@ -279,39 +303,54 @@ module _ (N : ℕ) (P : Picture) (w n a : ℕ) (d : Side) (way : List Side) (e :
   step_back : (x : ℕ) (g : Side) → (r : List Side) × (follow (below P) x r ≡ below Q x g)
   step_back x g = go (changed_or P a d e x g)
     where
-      go : ((x ≡ a) × (d ≡ g) × (with_edge_at P.edges a d e x g ≡ e)) ⊎ (with_edge_at P.edges a d e x g ≡ P.edges x g) → (r : List Side) × (follow (below P) x r ≡ below Q x g)
-      go (inl h) = (d ∷ way, ap (λ (y : ℕ). follow (below P) (below P y d) way) h.0 ∙ (sym splice.leads ∙ ap (λ (y : Edge). y.slot) (sym h.2)))
+      go : ((x ≡ a) × (d ≡ g) × (with_edge_at P.edges a d e x g ≡ e))
+          ⊎ (with_edge_at P.edges a d e x g ≡ P.edges x g) → (r : List Side) × (follow (below P) x r ≡ below Q x g)
+      go (inl h) = (
+        d ∷ way,
+        ap (λ (y : ℕ). follow (below P) (below P y d) way) h.0
+            ∙ (sym splice.leads ∙ ap (λ (y : Edge). y.slot) (sym h.2)),
+      )
       go (inr h) = (g ∷ [], ap (λ (y : Edge). y.slot) (sym h))
 
   walk_back : (s : ℕ) (q : List Side) → (r : List Side) × (follow (below P) s r ≡ follow (below Q) s q)
   walk_back s [] = ([], refl)
   walk_back s (g ∷ q) =
       let one = step_back s g in
-      let rest = walk_back (below Q s g) q in
-      (one.0 ++ rest.0, follow-append (below P) s one.0 rest.0 ∙ (ap (λ (y : ℕ). follow (below P) y rest.0) one.1 ∙ rest.1))
+      let rest = walk_back (below Q s g) q in (
+        one.0 ++ rest.0,
+        follow-append (below P) s one.0 rest.0
+            ∙ (ap (λ (y : ℕ). follow (below P) y rest.0) one.1 ∙ rest.1),
+      )
 
   reach_back : (u x : ℕ) → InReach Q u x → InReach P u x
-  reach_back u x r = let b = walk_back r.from r.path in record { from = r.from; known = r.known; path = b.0; ends = b.1 ∙ r.ends; is_slot = r.is_slot }
+  reach_back u x r = let b = walk_back r.from r.path in
+      record { from = r.from; known = r.known; path = b.0; ends = b.1 ∙ r.ends; is_slot = r.is_slot }
 
   live_back : (x : ℕ) → IsLive Q x → IsLive P x
   live_back x h = record { pooled = h.pooled; shared = h.shared }
 
   -- a leaf isn't a, and is a leaf still
   leaf_stays : (y : ℕ) → ((f : Side) → below P y f ≡ 0) → (f : Side) → below Q y f ≡ 0
-  leaf_stays y leaf f = ap (λ (z : Edge). z.slot) (unless_a y f (λ i. first_slot (ap (λ (z : ℕ). below P z d) (sym i) ∙ leaf d))) ∙ leaf f
+  leaf_stays y leaf f = ap (λ (z : Edge). z.slot) (unless_a y f
+      (λ i. first_slot (ap (λ (z : ℕ). below P z d) (sym i) ∙ leaf d))) ∙ leaf f
 
-  flagged_leaf : (x : ℕ) (g : Side) → ((P.edges x g).flag ≡ true → (f : Side) → below P (below P x g) f ≡ 0) → (Q.edges x g).flag ≡ true → (f : Side) → below Q (below Q x g) f ≡ 0
+  flagged_leaf : (x : ℕ) (g : Side) → ((P.edges x g).flag ≡ true → (f : Side) → below P (below P x g) f ≡ 0)
+      → (Q.edges x g).flag ≡ true → (f : Side) → below Q (below Q x g) f ≡ 0
   flagged_leaf x g was h f = go (changed_or P a d e x g)
     where
-      go : ((x ≡ a) × (d ≡ g) × (with_edge_at P.edges a d e x g ≡ e)) ⊎ (with_edge_at P.edges a d e x g ≡ P.edges x g) → below Q (below Q x g) f ≡ 0
-      go (inl c) = ap (λ (z : Edge). below Q z.slot f) c.2 ∙ leaf_stays e.slot (splice.flag_leaf (ap (λ (z : Edge). z.flag) (sym c.2) ∙ h)) f
-      go (inr c) = ap (λ (z : Edge). below Q z.slot f) c ∙ leaf_stays (below P x g) (was (ap (λ (z : Edge). z.flag) (sym c) ∙ h)) f
+      go : ((x ≡ a) × (d ≡ g) × (with_edge_at P.edges a d e x g ≡ e))
+          ⊎ (with_edge_at P.edges a d e x g ≡ P.edges x g) → below Q (below Q x g) f ≡ 0
+      go (inl c) = ap (λ (z : Edge). below Q z.slot f) c.2
+          ∙ leaf_stays e.slot (splice.flag_leaf (ap (λ (z : Edge). z.flag) (sym c.2) ∙ h)) f
+      go (inr c) = ap (λ (z : Edge). below Q z.slot f) c
+          ∙ leaf_stays (below P x g) (was (ap (λ (z : Edge). z.flag) (sym c) ∙ h)) f
 
   -- an edge that was marked, or null, isn't the one that was exchanged
   marked_stays : (x : ℕ) (g : Side) → (P.edges x g ≡ to (below P a d) → ⊥) → Q.edges x g ≡ P.edges x g
   marked_stays x g differs = go (changed_or P a d e x g)
     where
-      go : ((x ≡ a) × (d ≡ g) × (with_edge_at P.edges a d e x g ≡ e)) ⊎ (with_edge_at P.edges a d e x g ≡ P.edges x g) → Q.edges x g ≡ P.edges x g
+      go : ((x ≡ a) × (d ≡ g) × (with_edge_at P.edges a d e x g ≡ e))
+          ⊎ (with_edge_at P.edges a d e x g ≡ P.edges x g) → Q.edges x g ≡ P.edges x g
       go (inl c) = absurd (differs (ap (λ (y : ℕ). P.edges y g) c.0 ∙ (ap (P.edges a) (sym c.1) ∙ splice.unmarked)))
       go (inr c) = c
 
@@ -327,25 +366,32 @@ module _ (N : ℕ) (P : Picture) (w n a : ℕ) (d : Side) (way : List Side) (e :
   a_stays : IsOnPath Q a
   a_stays = record {
     path = splicing.front;
-    ends = not_taken (below P) (below Q) a d _ splicing.exchanged 1 splicing.front (straight (below P) (below Q) a d way splicing) ∙ splicing.at_front;
+    ends = not_taken (below P) (below Q) a d _ splicing.exchanged 1 splicing.front
+        (straight (below P) (below Q) a d way splicing) ∙ splicing.at_front;
     is_slot = splice.is_slot;
   }
 
   -- what is cut stands above 5, and its edges to slots are marked
   abbrev pub CutWell : List ℕ → Type 0
-  CutWell xs = (x : ℕ) → among xs x ≡ true → (6 ≤ x) × ((g : Side) → below P x g ≢ 0 → ((P.edges x g).flag || (P.edges x g).tag) ≡ true)
+  CutWell xs = (x : ℕ) → among xs x ≡ true → (6 ≤ x)
+      × ((g : Side) → below P x g ≢ 0 → ((P.edges x g).flag || (P.edges x g).tag) ≡ true)
 
-  cut_well : (q way : List Side) → follow (below P) 1 q ≢ 0 → 6 ≤ follow (below P) 1 q → IsWay P (follow (below P) 1 q) way → CutWell (nodes_cut (below P) (follow (below P) 1 q) way)
+  cut_well : (q way : List Side) → follow (below P) 1 q ≢ 0 → 6 ≤ follow (below P) 1 q
+      → IsWay P (follow (below P) 1 q) way → CutWell (nodes_cut (below P) (follow (below P) 1 q) way)
   cut_well q [] some high way x h = absurd (true≢false (sym h))
-  cut_well q (g ∷ way) some high w x h = parts (or_cases (eqb x (follow (below P) 1 q)) _ h) (on way w.2 (λ some high v. cut_well (q ++ g ∷ []) way some high v x))
+  cut_well q (g ∷ way) some high w x h = parts (or_cases (eqb x (follow (below P) 1 q)) _ h)
+      (on way w.2 (λ some high v. cut_well (q ++ g ∷ []) way some high v x))
     where
       live : IsLive P (follow (below P) 1 q)
       live = reached_live N P law q some
 
-      node_marked : (f : Side) → ((P.edges (follow (below P) 1 q) f).flag || (P.edges (follow (below P) 1 q) f).tag) ≡ true
+      node_marked : (f : Side) → ((P.edges (follow (below P) 1 q) f).flag || (P.edges (follow (below P) 1 q) f).tag)
+          ≡ true
       node_marked f = either g f w.0 w.1
         where
-          either : (g f : Side) → (P.edges (follow (below P) 1 q) g).tag ≡ true → (P.edges (follow (below P) 1 q) (other g)).flag ≡ true → ((P.edges (follow (below P) 1 q) f).flag || (P.edges (follow (below P) 1 q) f).tag) ≡ true
+          either : (g f : Side) → (P.edges (follow (below P) 1 q) g).tag ≡ true
+              → (P.edges (follow (below P) 1 q) (other g)).flag ≡ true
+              → ((P.edges (follow (below P) 1 q) f).flag || (P.edges (follow (below P) 1 q) f).tag) ≡ true
           either Left Left t l = or_right _ _ t
           either Left Right t l = or_left _ _ l
           either Right Left t l = or_left _ _ l
@@ -358,28 +404,42 @@ module _ (N : ℕ) (P : Picture) (w n a : ℕ) (d : Side) (way : List Side) (e :
       slot = rw next (onward_slot N P law (follow (below P) 1 q) g live w.1)
 
       on : (way : List Side) → IsWay P (below P (follow (below P) 1 q) g) way
-          → (follow (below P) 1 (q ++ g ∷ []) ≢ 0 → 6 ≤ follow (below P) 1 (q ++ g ∷ []) → IsWay P (follow (below P) 1 (q ++ g ∷ [])) way → among (nodes_cut (below P) (follow (below P) 1 (q ++ g ∷ [])) way) x ≡ true → (6 ≤ x) × ((g : Side) → below P x g ≢ 0 → ((P.edges x g).flag || (P.edges x g).tag) ≡ true))
-          → among (nodes_cut (below P) (below P (follow (below P) 1 q) g) way) x ≡ true → (6 ≤ x) × ((g : Side) → below P x g ≢ 0 → ((P.edges x g).flag || (P.edges x g).tag) ≡ true)
+          → (follow (below P) 1 (q ++ g ∷ []) ≢ 0 → 6 ≤ follow (below P) 1 (q ++ g ∷ [])
+          → IsWay P (follow (below P) 1 (q ++ g ∷ [])) way
+          → among (nodes_cut (below P) (follow (below P) 1 (q ++ g ∷ [])) way) x ≡ true
+          → (6 ≤ x) × ((g : Side) → below P x g ≢ 0 → ((P.edges x g).flag || (P.edges x g).tag) ≡ true))
+          → among (nodes_cut (below P) (below P (follow (below P) 1 q) g) way) x ≡ true
+          → (6 ≤ x) × ((g : Side) → below P x g ≢ 0 → ((P.edges x g).flag || (P.edges x g).tag) ≡ true)
       on [] v ih h = absurd (true≢false (sym h))
       on (f ∷ way) v ih h = ih slot (rw next (high_way N P law q g some high w.1 (other f) v.1)) (rw next v) (rw next h)
 
-      parts : (eqb x (follow (below P) 1 q) ≡ true) ⊎ (among (below P (follow (below P) 1 q) (other g) ∷ nodes_cut (below P) (below P (follow (below P) 1 q) g) way) x ≡ true)
-          → (among (nodes_cut (below P) (below P (follow (below P) 1 q) g) way) x ≡ true → (6 ≤ x) × ((g : Side) → below P x g ≢ 0 → ((P.edges x g).flag || (P.edges x g).tag) ≡ true))
+      parts : (eqb x (follow (below P) 1 q) ≡ true) ⊎ (among
+          (below P (follow (below P) 1 q) (other g) ∷ nodes_cut (below P) (below P (follow (below P) 1 q) g) way) x
+          ≡ true)
+          → (among (nodes_cut (below P) (below P (follow (below P) 1 q) g) way) x ≡ true
+          → (6 ≤ x) × ((g : Side) → below P x g ≢ 0 → ((P.edges x g).flag || (P.edges x g).tag) ≡ true))
           → (6 ≤ x) × ((g : Side) → below P x g ≢ 0 → ((P.edges x g).flag || (P.edges x g).tag) ≡ true)
       parts (inl here) rest = rw (eqb-true x _ here) (high, λ f _. node_marked f)
       parts (inr later) rest = elim (or_cases (eqb x (below P (follow (below P) 1 q) (other g))) _ later) [
-        | inl twin ↦ rw (eqb-true x _ twin) (law.flags (follow (below P) 1 q) (other g) live w.1, λ f there. absurd (there (law.leaf_reached q (other g) w.1 f)))
+        | inl twin ↦ rw (eqb-true x _ twin) (
+          law.flags (follow (below P) 1 q) (other g) live w.1,
+          λ f there. absurd
+              (there (law.leaf_reached q (other g) w.1 f)),
+        )
         | inr after ↦ rest after
       ]
 
   cut_is_well : CutWell cut_list
-  cut_is_well = rw first_path at (cut_well (a_on_path.path ++ d ∷ []) way (rw first_path first_slot) (rw first_path splice.high) (rw first_path splice.is_way))
+  cut_is_well = rw first_path at (cut_well (a_on_path.path ++ d ∷ []) way (rw first_path first_slot)
+      (rw first_path splice.high) (rw first_path splice.is_way))
 
   -- an entry of the queue after: one from before, or a node that is cut
-  entry : (u i x : ℕ) → Q.queue u i ≡ Some x → (P.queue u i ≡ Some x) ⊎ ((u ≡ w) × (n ≤ i) × (slice_get cut_list (i - n) ≡ Some x))
+  entry : (u i x : ℕ) → Q.queue u i ≡ Some x → (P.queue u i ≡ Some x)
+      ⊎ ((u ≡ w) × (n ≤ i) × (slice_get cut_list (i - n) ≡ Some x))
   entry u i x h = go (eqb u w) (ltb i n) refl refl h
     where
-      go : (b c : Bool) → eqb u w ≡ b → ltb i n ≡ c → cond b (cond c (P.queue w i) (slice_get cut_list (i - n))) (P.queue u i) ≡ Some x → (P.queue u i ≡ Some x) ⊎ ((u ≡ w) × (n ≤ i) × (slice_get cut_list (i - n) ≡ Some x))
+      go : (b c : Bool) → eqb u w ≡ b → ltb i n ≡ c → cond b (cond c (P.queue w i) (slice_get cut_list (i - n)))
+          (P.queue u i) ≡ Some x → (P.queue u i ≡ Some x) ⊎ ((u ≡ w) × (n ≤ i) × (slice_get cut_list (i - n) ≡ Some x))
       go true true j k h = inl (rw (eqb-true u w j) h)
       go true false j k h = inr (eqb-true u w j, ltb-false i n k, h)
       go false c j k h = inl h
@@ -387,7 +447,8 @@ module _ (N : ℕ) (P : Picture) (w n a : ℕ) (d : Side) (way : List Side) (e :
   old_entry : (u i x : ℕ) → P.queue u i ≡ Some x → Q.queue u i ≡ Some x
   old_entry u i x h = go (eqb u w) (ltb i n) refl refl
     where
-      go : (b c : Bool) → eqb u w ≡ b → ltb i n ≡ c → cond b (cond c (P.queue w i) (slice_get cut_list (i - n))) (P.queue u i) ≡ Some x
+      go : (b c : Bool) → eqb u w ≡ b → ltb i n ≡ c → cond b (cond c (P.queue w i) (slice_get cut_list (i - n)))
+          (P.queue u i) ≡ Some x
       go true true j k = rw (← eqb-true u w j) h
       go true false j k = absurd (none-some x (sym (splice.full i (ltb-false i n k)) ∙ rw (eqb-true u w j) at h))
       go false c j k = h
@@ -398,17 +459,25 @@ module _ (N : ℕ) (P : Picture) (w n a : ℕ) (d : Side) (way : List Side) (e :
       let same : n + j - n ≡ j = omega arith in
       rw (eq-eqb w w refl) (rw past (rw same h))
 
-  entry_marked : (u i x : ℕ) (g : Side) → (P.queue u i ≡ Some x) ⊎ ((u ≡ w) × (n ≤ i) × (slice_get cut_list (i - n) ≡ Some x)) → below Q x g ≢ 0 → ((Q.edges x g).flag || (Q.edges x g).tag) ≡ true
+  entry_marked : (u i x : ℕ) (g : Side) → (P.queue u i ≡ Some x)
+      ⊎ ((u ≡ w) × (n ≤ i) × (slice_get cut_list (i - n) ≡ Some x)) → below Q x g ≢ 0
+      → ((Q.edges x g).flag || (Q.edges x g).tag) ≡ true
   entry_marked u i x g c there = go c (changed_or P a d e x g)
     where
-      go : (P.queue u i ≡ Some x) ⊎ ((u ≡ w) × (n ≤ i) × (slice_get cut_list (i - n) ≡ Some x)) → ((x ≡ a) × (d ≡ g) × (with_edge_at P.edges a d e x g ≡ e)) ⊎ (with_edge_at P.edges a d e x g ≡ P.edges x g) → ((Q.edges x g).flag || (Q.edges x g).tag) ≡ true
-      go (inl old) (inl h) = absurd (unmarked_not_queued N P a d (below P a d) law splice.unmarked first_slot u i (rw h.0 at old))
-      go (inl old) (inr h) = ap (λ (z : Edge). z.flag || z.tag) h ∙ law.queued u i x g old (rw (← ap (λ (z : Edge). z.slot) h) there)
+      go : (P.queue u i ≡ Some x) ⊎ ((u ≡ w) × (n ≤ i) × (slice_get cut_list (i - n) ≡ Some x))
+          → ((x ≡ a) × (d ≡ g) × (with_edge_at P.edges a d e x g ≡ e)) ⊎ (with_edge_at P.edges a d e x g ≡ P.edges x g)
+          → ((Q.edges x g).flag || (Q.edges x g).tag) ≡ true
+      go (inl old) (inl h) = absurd (unmarked_not_queued N P a d (below P a d) law splice.unmarked first_slot u i
+          (rw h.0 at old))
+      go (inl old) (inr h) = ap (λ (z : Edge). z.flag || z.tag) h
+          ∙ law.queued u i x g old (rw (← ap (λ (z : Edge). z.slot) h) there)
       go (inr new) (inl h) = absurd ((cut_law a (at_among cut_list a (i - n) (rw h.0 at new.2))).1 a_stays)
-      go (inr new) (inr h) = ap (λ (z : Edge). z.flag || z.tag) h ∙ (cut_is_well x (at_among cut_list x (i - n) new.2)).1 g (rw (← ap (λ (z : Edge). z.slot) h) there)
+      go (inr new) (inr h) = ap (λ (z : Edge). z.flag || z.tag) h
+          ∙ (cut_is_well x (at_among cut_list x (i - n) new.2)).1 g (rw (← ap (λ (z : Edge). z.slot) h) there)
 
   place_cut : (x : ℕ) → x ≢ 0 → x ≤ N → among cut_list x ≡ true → Once Q x
-  place_cut x some inside cut = new_place P Q x (OnPath path) (InQueue w (n + at.0)) ends (new_entry at.0 x at.1) each (law.places x some inside)
+  place_cut x some inside cut = new_place P Q x (OnPath path) (InQueue w (n + at.0)) ends (new_entry at.0 x at.1)
+      each (law.places x some inside)
     where
       at : (j : ℕ) × (slice_get cut_list j ≡ Some x)
       at = among_at cut_list x cut
@@ -417,12 +486,16 @@ module _ (N : ℕ) (P : Picture) (w n a : ℕ) (d : Side) (way : List Side) (e :
       path = splicing.front ++ d ∷ cut_path way at.0
 
       ends : follow (below P) 1 path ≡ x
-      ends = down (below P) (below Q) a d way splicing (cut_path way at.0) ∙ cut_at (below P) way (below P a d) at.0 x at.1
+      ends = down (below P) (below Q) a d way splicing (cut_path way at.0)
+          ∙ cut_at (below P) way (below P a d) at.0 x at.1
 
       same_index : (j : ℕ) → slice_get cut_list j ≡ Some x → j ≡ at.0
       same_index j h =
-          let other_path : follow (below P) 1 (splicing.front ++ d ∷ cut_path way j) ≡ x = down (below P) (below Q) a d way splicing (cut_path way j) ∙ cut_at (below P) way (below P a d) j x h in
-          let same = alone N P law (splicing.front ++ d ∷ cut_path way j) path (rw other_path some) (other_path ∙ sym ends) in
+          let other_path : follow (below P) 1 (splicing.front ++ d ∷ cut_path way j)
+          ≡ x = down (below P) (below Q) a d way splicing (cut_path way j)
+          ∙ cut_at (below P) way (below P a d) j x h in
+          let same = alone N P law (splicing.front ++ d ∷ cut_path way j) path (rw other_path some)
+          (other_path ∙ sym ends) in
           cut_apart (below P) way (below P a d) j at.0 x x h at.1 (tails (append_cancel splicing.front _ _ same))
 
       each : (q : SeekRecord) → Stands Q x q → (q ≡ InQueue w (n + at.0)) ⊎ (Stands P x q × (q ≢ OnPath path))
@@ -431,7 +504,8 @@ module _ (N : ℕ) (P : Picture) (w n a : ℕ) (d : Side) (way : List Side) (e :
       each (OnPath p) h = absurd ((cut_law x cut).1 (record { path = p; ends = h; is_slot = some }))
       each (InQueue u i) h = go (entry u i x h)
         where
-          go : (P.queue u i ≡ Some x) ⊎ ((u ≡ w) × (n ≤ i) × (slice_get cut_list (i - n) ≡ Some x)) → (InQueue u i ≡ InQueue w (n + at.0)) ⊎ (Stands P x (InQueue u i) × (InQueue u i ≢ OnPath path))
+          go : (P.queue u i ≡ Some x) ⊎ ((u ≡ w) × (n ≤ i) × (slice_get cut_list (i - n) ≡ Some x))
+              → (InQueue u i ≡ InQueue w (n + at.0)) ⊎ (Stands P x (InQueue u i) × (InQueue u i ≢ OnPath path))
           go (inl old) = inr (old, λ e. cc)
           go (inr new) =
               let k = same_index (i - n) new.2 in
@@ -440,73 +514,97 @@ module _ (N : ℕ) (P : Picture) (w n a : ℕ) (d : Side) (way : List Side) (e :
               inl (ap (λ (y : ℕ). InQueue y i) new.0 ∙ ap (InQueue w) index)
 
   place_kept : (x : ℕ) → x ≢ 0 → x ≤ N → among cut_list x ≡ false → Once Q x
-  place_kept x some inside uncut = repathed P Q x (λ h. h) (λ h. h) (λ u h. h) (λ u h. h) (λ u i h. old_entry u i x h) (λ u i h. was u i (entry u i x h)) forth
+  place_kept x some inside uncut = repathed P Q x (λ h. h) (λ h. h) (λ u h. h) (λ u h. h)
+      (λ u i h. old_entry u i x h) (λ u i h. was u i (entry u i x h)) forth
       (λ r h. let b = walk_back 1 r in (b.0, b.1 ∙ h))
-      (λ p r h k. still_alone (below P) (below Q) a d way splicing p r (rw h some) (h ∙ sym k)) (law.places x some inside)
+      (λ p r h k. still_alone (below P) (below Q) a d way splicing p r (rw h some) (h ∙ sym k))
+      (law.places x some inside)
     where
-      was : (u i : ℕ) → (P.queue u i ≡ Some x) ⊎ ((u ≡ w) × (n ≤ i) × (slice_get cut_list (i - n) ≡ Some x)) → P.queue u i ≡ Some x
+      was : (u i : ℕ) → (P.queue u i ≡ Some x) ⊎ ((u ≡ w) × (n ≤ i) × (slice_get cut_list (i - n) ≡ Some x))
+          → P.queue u i ≡ Some x
       was u i (inl old) = old
       was u i (inr new) = absurd (true≢false (sym (at_among cut_list x (i - n) new.2) ∙ uncut))
 
       forth : (p : List Side) → follow (below P) 1 p ≡ x → (r : List Side) × (follow (below Q) 1 r ≡ x)
       forth p h =
-          let still = stays_reached (below P) (below Q) a d way splicing p (rw h some) (λ c. true≢false (sym (rw h at c) ∙ uncut)) in
+          let still = stays_reached (below P) (below Q) a d way splicing p (rw h some)
+          (λ c. true≢false (sym (rw h at c) ∙ uncut)) in
           (still.0, still.1 ∙ h)
 
   pub splice_keeps : TreeLaw N Q
   splice_keeps = record {
     room = law.room;
     nothing = λ g. unless_a 0 g (λ h. splice.is_slot (sym h)) ∙ law.nothing g;
-    within = λ x g. cond_both (eqb x a && same_side d g) e (P.edges x g) (λ y. y.slot ≤ N) (λ _. rw splice.leads (within_path N P law (below P a d) way (law.within a d))) (λ _. law.within x g);
+    within = λ x g. cond_both (eqb x a && same_side d g) e (P.edges x g) (λ y. y.slot ≤ N)
+        (λ _. rw splice.leads (within_path N P law (below P a d) way (law.within a d))) (λ _. law.within x g);
     pools = law.pools;
     privates = law.privates;
     queues = λ u i x h. range u i x (entry u i x h);
     known = law.known;
-    root_left = ap (λ (z : Edge). z.slot) (marked_stays 1 Left (λ i. let two : below P a d ≡ 2 = sym (ap (λ (z : Edge). z.slot) i) ∙ law.root_left in let h = splice.high in omega arith)) ∙ law.root_left;
-    second = cond_both (eqb 2 a && same_side d Left) e (P.edges 2 Left) (λ y. y.slot ≢ 0) (λ _. splice.some) (λ _. law.second);
-    sentinels = λ x g l h. let z = law.sentinels x g l h in ap (λ (y : Edge). y.slot) (marked_stays x g (null_differs x g z)) ∙ z;
-    places = λ x some inside. elim (cases_Bool (among cut_list x)) [ inl cut ↦ place_cut x some inside cut | inr uncut ↦ place_kept x some inside uncut ];
+    root_left = ap (λ (z : Edge). z.slot) (marked_stays 1 Left
+        (λ i. let two : below P a d ≡ 2 = sym (ap (λ (z : Edge). z.slot) i) ∙ law.root_left in let h = splice.high in
+        omega arith)) ∙ law.root_left;
+    second = cond_both (eqb 2 a && same_side d Left) e (P.edges 2 Left) (λ y. y.slot ≢ 0) (λ _. splice.some)
+        (λ _. law.second);
+    sentinels = λ x g l h. let z = law.sentinels x g l h in
+        ap (λ (y : Edge). y.slot) (marked_stays x g (null_differs x g z)) ∙ z;
+    places = λ x some inside. elim (cases_Bool (among cut_list x))
+        [ inl cut ↦ place_cut x some inside cut | inr uncut ↦ place_kept x some inside uncut ];
     twins = λ x g h z. twin x g (live_back x h) (changed_or P a d e x g) z;
     flags = λ x g h z. flag_high x g (live_back x h) (changed_or P a d e x g) z;
     frozen = λ x g h z. tag_twin x g (live_back x h) (changed_or P a d e x g) z;
     queued = λ u i x g h there. entry_marked u i x g (entry u i x h) there;
-    leaf_reached = λ q g. let b = walk_back 1 q in flagged_leaf (follow (below Q) 1 q) g (λ h f. rw (← b.1) (law.leaf_reached b.0 g (rw b.1 h) f));
+    leaf_reached = λ q g. let b = walk_back 1 q in
+        flagged_leaf (follow (below Q) 1 q) g (λ h f. rw (← b.1) (law.leaf_reached b.0 g (rw b.1 h) f));
     leaf_known = λ u x g r. flagged_leaf x g (law.leaf_known u x g (reach_back u x r));
     guarded = λ u x r. let l = law.guarded u x (reach_back u x r) in record { pooled = l.pooled; shared = l.shared };
     unlate = λ u x v i r h. young u x v i (reach_back u x r) h;
     reads = law.reads;
-    flag_read = λ u x g y r h. let was = law.flag_read u x g y r h in let same = marked_stays x g (flag_differs x g was.0) in (ap (λ (z : Edge). z.flag) same ∙ was.0, ap (λ (z : Edge). z.slot) same ∙ was.1);
-    tag_read = λ u x g y r h. let was = law.tag_read u x g y r h in marked_stays x g (tag_differs x g (ap (λ (z : Edge). z.tag) was ∙ h)) ∙ was;
-    null_read = λ u x g y r h. let was = law.null_read u x g y r h in ap (λ (z : Edge). z.slot) (marked_stays x g (null_differs x g was)) ∙ was;
-    drafts = λ u x g v h. let was = law.drafts u x g v h in (was.0, unless_a x g (λ i. true≢false (sym (rw i at was.0) ∙ splice.live.shared u)) ∙ was.1);
+    flag_read = λ u x g y r h. let was = law.flag_read u x g y r h in
+        let same = marked_stays x g (flag_differs x g was.0) in
+        (ap (λ (z : Edge). z.flag) same ∙ was.0, ap (λ (z : Edge). z.slot) same ∙ was.1);
+    tag_read = λ u x g y r h. let was = law.tag_read u x g y r h in
+        marked_stays x g (tag_differs x g (ap (λ (z : Edge). z.tag) was ∙ h)) ∙ was;
+    null_read = λ u x g y r h. let was = law.null_read u x g y r h in
+        ap (λ (z : Edge). z.slot) (marked_stays x g (null_differs x g was)) ∙ was;
+    drafts = λ u x g v h. let was = law.drafts u x g v h in
+        (was.0, unless_a x g (λ i. true≢false (sym (rw i at was.0) ∙ splice.live.shared u)) ∙ was.1);
   }
     where
       young : (u x v i : ℕ) → InReach P u x → Q.queue v i ≡ Some x → Q.late u v i ≡ false
       young u x v i r h = go (eqb v w) (ltb i n) refl h
         where
-          go : (b c : Bool) → eqb v w ≡ b → cond b (cond c (P.queue w i) (slice_get cut_list (i - n))) (P.queue v i) ≡ Some x → cond b (cond c (P.late u w i) false) (P.late u v i) ≡ false
+          go : (b c : Bool) → eqb v w ≡ b → cond b (cond c (P.queue w i) (slice_get cut_list (i - n))) (P.queue v i)
+              ≡ Some x → cond b (cond c (P.late u w i) false) (P.late u v i) ≡ false
           go true true k h = law.unlate u x w i r h
           go true false k h = refl
           go false c k h = law.unlate u x v i r h
 
-      range : (u i x : ℕ) → (P.queue u i ≡ Some x) ⊎ ((u ≡ w) × (n ≤ i) × (slice_get cut_list (i - n) ≡ Some x)) → (6 ≤ x) × (x ≤ N)
+      range : (u i x : ℕ) → (P.queue u i ≡ Some x) ⊎ ((u ≡ w) × (n ≤ i) × (slice_get cut_list (i - n) ≡ Some x))
+          → (6 ≤ x) × (x ≤ N)
       range u i x (inl old) = law.queues u i x old
       range u i x (inr new) =
           let cut = at_among cut_list x (i - n) new.2 in
           let was = (cut_law x cut).0 in
           ((cut_is_well x cut).0, rw (← was.ends) (reached_within N P law was.path))
 
-      twin : (x : ℕ) (g : Side) → IsLive P x → ((x ≡ a) × (d ≡ g) × (with_edge_at P.edges a d e x g ≡ e)) ⊎ (with_edge_at P.edges a d e x g ≡ P.edges x g) → below Q x g ≡ 0 → below Q x (other g) ≡ 0
+      twin : (x : ℕ) (g : Side) → IsLive P x → ((x ≡ a) × (d ≡ g) × (with_edge_at P.edges a d e x g ≡ e))
+          ⊎ (with_edge_at P.edges a d e x g ≡ P.edges x g) → below Q x g ≡ 0 → below Q x (other g) ≡ 0
       twin x g l (inl h) z = absurd (splice.some (sym (ap (λ (y : Edge). y.slot) h.2) ∙ z))
       twin x g l (inr h) z =
           let none = law.twins x g l (sym (ap (λ (y : Edge). y.slot) h) ∙ z) in
           ap (λ (y : Edge). y.slot) (marked_stays x (other g) (null_differs x (other g) none)) ∙ none
 
-      flag_high : (x : ℕ) (g : Side) → IsLive P x → ((x ≡ a) × (d ≡ g) × (with_edge_at P.edges a d e x g ≡ e)) ⊎ (with_edge_at P.edges a d e x g ≡ P.edges x g) → (Q.edges x g).flag ≡ true → 6 ≤ below Q x g
-      flag_high x g l (inl h) z = rw (ap (λ (y : Edge). y.slot) h.2) (splice.flag_high (ap (λ (y : Edge). y.flag) (sym h.2) ∙ z))
-      flag_high x g l (inr h) z = rw (ap (λ (y : Edge). y.slot) h) (law.flags x g l (ap (λ (y : Edge). y.flag) (sym h) ∙ z))
+      flag_high : (x : ℕ) (g : Side) → IsLive P x → ((x ≡ a) × (d ≡ g) × (with_edge_at P.edges a d e x g ≡ e))
+          ⊎ (with_edge_at P.edges a d e x g ≡ P.edges x g) → (Q.edges x g).flag ≡ true → 6 ≤ below Q x g
+      flag_high x g l (inl h) z = rw (ap (λ (y : Edge). y.slot) h.2)
+          (splice.flag_high (ap (λ (y : Edge). y.flag) (sym h.2) ∙ z))
+      flag_high x g l (inr h) z = rw (ap (λ (y : Edge). y.slot) h)
+          (law.flags x g l (ap (λ (y : Edge). y.flag) (sym h) ∙ z))
 
-      tag_twin : (x : ℕ) (g : Side) → IsLive P x → ((x ≡ a) × (d ≡ g) × (with_edge_at P.edges a d e x g ≡ e)) ⊎ (with_edge_at P.edges a d e x g ≡ P.edges x g) → (Q.edges x g).tag ≡ true → (Q.edges x (other g)).flag ≡ true
+      tag_twin : (x : ℕ) (g : Side) → IsLive P x → ((x ≡ a) × (d ≡ g) × (with_edge_at P.edges a d e x g ≡ e))
+          ⊎ (with_edge_at P.edges a d e x g ≡ P.edges x g) → (Q.edges x g).tag ≡ true
+          → (Q.edges x (other g)).flag ≡ true
       tag_twin x g l (inl h) z = absurd (true≢false (sym z ∙ (ap (λ (y : Edge). y.tag) h.2 ∙ splice.untagged)))
       tag_twin x g l (inr h) z =
           let flag = law.frozen x g l (ap (λ (y : Edge). y.tag) (sym h) ∙ z) in

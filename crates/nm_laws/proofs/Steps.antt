@@ -22,33 +22,41 @@ passed false r o h = (refl, h)
 pub second : (a b : Bool) (r q : Refused) (o : Option Refused) → cond a (Some r) (cond b (Some q) o) ≡ None → b ≡ false
 second a b r q o h = (passed b q o (passed a r _ h).1).0
 
-pub third : (a b c : Bool) (r q t : Refused) (o : Option Refused) → cond a (Some r) (cond b (Some q) (cond c (Some t) o)) ≡ None → c ≡ false
+pub third : (a b c : Bool) (r q t : Refused) (o : Option Refused)
+    → cond a (Some r) (cond b (Some q) (cond c (Some t) o)) ≡ None → c ≡ false
 third a b c r q t o h = second b c q t o (passed a r _ h).1
 
-pub fourth : (a b c d : Bool) (r q t v : Refused) (o : Option Refused) → cond a (Some r) (cond b (Some q) (cond c (Some t) (cond d (Some v) o))) ≡ None → d ≡ false
+pub fourth : (a b c d : Bool) (r q t v : Refused) (o : Option Refused)
+    → cond a (Some r) (cond b (Some q) (cond c (Some t) (cond d (Some v) o))) ≡ None → d ≡ false
 fourth a b c d r q t v o h = third b c d q t v o (passed a r _ h).1
 
-pub fifth : (a b c d e : Bool) (r q t v x : Refused) (o : Option Refused) → cond a (Some r) (cond b (Some q) (cond c (Some t) (cond d (Some v) (cond e (Some x) o)))) ≡ None → e ≡ false
+pub fifth : (a b c d e : Bool) (r q t v x : Refused) (o : Option Refused)
+    → cond a (Some r) (cond b (Some q) (cond c (Some t) (cond d (Some v) (cond e (Some x) o)))) ≡ None → e ≡ false
 fifth a b c d e r q t v x o h = fourth b c d e q t v x o (passed a r _ h).1
 
 -- ---- what one worker knows, after a step
 
 -- what holds of the worker that steps, and held of each other, holds of each
 pub each : (L : Layout) (P : ℕ → Knowledge → Type 0) (ws : List Knowledge) (w : ℕ) (k : Knowledge) → w < length ws
-    → P w k → ((u : ℕ) → u ≢ w → P u (get_or ws u (newcomer L u))) → (u : ℕ) → P u (get_or (set ws w k) u (newcomer L u))
+    → P w k → ((u : ℕ) → u ≢ w → P u (get_or ws u (newcomer L u))) → (u : ℕ)
+    → P u (get_or (set ws w k) u (newcomer L u))
 each L P ws w k inside here others u =
     elim (ℕ_discrete u w) [
-      | yes e ↦ subst (λ (x : ℕ). P x (get_or (set ws w k) x (newcomer L x))) (sym e) (rw (get_or-set_same ws w k (newcomer L w) inside) here)
+      | yes e ↦ subst (λ (x : ℕ). P x (get_or (set ws w k) x (newcomer L x))) (sym e)
+          (rw (get_or-set_same ws w k (newcomer L w) inside) here)
       | no ne ↦ rw (get_or-set_other ws w u k (newcomer L u) ne) (others u ne)
     ]
 
 -- the same of the two workers of a join
-pub both : (L : Layout) (P : ℕ → Knowledge → Type 0) (ws : List Knowledge) (w v : ℕ) (k l : Knowledge) → w < length ws → v < length ws
-    → P w k → P v l → ((u : ℕ) → u ≢ w → u ≢ v → P u (get_or ws u (newcomer L u))) → (u : ℕ) → P u (get_or (set (set ws w k) v l) u (newcomer L u))
+pub both : (L : Layout) (P : ℕ → Knowledge → Type 0) (ws : List Knowledge) (w v : ℕ) (k l : Knowledge)
+    → w < length ws → v < length ws
+    → P w k → P v l → ((u : ℕ) → u ≢ w → u ≢ v → P u (get_or ws u (newcomer L u))) → (u : ℕ)
+    → P u (get_or (set (set ws w k) v l) u (newcomer L u))
 both L P ws w v k l inside inside' here there others =
     each L P (set ws w k) v l (let e = length-set ws w k in omega arith) there
     (λ u ne. elim (ℕ_discrete u w) [
-      | yes e ↦ subst (λ (x : ℕ). P x (get_or (set ws w k) x (newcomer L x))) (sym e) (rw (get_or-set_same ws w k (newcomer L w) inside) here)
+      | yes e ↦ subst (λ (x : ℕ). P x (get_or (set ws w k) x (newcomer L x))) (sym e)
+          (rw (get_or-set_same ws w k (newcomer L w) inside) here)
       | no other ↦ rw (get_or-set_other ws w u k (newcomer L u) other) (others u other ne)
     ])
 
@@ -65,7 +73,8 @@ pub record Allowed (s : State) (w : ℕ) (e : Event) : Type 0 where
 
 -- a worker that there is, and that has not resigned
 pub is_worker : (s : State) (w : ℕ) → is_no_worker s w ≡ false → (w < s.layout.workers) × ((of s w).gone ≡ false)
-is_worker s w h = let parts = or_parts (nat_le s.layout.workers w) (of s w).gone h in (leb-false s.layout.workers w parts.0, parts.1)
+is_worker s w h = let parts = or_parts (nat_le s.layout.workers w) (of s w).gone h in
+    (leb-false s.layout.workers w parts.0, parts.1)
 
 pub allowed : (s : State) (w : ℕ) (e : Event) → refused s w e ≡ None → Allowed s w e
 unfolding refused

@@ -23,7 +23,8 @@ each_side P l r Left = l
 each_side P l r Right = r
 
 -- what holds of each of the first six slots and of each later one holds of each slot
-pub each_slot : (P : ℕ → Type 0) → P 0 → P 1 → P 2 → P 3 → P 4 → P 5 → ((x : ℕ) → P (suc (suc (suc (suc (suc (suc x))))))) → (x : ℕ) → P x
+pub each_slot : (P : ℕ → Type 0) → P 0 → P 1 → P 2 → P 3 → P 4 → P 5
+    → ((x : ℕ) → P (suc (suc (suc (suc (suc (suc x))))))) → (x : ℕ) → P x
 each_slot P a b c d e f later zero = a
 each_slot P a b c d e f later (suc zero) = b
 each_slot P a b c d e f later (suc (suc zero)) = c
@@ -57,7 +58,8 @@ follow_none c null [] = refl
 follow_none c null (d ∷ q) = rw (null d) (follow_none c null q)
 
 -- below a leaf there is nothing
-pub follow_leaf : (c : Children) → ((d : Side) → c 0 d ≡ 0) → (s : ℕ) → ((d : Side) → c s d ≡ 0) → (d : Side) (q : List Side) → follow c s (d ∷ q) ≡ 0
+pub follow_leaf : (c : Children) → ((d : Side) → c 0 d ≡ 0) → (s : ℕ) → ((d : Side) → c s d ≡ 0)
+    → (d : Side) (q : List Side) → follow c s (d ∷ q) ≡ 0
 follow_leaf c null s leaf d q = rw (leaf d) (follow_none c null q)
 
 pub append_cancel : (p q r : List Side) → p ++ q ≡ p ++ r → q ≡ r
@@ -81,11 +83,14 @@ pub record Exchanged (c c' : Children) (p : ℕ) (d : Side) (t : ℕ) : Type 0 w
   pub others : (x : ℕ) (e : Side) → (eqb x p && same_side d e) ≡ false → c' x e ≡ c x e
 
 -- a path that does not take the edge leads where it led
-pub not_taken : (c c' : Children) (p : ℕ) (d : Side) (t : ℕ) → Exchanged c c' p d t → (s : ℕ) (q : List Side) → rest_after c p d s q ≡ None → follow c' s q ≡ follow c s q
+pub not_taken : (c c' : Children) (p : ℕ) (d : Side) (t : ℕ) → Exchanged c c' p d t → (s : ℕ) (q : List Side)
+    → rest_after c p d s q ≡ None → follow c' s q ≡ follow c s q
 not_taken c c' p d t x s [] h = refl
 not_taken c c' p d t x s (e ∷ es) h = go (eqb s p && same_side d e) refl h (not_taken c c' p d t x (c s e) es)
   where
-    go : (b : Bool) → (eqb s p && same_side d e) ≡ b → cond b (Some es) (rest_after c p d (c s e) es) ≡ None → (rest_after c p d (c s e) es ≡ None → follow c' (c s e) es ≡ follow c (c s e) es) → follow c' (c' s e) es ≡ follow c (c s e) es
+    go : (b : Bool) → (eqb s p && same_side d e) ≡ b → cond b (Some es) (rest_after c p d (c s e) es) ≡ None
+        → (rest_after c p d (c s e) es ≡ None → follow c' (c s e) es ≡ follow c (c s e) es)
+        → follow c' (c' s e) es ≡ follow c (c s e) es
     go true is h ih = absurd (none-some es (sym h))
     go false is h ih = rw (x.others s e is) (ih h)
 
@@ -96,34 +101,53 @@ pub record Taken (c c' : Children) (p : ℕ) (d : Side) (t s : ℕ) (q r : List 
   pub comes : follow c s front ≡ p
   pub leads : follow c' s q ≡ follow c' t r
 
-pub taken : (c c' : Children) (p : ℕ) (d : Side) (t : ℕ) → Exchanged c c' p d t → (s : ℕ) (q r : List Side) → rest_after c p d s q ≡ Some r → Taken c c' p d t s q r
+pub taken : (c c' : Children) (p : ℕ) (d : Side) (t : ℕ) → Exchanged c c' p d t → (s : ℕ) (q r : List Side)
+    → rest_after c p d s q ≡ Some r → Taken c c' p d t s q r
 taken c c' p d t x s [] r h = absurd (none-some r h)
 taken c c' p d t x s (e ∷ es) r h = go (eqb s p && same_side d e) refl h (taken c c' p d t x (c s e) es r)
   where
-    go : (b : Bool) → (eqb s p && same_side d e) ≡ b → cond b (Some es) (rest_after c p d (c s e) es) ≡ Some r → (rest_after c p d (c s e) es ≡ Some r → Taken c c' p d t (c s e) es r) → Taken c c' p d t s (e ∷ es) r
+    go : (b : Bool) → (eqb s p && same_side d e) ≡ b → cond b (Some es) (rest_after c p d (c s e) es) ≡ Some r
+        → (rest_after c p d (c s e) es ≡ Some r → Taken c c' p d t (c s e) es r) → Taken c c' p d t s (e ∷ es) r
     go true is h ih =
         let parts = and_parts (eqb s p) (same_side d e) is in
         let at : s ≡ p = eqb-true s p parts.0 in
         let side : d ≡ e = same_side-true d e parts.1 in
         let rest : es ≡ r = same_Some es r h in
-        record { front = []; is = ap (λ (y : Side). y ∷ es) (sym side) ∙ ap (λ (ys : List Side). d ∷ ys) rest; comes = at; leads = rw at (rw (← side) (rw x.here (ap (follow c' t) rest))) }
+        record {
+          front = [];
+          is = ap (λ (y : Side). y ∷ es) (sym side)
+              ∙ ap (λ (ys : List Side). d ∷ ys) rest;
+          comes = at;
+          leads = rw at
+              (rw (← side) (rw x.here (ap (follow c' t) rest)));
+        }
     go false is h ih =
         let later = ih h in
-        record { front = e ∷ later.front; is = ap (λ (ys : List Side). e ∷ ys) later.is; comes = later.comes; leads = rw (x.others s e is) later.leads }
+        record {
+          front = e ∷ later.front;
+          is = ap (λ (ys : List Side). e ∷ ys) later.is;
+          comes = later.comes;
+          leads =
+              rw (x.others s e is) later.leads;
+        }
 
 -- a path that stands at p and goes on by d does take it
-pub is_taken : (c : Children) (p : ℕ) (d : Side) (s : ℕ) (q r : List Side) → follow c s q ≡ p → rest_after c p d s (q ++ d ∷ r) ≡ None → ⊥
+pub is_taken : (c : Children) (p : ℕ) (d : Side) (s : ℕ) (q r : List Side) → follow c s q ≡ p
+    → rest_after c p d s (q ++ d ∷ r) ≡ None → ⊥
 is_taken c p d s [] r at h =
-    let is : (eqb s p && same_side d d) ≡ true = and_from (eqb s p) (same_side d d) (eq-eqb s p at) (same_side-refl d) in
+    let is : (eqb s p && same_side d d) ≡ true = and_from (eqb s p) (same_side d d) (eq-eqb s p at)
+    (same_side-refl d) in
     none-some r (sym h ∙ rw is refl)
 is_taken c p d s (e ∷ q) r at h = go (eqb s p && same_side d e) h (is_taken c p d (c s e) q r at)
   where
-    go : (b : Bool) → cond b (Some (q ++ d ∷ r)) (rest_after c p d (c s e) (q ++ d ∷ r)) ≡ None → (rest_after c p d (c s e) (q ++ d ∷ r) ≡ None → ⊥) → ⊥
+    go : (b : Bool) → cond b (Some (q ++ d ∷ r)) (rest_after c p d (c s e) (q ++ d ∷ r)) ≡ None
+        → (rest_after c p d (c s e) (q ++ d ∷ r) ≡ None → ⊥) → ⊥
     go true h ih = none-some (q ++ d ∷ r) (sym h)
     go false h ih = ih h
 
 -- paths that never stand at p lead where they led
-pub unvisited : (c c' : Children) (p : ℕ) (d : Side) (t : ℕ) → Exchanged c c' p d t → (s : ℕ) → ((q : List Side) → follow c s q ≡ p → ⊥) → (q : List Side) → follow c' s q ≡ follow c s q
+pub unvisited : (c c' : Children) (p : ℕ) (d : Side) (t : ℕ) → Exchanged c c' p d t → (s : ℕ)
+    → ((q : List Side) → follow c s q ≡ p → ⊥) → (q : List Side) → follow c' s q ≡ follow c s q
 unvisited c c' p d t x s never q = go (rest_after c p d s q) refl
   where
     go : (o : Option (List Side)) → rest_after c p d s q ≡ o → follow c' s q ≡ follow c s q
@@ -131,6 +155,7 @@ unvisited c c' p d t x s never q = go (rest_after c p d s q) refl
     go (Some r) h = let k = taken c c' p d t x s q r h in absurd (never k.front k.comes)
 
 -- two trees with the same children have the same paths
-pub same_follow : (c c' : Children) → ((x : ℕ) (e : Side) → c' x e ≡ c x e) → (s : ℕ) (q : List Side) → follow c' s q ≡ follow c s q
+pub same_follow : (c c' : Children) → ((x : ℕ) (e : Side) → c' x e ≡ c x e) → (s : ℕ) (q : List Side)
+    → follow c' s q ≡ follow c s q
 same_follow c c' same s [] = refl
 same_follow c c' same s (d ∷ q) = rw (same s d) (same_follow c c' same (c s d) q)

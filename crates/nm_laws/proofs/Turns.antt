@@ -66,22 +66,26 @@ module _ (s : State) (h : ℕ → ℕ) (law : Lawful s h) (born : (w : ℕ) → 
         | no ne ↦ inl (inr (u.0, rw (get_or-set_other s.workers w u.0 k (newcomer s.layout u.0) ne) u.1))
       ]
         where
-          go : Unborn k x ⊎ ((in_pool m x ≡ true) ⊎ (word s.memory x < word m x)) → IsIdle (moved s w m k) x ⊎ (word s.memory x < word m x)
+          go : Unborn k x ⊎ ((in_pool m x ≡ true) ⊎ (word s.memory x < word m x))
+              → IsIdle (moved s w m k) x ⊎ (word s.memory x < word m x)
           go (inl v) = inl (mine x v)
           go (inr (inl i)) = inl (inl i)
           go (inr (inr i)) = inr i
 
   given_moved : (w x : ℕ) → Allowed s w (Give x) → in_pool (write s.memory (of s w) w (Give x)) x ≡ true
   unfolding write refusal
-  given_moved w x ok = get_or-set_same s.memory.pool x true false (let range = high_from 6 s.layout.nodes x (passed _ _ _ ok.event).0 in let size = law.roomy.pool in omega arith)
+  given_moved w x ok = get_or-set_same s.memory.pool x true false
+      (let range = high_from 6 s.layout.nodes x (passed _ _ _ ok.event).0 in let size = law.roomy.pool in omega arith)
 
-  turn_moved : (w : ℕ) (e : Event) → Allowed s w e → next s (w, e) ≡ applied s w e → outcome s (w, e) ≡ Ok (reply_of s w e) → ((v : ℕ) → e ≡ Join v → ⊥) → LawfulTurn s h (w, e)
+  turn_moved : (w : ℕ) (e : Event) → Allowed s w e → next s (w, e) ≡ applied s w e
+      → outcome s (w, e) ≡ Ok (reply_of s w e) → ((v : ℕ) → e ≡ Join v → ⊥) → LawfulTurn s h (w, e)
   turn_moved w e ok is_next is_outcome alone = record {
     holder = h;
     law = rw is_next (moved_lawful s h w e law ok alone);
     step = λ o. rw is (step_of s h law.holders w e ok is_next is_outcome k m inside what.ledgers o);
     aging = rw is (aged_moved w m k inside (aged s h law w (born w) e ok alone));
-    given = λ x r give _. rw is (subst (λ (y : Event). Allowed s w y → in_pool (write s.memory (of s w) w y) x ≡ true) (sym give) (given_moved w x) ok);
+    given = λ x r give _. rw is (subst (λ (y : Event). Allowed s w y
+        → in_pool (write s.memory (of s w) w y) x ≡ true) (sym give) (given_moved w x) ok);
   }
     where
       m : Memory
@@ -99,12 +103,14 @@ module _ (s : State) (h : ℕ → ℕ) (law : Lawful s h) (born : (w : ℕ) → 
       is : next s (w, e) ≡ moved s w m k
       is = is_next ∙ applied_is s w e alone
 
-  turn_joined : (w v : ℕ) → Allowed s w (Join v) → next s (w, Join v) ≡ applied s w (Join v) → outcome s (w, Join v) ≡ Ok (reply_of s w (Join v)) → LawfulTurn s h (w, Join v)
+  turn_joined : (w v : ℕ) → Allowed s w (Join v) → next s (w, Join v) ≡ applied s w (Join v)
+      → outcome s (w, Join v) ≡ Ok (reply_of s w (Join v)) → LawfulTurn s h (w, Join v)
   unfolding applied write
   turn_joined w v ok is_next is_outcome = record {
     holder = heirs h w v;
     law = rw is_next (join_lawful s h w v law ok);
-    step = λ o. rw is_next (Unchanged (ledger_joined s h w v (applied s w (Join v)) j there.0 law.holders o) (uncut s (w, Join v) o (ap nodes_cut_of is_outcome)));
+    step = λ o. rw is_next (Unchanged (ledger_joined s h w v (applied s w (Join v)) j there.0 law.holders o)
+        (uncut s (w, Join v) o (ap nodes_cut_of is_outcome)));
     aging = rw is_next (record {
       words = λ x. le_of_eq refl;
       idle = λ x i. inl (idle x i);
@@ -120,14 +126,16 @@ module _ (s : State) (h : ℕ → ℕ) (law : Lawful s h) (born : (w : ℕ) → 
       there = other_worker s w v ok.event
 
       j : Joins s (applied s w (Join v)) w v
-      j = joins s w v (let size = law.staffed.workers in let lt = ok.worker in omega arith) (let size = law.staffed.workers in let lt = there.1 in omega arith) there.0
+      j = joins s w v (let size = law.staffed.workers in let lt = ok.worker in omega arith)
+          (let size = law.staffed.workers in let lt = there.1 in omega arith) there.0
 
       idle : (x : ℕ) → IsIdle s x → IsIdle (applied s w (Join v)) x
       idle x (inl i) = inl i
       idle x (inr u) = inr (
         u.0,
         by_worker s (applied s w (Join v)) w v j (λ y k. Unborn (of s y) x → Unborn k x)
-            (λ z. record { draft = z.draft; is = z.is; unborn = z.unborn }) (λ z. record { draft = z.draft; is = z.is; unborn = z.unborn }) (λ y _ _ z. z) u.0 u.1,
+            (λ z. record { draft = z.draft; is = z.is; unborn = z.unborn })
+            (λ z. record { draft = z.draft; is = z.is; unborn = z.unborn }) (λ y _ _ z. z) u.0 u.1,
       )
 
   turn_refused : (t : ℕ × Event) (r : Refused) → next s t ≡ s → outcome s t ≡ Err r → LawfulTurn s h t

@@ -95,35 +95,46 @@ law_of N P Q law same = subst (TreeLaw N) (same_picture P Q same) law
 abbrev pub with_worker : (ℕ → Knowledge) → ℕ → Knowledge → ℕ → Knowledge
 with_worker kn w k u = cond (eqb u w) k (kn u)
 
-pub of_moved : (s : State) (w : ℕ) (m : Memory) (k : Knowledge) → w < length s.workers → (u : ℕ) → of (moved s w m k) u ≡ with_worker (of s) w k u
+pub of_moved : (s : State) (w : ℕ) (m : Memory) (k : Knowledge) → w < length s.workers → (u : ℕ)
+    → of (moved s w m k) u ≡ with_worker (of s) w k u
 of_moved s w m k inside u = elim (ℕ_discrete u w) [
-  | yes e ↦ rw e (get_or-set_same s.workers w k (newcomer s.layout w) inside ∙ sym (cond-true (eqb w w) k (of s w) (eq-eqb w w refl)))
-  | no ne ↦ get_or-set_other s.workers w u k (newcomer s.layout u) ne ∙ sym (cond-false (eqb u w) k (of s u) (ne_eqb u w ne))
+  | yes e ↦ rw e (get_or-set_same s.workers w k (newcomer s.layout w) inside
+      ∙ sym (cond-true (eqb w w) k (of s w) (eq-eqb w w refl)))
+  | no ne ↦ get_or-set_other s.workers w u k (newcomer s.layout u) ne
+      ∙ sym (cond-false (eqb u w) k (of s u) (ne_eqb u w ne))
 ]
 
-pub picture_moved : (s : State) (w : ℕ) (m : Memory) (k : Knowledge) (h : ℕ → ℕ) → w < length s.workers → picture (moved s w m k) h ≡ view m (with_worker (of s) w k) h
+pub picture_moved : (s : State) (w : ℕ) (m : Memory) (k : Knowledge) (h : ℕ → ℕ) → w < length s.workers
+    → picture (moved s w m k) h ≡ view m (with_worker (of s) w k) h
 picture_moved s w m k h inside = ap (λ (kn : ℕ → Knowledge). view m kn h) (fun_ext (of_moved s w m k inside))
 
 -- a row of the worker that learns, and of the others
-pub row : {X : Type 0} (f : Knowledge → X) (kn : ℕ → Knowledge) (w : ℕ) (k : Knowledge) (u : ℕ) (x : X) → (u ≡ w → f k ≡ x) → (u ≢ w → f (kn u) ≡ x) → f (with_worker kn w k u) ≡ x
+pub row : {X : Type 0} (f : Knowledge → X) (kn : ℕ → Knowledge) (w : ℕ) (k : Knowledge) (u : ℕ) (x : X)
+    → (u ≡ w → f k ≡ x) → (u ≢ w → f (kn u) ≡ x) → f (with_worker kn w k u) ≡ x
 row f kn w k u x own others = elim (ℕ_discrete u w) [
   | yes e ↦ ap f (cond-true (eqb u w) k (kn u) (eq-eqb u w e)) ∙ own e
   | no ne ↦ ap f (cond-false (eqb u w) k (kn u) (ne_eqb u w ne)) ∙ others ne
 ]
 
 -- a row that what was learned does not change
-pub same_row : {X : Type 0} (f : Knowledge → X) (kn : ℕ → Knowledge) (w : ℕ) (k : Knowledge) → f k ≡ f (kn w) → (u : ℕ) → f (kn u) ≡ f (with_worker kn w k u)
+pub same_row : {X : Type 0} (f : Knowledge → X) (kn : ℕ → Knowledge) (w : ℕ) (k : Knowledge) → f k ≡ f (kn w)
+    → (u : ℕ) → f (kn u) ≡ f (with_worker kn w k u)
 same_row f kn w k same u = sym (row f kn w k u (f (kn u)) (λ e. same ∙ ap (λ (y : ℕ). f (kn y)) (sym e)) (λ _. refl))
 
-pub late_rows : (kn : ℕ → Knowledge) (h : ℕ → ℕ) (w : ℕ) (k : Knowledge) → k.brief.pin ≡ (kn w).brief.pin → ((o : ℕ) → held_queue k o ≡ held_queue (kn w) o) → (u o i : ℕ)
-    → is_late (kn u).brief.pin (slice_get (held_queue (kn (h o)) o) i) ≡ is_late (with_worker kn w k u).brief.pin (slice_get (held_queue (with_worker kn w k (h o)) o) i)
+pub late_rows : (kn : ℕ → Knowledge) (h : ℕ → ℕ) (w : ℕ) (k : Knowledge) → k.brief.pin ≡ (kn w).brief.pin
+    → ((o : ℕ) → held_queue k o ≡ held_queue (kn w) o) → (u o i : ℕ)
+    → is_late (kn u).brief.pin (slice_get (held_queue (kn (h o)) o) i)
+    ≡ is_late (with_worker kn w k u).brief.pin (slice_get (held_queue (with_worker kn w k (h o)) o) i)
 late_rows kn h w k pin queue u o i =
     ap (λ p. is_late p (slice_get (held_queue (kn (h o)) o) i)) (same_row (λ y. y.brief.pin) kn w k pin u)
-    ∙ ap (λ q. is_late (with_worker kn w k u).brief.pin (slice_get q i)) (same_row (λ y. held_queue y o) kn w k (queue o) (h o))
+    ∙ ap (λ q. is_late (with_worker kn w k u).brief.pin (slice_get q i))
+    (same_row (λ y. held_queue y o) kn w k (queue o) (h o))
 
-pub queue_rows : (kn : ℕ → Knowledge) (h : ℕ → ℕ) (w : ℕ) (k : Knowledge) → ((o : ℕ) → held_queue k o ≡ held_queue (kn w) o) → (o i : ℕ)
+pub queue_rows : (kn : ℕ → Knowledge) (h : ℕ → ℕ) (w : ℕ) (k : Knowledge)
+    → ((o : ℕ) → held_queue k o ≡ held_queue (kn w) o) → (o i : ℕ)
     → queued_at (held_queue (kn (h o)) o) i ≡ queued_at (held_queue (with_worker kn w k (h o)) o) i
-queue_rows kn h w k queue o i = same_row (λ y. queued_at (held_queue y o) i) kn w k (ap (λ q. queued_at q i) (queue o)) (h o)
+queue_rows kn h w k queue o i = same_row (λ y. queued_at (held_queue y o) i) kn w k
+    (ap (λ q. queued_at q i) (queue o)) (h o)
 
 -- two states of knowledge agree on the tree's part
 pub record Like (k l : Knowledge) : Type 0 where
@@ -135,9 +146,17 @@ pub record Like (k l : Knowledge) : Type 0 where
   pub drafted : (x : ℕ) (d : Side) → drafted_on (draft_of l x) d ≡ drafted_on (draft_of k x) d
 
 pub like_itself : (k : Knowledge) → Like k k
-like_itself k = record { pin = refl; queue = λ o. refl; private = λ x. refl; knows = λ x. refl; read = λ x d. refl; drafted = λ x d. refl }
+like_itself k = record {
+  pin = refl;
+  queue = λ o. refl;
+  private = λ x. refl;
+  knows = λ x. refl;
+  read = λ x d. refl;
+  drafted = λ x d. refl;
+}
 
-pub quiet_view : (N : ℕ) (m : Memory) (kn : ℕ → Knowledge) (h : ℕ → ℕ) (w : ℕ) (k : Knowledge) → Like (kn w) k → TreeLaw N (view m kn h) → TreeLaw N (view m (with_worker kn w k) h)
+pub quiet_view : (N : ℕ) (m : Memory) (kn : ℕ → Knowledge) (h : ℕ → ℕ) (w : ℕ) (k : Knowledge) → Like (kn w) k
+    → TreeLaw N (view m kn h) → TreeLaw N (view m (with_worker kn w k) h)
 quiet_view N m kn h w k like law = law_of N (view m kn h) (view m (with_worker kn w k) h) law (record {
   edges = λ x d. refl;
   pool = λ x. refl;
@@ -151,10 +170,14 @@ quiet_view N m kn h w k like law = law_of N (view m kn h) (view m (with_worker k
 
 -- ---- writing an edge
 
-pub edge_put : (m : Memory) (p : ℕ) (d : Side) (e : Edge) → p < length m.nodes → (x : ℕ) (g : Side) → edge (put_edge m p d e) x g ≡ with_edge_at (edge m) p d e x g
+pub edge_put : (m : Memory) (p : ℕ) (d : Side) (e : Edge) → p < length m.nodes → (x : ℕ) (g : Side)
+    → edge (put_edge m p d e) x g ≡ with_edge_at (edge m) p d e x g
 edge_put m p d e inside x g = elim (ℕ_discrete x p) [
-  | yes is ↦ rw is (ap (λ (n : Node). edge_of n g) (get_or-set_same m.nodes p (with_edge (node m p) d e) blank inside) ∙ (on (node m p) d g ∙ ap (λ (b : Bool). cond (b && same_side d g) e (edge m p g)) (sym (eq-eqb p p refl))))
-  | no ne ↦ ap (λ (n : Node). edge_of n g) (get_or-set_other m.nodes p x (with_edge (node m p) d e) blank ne) ∙ sym (with_edge-other (edge m) p d e x g ne)
+  | yes is ↦ rw is (ap (λ (n : Node). edge_of n g)
+      (get_or-set_same m.nodes p (with_edge (node m p) d e) blank inside)
+      ∙ (on (node m p) d g ∙ ap (λ (b : Bool). cond (b && same_side d g) e (edge m p g)) (sym (eq-eqb p p refl))))
+  | no ne ↦ ap (λ (n : Node). edge_of n g) (get_or-set_other m.nodes p x (with_edge (node m p) d e) blank ne)
+      ∙ sym (with_edge-other (edge m) p d e x g ne)
 ]
   where
     on : (n : Node) (d g : Side) → edge_of (with_edge n d e) g ≡ cond (same_side d g) e (edge_of n g)
@@ -163,7 +186,8 @@ edge_put m p d e inside x g = elim (ℕ_discrete x p) [
     on n Right Left = refl
     on n Right Right = refl
 
-pub edges_view : (m : Memory) (kn : ℕ → Knowledge) (h : ℕ → ℕ) (p : ℕ) (d : Side) (e : Edge) → p < length m.nodes → SamePicture (with_edges (view m kn h) p d e) (view (put_edge m p d e) kn h)
+pub edges_view : (m : Memory) (kn : ℕ → Knowledge) (h : ℕ → ℕ) (p : ℕ) (d : Side) (e : Edge) → p < length m.nodes
+    → SamePicture (with_edges (view m kn h) p d e) (view (put_edge m p d e) kn h)
 edges_view m kn h p d e inside = record {
   edges = λ x g. sym (edge_put m p d e inside x g);
   pool = λ x. refl;
@@ -189,7 +213,8 @@ seen_put m s n x = ap (λ o. unwrap_or o unread) (get-put m s n x) ∙ go (eqb x
 
 -- meeting a slot changes nothing that was read
 pub seen_met : (m : List (ℕ × Seen)) (s x : ℕ) → seen_in (met m s) x ≡ seen_in m x
-seen_met m s x = cond_both (s == 0) m (cond (has m s) m (put m s unread)) (λ l. seen_in l x ≡ seen_in m x) (λ _. refl) (λ _. go (get m s) refl)
+seen_met m s x = cond_both (s == 0) m (cond (has m s) m (put m s unread)) (λ l. seen_in l x ≡ seen_in m x)
+    (λ _. refl) (λ _. go (get m s) refl)
   where
     go : (o : Option Seen) → get m s ≡ o → seen_in (cond (is_some o) m (put m s unread)) x ≡ seen_in m x
     go (Some n) h = refl
@@ -197,14 +222,17 @@ seen_met m s x = cond_both (s == 0) m (cond (has m s) m (put m s unread)) (λ l.
         (λ e. sym (ap (seen_in m) (eqb-true x s e) ∙ ap (λ o. unwrap_or o unread) h)) (λ _. refl)
 
 pub has_met : (m : List (ℕ × Seen)) (s x : ℕ) → has (met m s) x ≡ true → ((x ≡ s) × (s ≢ 0)) ⊎ (has m x ≡ true)
-has_met m s x = cond_both (s == 0) m (cond (has m s) m (put m s unread)) (λ l. has l x ≡ true → ((x ≡ s) × (s ≢ 0)) ⊎ (has m x ≡ true))
+has_met m s x = cond_both (s == 0) m (cond (has m s) m (put m s unread))
+    (λ l. has l x ≡ true → ((x ≡ s) × (s ≢ 0)) ⊎ (has m x ≡ true))
     (λ _ h. inr h)
-    (λ some. cond_both (has m s) m (put m s unread) (λ l. has l x ≡ true → ((x ≡ s) × (s ≢ 0)) ⊎ (has m x ≡ true)) (λ _ h. inr h)
+    (λ some. cond_both (has m s) m (put m s unread) (λ l. has l x ≡ true → ((x ≡ s) × (s ≢ 0)) ⊎ (has m x ≡ true))
+    (λ _ h. inr h)
     (λ _ h. elim (has_put m s unread x h) [ inl e ↦ inl (e, eqb-false s 0 some) | inr k ↦ inr k ]))
 
 pub has_met_there : (m : List (ℕ × Seen)) (s x : ℕ) → has m x ≡ true → has (met m s) x ≡ true
 has_met_there m s x h = cond_both (s == 0) m (cond (has m s) m (put m s unread)) (λ l. has l x ≡ true) (λ _. h)
-    (λ _. cond_both (has m s) m (put m s unread) (λ l. has l x ≡ true) (λ _. h) (λ _. has_put_there m s unread x (inr h)))
+    (λ _. cond_both (has m s) m (put m s unread) (λ l. has l x ≡ true) (λ _. h)
+    (λ _. has_put_there m s unread x (inr h)))
 
 -- ---- a worker learns what is so
 
@@ -214,14 +242,19 @@ pub record Learns (m : Memory) (kn : ℕ → Knowledge) (h : ℕ → ℕ) (w : �
   pub private : (x : ℕ) → is_private k x ≡ is_private (kn w) x
   pub drafted : (x : ℕ) (d : Side) → drafted_on (draft_of k x) d ≡ drafted_on (draft_of (kn w) x) d
   pub met : (x : ℕ) → knows k x ≡ true → InReach (view m kn h) w x ⊎ IsOnPath (view m kn h) x
-  pub heard : (x : ℕ) (d : Side) (e : Edge) → read k x d ≡ Some e → (knows k x ≡ true) × ((read (kn w) x d ≡ Some e) ⊎ (edge m x d ≡ e))
+  pub heard : (x : ℕ) (d : Side) (e : Edge) → read k x d ≡ Some e
+      → (knows k x ≡ true) × ((read (kn w) x d ≡ Some e) ⊎ (edge m x d ≡ e))
 
 known_reach : (N : ℕ) (P : Picture) (u x : ℕ) → TreeLaw N P → P.knows u x ≡ true → InReach P u x
-known_reach N P u x law k = let r = law.known u x k in record { from = x; known = k; path = []; ends = refl; is_slot = λ z. omega arith }
+known_reach N P u x law k = let r = law.known u x k in
+    record { from = x; known = k; path = []; ends = refl; is_slot = λ z. omega arith }
 
-pub learn_view : (N : ℕ) (m : Memory) (kn : ℕ → Knowledge) (h : ℕ → ℕ) (w : ℕ) (k : Knowledge) → Learns m kn h w k → TreeLaw N (view m kn h) → TreeLaw N (view m (with_worker kn w k) h)
-learn_view N m kn h w k learns law = law_of N (learned (view m kn h) (λ u. knows (with_worker kn w k u)) (λ u. read (with_worker kn w k u))) (view m (with_worker kn w k) h)
-    (learn_keeps N (view m kn h) (λ u. knows (with_worker kn w k u)) (λ u. read (with_worker kn w k u)) law met heard) (record {
+pub learn_view : (N : ℕ) (m : Memory) (kn : ℕ → Knowledge) (h : ℕ → ℕ) (w : ℕ) (k : Knowledge) → Learns m kn h w k
+    → TreeLaw N (view m kn h) → TreeLaw N (view m (with_worker kn w k) h)
+learn_view N m kn h w k learns law = law_of N (learned (view m kn h) (λ u. knows (with_worker kn w k u))
+    (λ u. read (with_worker kn w k u))) (view m (with_worker kn w k) h)
+    (learn_keeps N (view m kn h) (λ u. knows (with_worker kn w k u)) (λ u. read (with_worker kn w k u)) law met
+    heard) (record {
       edges = λ x d. refl;
       pool = λ x. refl;
       private = λ u x. same_row (λ y. is_private y x) kn w k (learns.private x) u;
@@ -235,33 +268,42 @@ learn_view N m kn h w k learns law = law_of N (learned (view m kn h) (λ u. know
     met : (u x : ℕ) → knows (with_worker kn w k u) x ≡ true → InReach (view m kn h) u x ⊎ IsOnPath (view m kn h) x
     met u x = go (eqb u w) refl
       where
-        go : (b : Bool) → eqb u w ≡ b → knows (cond b k (kn u)) x ≡ true → InReach (view m kn h) u x ⊎ IsOnPath (view m kn h) x
+        go : (b : Bool) → eqb u w ≡ b → knows (cond b k (kn u)) x ≡ true
+            → InReach (view m kn h) u x ⊎ IsOnPath (view m kn h) x
         go true e is = rw (eqb-true u w e) (learns.met x is)
         go false e is = inl (known_reach N (view m kn h) u x law is)
 
-    heard : (u x : ℕ) (d : Side) (e : Edge) → read (with_worker kn w k u) x d ≡ Some e → (knows (with_worker kn w k u) x ≡ true) × ((read (kn u) x d ≡ Some e) ⊎ (edge m x d ≡ e))
+    heard : (u x : ℕ) (d : Side) (e : Edge) → read (with_worker kn w k u) x d ≡ Some e
+        → (knows (with_worker kn w k u) x ≡ true) × ((read (kn u) x d ≡ Some e) ⊎ (edge m x d ≡ e))
     heard u x d e = go (eqb u w) refl
       where
-        go : (b : Bool) → eqb u w ≡ b → read (cond b k (kn u)) x d ≡ Some e → (knows (cond b k (kn u)) x ≡ true) × ((read (kn u) x d ≡ Some e) ⊎ (edge m x d ≡ e))
+        go : (b : Bool) → eqb u w ≡ b → read (cond b k (kn u)) x d ≡ Some e
+            → (knows (cond b k (kn u)) x ≡ true) × ((read (kn u) x d ≡ Some e) ⊎ (edge m x d ≡ e))
         go true i is = rw (eqb-true u w i) (learns.heard x d e is)
         go false i is = (law.reads u x d e is, inl is)
 
-read_with : (n : Seen) (d : Side) (e : Edge) (g : Side) → read_on (with_read n d e) g ≡ cond (same_side d g) (Some e) (read_on n g)
+read_with : (n : Seen) (d : Side) (e : Edge) (g : Side)
+    → read_on (with_read n d e) g ≡ cond (same_side d g) (Some e) (read_on n g)
 read_with n Left e Left = refl
 read_with n Left e Right = refl
 read_with n Right e Left = refl
 read_with n Right e Right = refl
 
-pub read_after : (k : Knowledge) (p : ℕ) (d : Side) (e : Edge) (x : ℕ) (g : Side) → read (read_edge k p d e) x g ≡ cond (eqb x p && same_side d g) (Some e) (read k x g)
+pub read_after : (k : Knowledge) (p : ℕ) (d : Side) (e : Edge) (x : ℕ) (g : Side)
+    → read (read_edge k p d e) x g ≡ cond (eqb x p && same_side d g) (Some e) (read k x g)
 read_after k p d e x g =
     ap (λ (n : Seen). read_on n g) (seen_put (met k.known e.slot) p (with_read (seen_of k p) d e) x) ∙ go (eqb x p) refl
   where
-    go : (b : Bool) → eqb x p ≡ b → read_on (cond b (with_read (seen_of k p) d e) (seen_in (met k.known e.slot) x)) g ≡ cond (b && same_side d g) (Some e) (read_on (seen_of k x) g)
-    go true i = read_with (seen_of k p) d e g ∙ ap (λ (y : ℕ). cond (same_side d g) (Some e) (read k y g)) (sym (eqb-true x p i))
+    go : (b : Bool) → eqb x p ≡ b → read_on (cond b (with_read (seen_of k p) d e) (seen_in (met k.known e.slot) x)) g
+        ≡ cond (b && same_side d g) (Some e) (read_on (seen_of k x) g)
+    go true i = read_with (seen_of k p) d e g ∙ ap (λ (y : ℕ). cond (same_side d g) (Some e) (read k y g))
+        (sym (eqb-true x p i))
     go false i = ap (λ (n : Seen). read_on n g) (seen_met k.known e.slot x)
 
 -- an edge of a known slot is read as it is
-pub read_edge_view : (N : ℕ) (m : Memory) (kn : ℕ → Knowledge) (h : ℕ → ℕ) (w p : ℕ) (d : Side) (e : Edge) → knows (kn w) p ≡ true → edge m p d ≡ e → TreeLaw N (view m kn h) → TreeLaw N (view m (with_worker kn w (read_edge (kn w) p d e)) h)
+pub read_edge_view : (N : ℕ) (m : Memory) (kn : ℕ → Knowledge) (h : ℕ → ℕ) (w p : ℕ) (d : Side) (e : Edge)
+    → knows (kn w) p ≡ true → edge m p d ≡ e → TreeLaw N (view m kn h)
+    → TreeLaw N (view m (with_worker kn w (read_edge (kn w) p d e)) h)
 read_edge_view N m kn h w p d e known is law = learn_view N m kn h w (read_edge (kn w) p d e) (record {
   pin = refl;
   queue = λ o. refl;
@@ -271,20 +313,25 @@ read_edge_view N m kn h w p d e known is law = learn_view N m kn h w (read_edge 
   heard = heard;
 }) law
   where
-    met_from : (x : ℕ) → (x ≡ p) ⊎ (has (met (kn w).known e.slot) x ≡ true) → InReach (view m kn h) w x ⊎ IsOnPath (view m kn h) x
+    met_from : (x : ℕ) → (x ≡ p) ⊎ (has (met (kn w).known e.slot) x ≡ true)
+        → InReach (view m kn h) w x ⊎ IsOnPath (view m kn h) x
     met_from x (inl i) = inl (rw i (known_reach N (view m kn h) w p law known))
     met_from x (inr i) = go (has_met (kn w).known e.slot x i)
       where
-        go : ((x ≡ e.slot) × (e.slot ≢ 0)) ⊎ (has (kn w).known x ≡ true) → InReach (view m kn h) w x ⊎ IsOnPath (view m kn h) x
+        go : ((x ≡ e.slot) × (e.slot ≢ 0)) ⊎ (has (kn w).known x ≡ true)
+            → InReach (view m kn h) w x ⊎ IsOnPath (view m kn h) x
         go (inl j) =
             let down : below (view m kn h) p d ≡ e.slot = ap (λ (y : Edge). y.slot) is in
-            inl (rw (j.0, ← down) (in_reach (view m kn h) w p d (known_reach N (view m kn h) w p law known) (rw down j.1)))
+            inl (rw (j.0, ← down) (in_reach (view m kn h) w p d (known_reach N (view m kn h) w p law known)
+            (rw down j.1)))
         go (inr k) = inl (known_reach N (view m kn h) w x law k)
 
-    heard : (x : ℕ) (g : Side) (y : Edge) → read (read_edge (kn w) p d e) x g ≡ Some y → (knows (read_edge (kn w) p d e) x ≡ true) × ((read (kn w) x g ≡ Some y) ⊎ (edge m x g ≡ y))
+    heard : (x : ℕ) (g : Side) (y : Edge) → read (read_edge (kn w) p d e) x g ≡ Some y
+        → (knows (read_edge (kn w) p d e) x ≡ true) × ((read (kn w) x g ≡ Some y) ⊎ (edge m x g ≡ y))
     heard x g y i = go (eqb x p && same_side d g) refl (sym (read_after (kn w) p d e x g) ∙ i)
       where
-        go : (b : Bool) → (eqb x p && same_side d g) ≡ b → cond b (Some e) (read (kn w) x g) ≡ Some y → (knows (read_edge (kn w) p d e) x ≡ true) × ((read (kn w) x g ≡ Some y) ⊎ (edge m x g ≡ y))
+        go : (b : Bool) → (eqb x p && same_side d g) ≡ b → cond b (Some e) (read (kn w) x g) ≡ Some y
+            → (knows (read_edge (kn w) p d e) x ≡ true) × ((read (kn w) x g ≡ Some y) ⊎ (edge m x g ≡ y))
         go true i k =
             let parts = and_parts (eqb x p) (same_side d g) i in
             let at = eqb-true x p parts.0 in
@@ -292,26 +339,37 @@ read_edge_view N m kn h w p d e known is law = learn_view N m kn h w (read_edge 
               has_put_there (met (kn w).known e.slot) p (with_read (seen_of (kn w) p) d e) x (inl at),
               inr (rw (at, ← side) is ∙ same_Some e y k),
             )
-        go false i k = (has_put_there (met (kn w).known e.slot) p (with_read (seen_of (kn w) p) d e) x (inr (has_met_there (kn w).known e.slot x (law.reads w x g y k))), inl k)
+        go false i k = (
+          has_put_there (met (kn w).known e.slot) p (with_read (seen_of (kn w) p) d e) x
+              (inr (has_met_there (kn w).known e.slot x (law.reads w x g y k))),
+          inl k,
+        )
 
 -- a birth of a known slot is read
 abbrev pub read_birth : Knowledge → ℕ → ℕ → Knowledge
 read_birth k s b = record k { known = put k.known s (record (seen_of k s) { birth = Some b }) }
 
-pub read_birth_view : (N : ℕ) (m : Memory) (kn : ℕ → Knowledge) (h : ℕ → ℕ) (w p b : ℕ) → knows (kn w) p ≡ true → TreeLaw N (view m kn h) → TreeLaw N (view m (with_worker kn w (read_birth (kn w) p b)) h)
+pub read_birth_view : (N : ℕ) (m : Memory) (kn : ℕ → Knowledge) (h : ℕ → ℕ) (w p b : ℕ) → knows (kn w) p ≡ true
+    → TreeLaw N (view m kn h) → TreeLaw N (view m (with_worker kn w (read_birth (kn w) p b)) h)
 read_birth_view N m kn h w p b known law = learn_view N m kn h w (read_birth (kn w) p b) (record {
   pin = refl;
   queue = λ o. refl;
   private = λ x. refl;
   drafted = λ x g. refl;
-  met = λ x i. inl (elim (has_put (kn w).known p _ x i) [ inl j ↦ rw j (known_reach N (view m kn h) w p law known) | inr k ↦ known_reach N (view m kn h) w x law k ]);
-  heard = λ x g y i. let old = sym (read_same x g) ∙ i in (has_put_there (kn w).known p _ x (inr (law.reads w x g y old)), inl old);
+  met = λ x i. inl (elim (has_put (kn w).known p _ x i)
+      [ inl j ↦ rw j (known_reach N (view m kn h) w p law known) | inr k ↦ known_reach N (view m kn h) w x law k ]);
+  heard = λ x g y i. let old = sym (read_same x g) ∙ i in
+      (has_put_there (kn w).known p _ x (inr (law.reads w x g y old)), inl old);
 }) law
   where
     read_same : (x : ℕ) (g : Side) → read (read_birth (kn w) p b) x g ≡ read (kn w) x g
-    read_same x g = ap (λ (n : Seen). read_on n g) (seen_put (kn w).known p (record { left = (seen_of (kn w) p).left; right = (seen_of (kn w) p).right; birth = Some b }) x) ∙ go (eqb x p) refl g
+    read_same x g = ap (λ (n : Seen). read_on n g) (seen_put (kn w).known p
+        (record { left = (seen_of (kn w) p).left; right = (seen_of (kn w) p).right; birth = Some b }) x)
+        ∙ go (eqb x p) refl g
       where
-        go : (c : Bool) → eqb x p ≡ c → (g : Side) → read_on (cond c (record { left = (seen_of (kn w) p).left; right = (seen_of (kn w) p).right; birth = Some b }) (seen_of (kn w) x)) g ≡ read (kn w) x g
+        go : (c : Bool) → eqb x p ≡ c → (g : Side) → read_on
+            (cond c (record { left = (seen_of (kn w) p).left; right = (seen_of (kn w) p).right; birth = Some b })
+            (seen_of (kn w) x)) g ≡ read (kn w) x g
         go true i Left = ap (λ (y : ℕ). (seen_of (kn w) y).left) (sym (eqb-true x p i))
         go true i Right = ap (λ (y : ℕ). (seen_of (kn w) y).right) (sym (eqb-true x p i))
         go false i g = refl
@@ -325,11 +383,16 @@ pub record Retimes (k l : Knowledge) : Type 0 where
   pub read : (x : ℕ) (d : Side) → read l x d ≡ read k x d
   pub drafted : (x : ℕ) (d : Side) → drafted_on (draft_of l x) d ≡ drafted_on (draft_of k x) d
 
-pub retimed_view : (N : ℕ) (m : Memory) (kn : ℕ → Knowledge) (h : ℕ → ℕ) (w : ℕ) (k : Knowledge) → Retimes (kn w) k → TreeLaw N (view m kn h)
-    → ((u x o i : ℕ) → InReach (view m kn h) u x → (view m kn h).queue o i ≡ Some x → is_late (with_worker kn w k u).brief.pin (slice_get (held_queue (with_worker kn w k (h o)) o) i) ≡ false)
+pub retimed_view : (N : ℕ) (m : Memory) (kn : ℕ → Knowledge) (h : ℕ → ℕ) (w : ℕ) (k : Knowledge) → Retimes (kn w) k
+    → TreeLaw N (view m kn h)
+    → ((u x o i : ℕ) → InReach (view m kn h) u x → (view m kn h).queue o i ≡ Some x
+    → is_late (with_worker kn w k u).brief.pin (slice_get (held_queue (with_worker kn w k (h o)) o) i) ≡ false)
     → TreeLaw N (view m (with_worker kn w k) h)
-retimed_view N m kn h w k same law young = law_of N (timed (view m kn h) (λ u o i. is_late (with_worker kn w k u).brief.pin (slice_get (held_queue (with_worker kn w k (h o)) o) i))) (view m (with_worker kn w k) h)
-    (time_keeps N (view m kn h) (λ u o i. is_late (with_worker kn w k u).brief.pin (slice_get (held_queue (with_worker kn w k (h o)) o) i)) law young) (record {
+retimed_view N m kn h w k same law young = law_of N
+    (timed (view m kn h) (λ u o i. is_late (with_worker kn w k u).brief.pin
+    (slice_get (held_queue (with_worker kn w k (h o)) o) i))) (view m (with_worker kn w k) h)
+    (time_keeps N (view m kn h) (λ u o i. is_late (with_worker kn w k u).brief.pin
+    (slice_get (held_queue (with_worker kn w k (h o)) o) i)) law young) (record {
       edges = λ x d. refl;
       pool = λ x. refl;
       private = λ u x. same_row (λ y. is_private y x) kn w k (same.private x) u;

@@ -173,7 +173,8 @@ module _ {T C : Type 0} where
   -- two rows of looks, one after the other
   pub looked_twice : (b d e : CallerView T C) (ls ms : List Look) → HasLooked b ls d → HasLooked d ms e
       → HasLooked b (ls ++ ms) e
-  looked_twice b d e ls ms first second = second ∙ (ap (λ (v : CallerView T C). record v { looks = v.looks ++ ms }) first
+  looked_twice b d e ls ms first second = second ∙ (ap (λ (v : CallerView T C). record v { looks = v.looks ++ ms })
+      first
       ∙ ap (λ (l : List Look). record b { looks = l }) (append_assoc b.looks ls ms))
 
   -- first these seats were found away, and then those

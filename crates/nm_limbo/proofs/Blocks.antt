@@ -65,17 +65,24 @@ module _ (E : El) {M : Type 1} {𝓤 : Ura M} (𝓛 : Logic 𝓤) (b o : ℕ) wh
 
   rejoins : ent 𝓤 Joins (sem 𝓛 (Rejoins E (block_ptr b o)))
   rejoins =
-      qed 𝓛 (raw Joins ∷ []) ∵ assume ! (‵ (room_owns (R E) (block_ptr b o))) $ fsplit ! $ move ! (1 ∷ []) $ fsplit ! $ flt_l ! (λ small.
-      use1 𝓛 (‵ (froom (ty_array (elτ E) 32) b at)) (to_room E 𝓛 b 32 at) $ nothing ! $ move ! (2 ∷ 1 ∷ 0 ∷ []) $ group ! 3 $
-      use2 𝓛 (‵ (froom (ty_struct ν fields) b o)) (apply∗ 𝓤 (rooms_at 𝓤 H fields 0 b o) (H.room (ty_struct ν fields) b o)) $ by ! (𝓛.laws.room-raw (ty_struct ν fields) b o))
+      qed 𝓛 (raw Joins ∷ []) ∵ assume ! (‵ (room_owns (R E) (block_ptr b o))) $ fsplit ! $ move ! (1 ∷ []) $ fsplit !
+      $ flt_l ! (λ small.
+      use1 𝓛 (‵ (froom (ty_array (elτ E) 32) b at)) (to_room E 𝓛 b 32 at) $ nothing ! $ move ! (2 ∷ 1 ∷ 0 ∷ []) $
+      group ! 3 $
+      use2 𝓛 (‵ (froom (ty_struct ν fields) b o)) (apply∗ 𝓤 (rooms_at 𝓤 H fields 0 b o)
+      (H.room (ty_struct ν fields) b o)) $ by ! (𝓛.laws.room-raw (ty_struct ν fields) b o))
 
-  pub block_cut : 32 * sz E < 2 ^ 63 → ent 𝓤 (H.room (block E) b o) (sep 𝓤 (sem 𝓛 (room_owns (R E) (block_ptr b o))) (sem 𝓛 (Rejoins E (block_ptr b o))))
+  pub block_cut : 32 * sz E < 2 ^ 63 → ent 𝓤 (H.room (block E) b o)
+      (sep 𝓤 (sem 𝓛 (room_owns (R E) (block_ptr b o))) (sem 𝓛 (Rejoins E (block_ptr b o))))
   block_cut small =
       let none : List (Option (el_x E)) = replicate 32 None in
       qed 𝓛 (‵ (froom (block E) b o) ∷ []) ∵ as_written ! (ty_struct ν fields) b o $
-      use1 𝓛 ((‵ (froom ty_ptr b (o + 0)) ⊛ ‵ (froom (ty_array (elτ E) 32) b at) ⊛ ‵ ftrue) ⊛ raw Joins) (𝓛.laws.room_fields ν fields b o) $ split ! $ split3 ! $ move ! (2 ∷ []) $ drop ! $
-      move ! (1 ∷ []) $ use1 𝓛 (‵ (slots (R E) b at none)) (of_room E 𝓛 b 32 at) $ flt_i ! (length none * sz E) (2 ^ 63) small $ fjoin ! $ move ! (1 ∷ 0 ∷ []) $ fjoin ! $
+      use1 𝓛 ((‵ (froom ty_ptr b (o + 0)) ⊛ ‵ (froom (ty_array (elτ E) 32) b at) ⊛ ‵ ftrue) ⊛ raw Joins)
+      (𝓛.laws.room_fields ν fields b o) $ split ! $ split3 ! $ move ! (2 ∷ []) $ drop ! $
+      move ! (1 ∷ []) $ use1 𝓛 (‵ (slots (R E) b at none)) (of_room E 𝓛 b 32 at) $ flt_i ! (length none * sz E)
+      (2 ^ 63) small $ fjoin ! $ move ! (1 ∷ 0 ∷ []) $ fjoin ! $
       move ! (1 ∷ []) $ use1 𝓛 (‵ (Rejoins E (block_ptr b o))) rejoins $ move ! (1 ∷ []) $ done !
 
-  pub block_glue : ent 𝓤 (sep 𝓤 (sem 𝓛 (room_owns (R E) (block_ptr b o))) (sem 𝓛 (Rejoins E (block_ptr b o)))) (H.room (block E) b o)
+  pub block_glue : ent 𝓤 (sep 𝓤 (sem 𝓛 (room_owns (R E) (block_ptr b o))) (sem 𝓛 (Rejoins E (block_ptr b o))))
+      (H.room (block E) b o)
   block_glue = apply∗ 𝓤 (sem 𝓛 (room_owns (R E) (block_ptr b o))) (H.room (block E) b o)

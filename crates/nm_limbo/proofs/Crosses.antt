@@ -54,18 +54,32 @@ module _ (R : RattleType) where
 
   chain_lent-Common : IsSync R → (ps : List Ptr) (cs : List (Option R.Denot)) → Common (chain_lent R ps cs)
   chain_lent-Common y [] cs κ = tt
-  chain_lent-Common y (p ∷ ps) cs κ = (cells_lent-Common y (places_of R p) (take 32 cs) κ, chain_lent-Common y ps (drop 32 cs) κ)
+  chain_lent-Common y (p ∷ ps) cs κ = (
+    cells_lent-Common y (places_of R p) (take 32 cs) κ,
+    chain_lent-Common y ps
+        (drop 32 cs) κ,
+  )
 
   module _ (A : RattleType) (g : Ghosts A.Denot) where
-    deeds-Keyless : IsSend R → FreesAnywhere A.Denot g → (a : A.Denot) (ps : List Ptr) → Keyless (deeds_own R (g.dealloc_token a) ps)
+    deeds-Keyless : IsSend R → FreesAnywhere A.Denot g → (a : A.Denot) (ps : List Ptr)
+        → Keyless (deeds_own R (g.dealloc_token a) ps)
     deeds-Keyless s f a [] = tt
     deeds-Keyless s f a (p ∷ ps) = ((f.frees a _ p, (empty-Keyless s p, room _ p)), deeds-Keyless s f a ps)
 
     pub Chain-send : IsSend R → FreesAnywhere A.Denot g → IsSend (Chain.the_row R A g)
     Chain-send s f =
         let O = Chain.the_type R A g in let all : AllSend (fields O) = (search sendable, tt) in
-        owning_send O all (λ d. (places-Keyless s d.blocks d.slots, (links-Keyless d.blocks, deeds-Keyless s f d.alloc d.blocks)))
+        owning_send O all (λ d. (
+          places-Keyless s d.blocks d.slots,
+          (links-Keyless d.blocks, deeds-Keyless s f d.alloc d.blocks),
+        ))
         (λ k. quiet (to O) (exits_of k (fields O)) ((struct_send (shape O) all).leaving k))
 
     pub Chain-sync : IsSync R → IsSync (Chain.the_row R A g)
-    Chain-sync y = let O = Chain.the_type R A g in record { shared = λ d b o κ. ((struct_sync (shape O) (search sendable, tt)).shared (to O d) b o κ, chain_lent-Common y d.blocks d.slots κ) }
+    Chain-sync y = let O = Chain.the_type R A g in
+        record {
+          shared = λ d b o κ. (
+            (struct_sync (shape O) (search sendable, tt)).shared (to O d) b o κ,
+            chain_lent-Common y d.blocks d.slots κ,
+          );
+        }

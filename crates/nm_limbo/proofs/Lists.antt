@@ -29,4 +29,5 @@ module _ {X : Type 0} (cs : List (Option X)) where
   take_empty n none le = ap (take n) none ∙ take-replicate n (length cs) None le
 
   pub drop_empty : (n : ℕ) → cs ≡ replicate (length cs) None → drop n cs ≡ replicate (length (drop n cs)) None
-  drop_empty n none = ap (drop n) none ∙ drop-replicate n (length cs) None ∙ ap (λ k. replicate k None) (sym (length-drop n cs))
+  drop_empty n none = ap (drop n) none ∙ drop-replicate n (length cs) None
+      ∙ ap (λ k. replicate k None) (sym (length-drop n cs))

@@ -21,16 +21,21 @@ pub sum_is_weight : {X : Type 0} (f : X → ℕ) (xs : List X) → sum_by f xs �
 sum_is_weight f [] = refl
 sum_is_weight f (x ∷ xs) = sum_by-cons f x xs ∙ ap (λ (n : ℕ). f x + n) (sum_is_weight f xs)
 
-pub weight_same : {X : Type 0} (f g : X → ℕ) (xs : List X) → ((v : ℕ) (z : X) → slice_get xs v ≡ Some z → f z ≡ g z) → weight f xs ≡ weight g xs
+pub weight_same : {X : Type 0} (f g : X → ℕ) (xs : List X) → ((v : ℕ) (z : X) → slice_get xs v ≡ Some z → f z ≡ g z)
+    → weight f xs ≡ weight g xs
 weight_same f g [] same = refl
-weight_same f g (x ∷ xs) same = ap₂ (λ (a b : ℕ). a + b) (same 0 x refl) (weight_same f g xs (λ v z at. same (suc v) z at))
+weight_same f g (x ∷ xs) same = ap₂ (λ (a b : ℕ). a + b) (same 0 x refl)
+    (weight_same f g xs (λ v z at. same (suc v) z at))
 
-pub weight_none : {X : Type 0} (g : X → ℕ) (xs : List X) → ((v : ℕ) (z : X) → slice_get xs v ≡ Some z → g z ≡ 0) → weight g xs ≡ 0
+pub weight_none : {X : Type 0} (g : X → ℕ) (xs : List X) → ((v : ℕ) (z : X) → slice_get xs v ≡ Some z → g z ≡ 0)
+    → weight g xs ≡ 0
 weight_none g [] none = refl
-weight_none g (x ∷ xs) none = let a = none 0 x refl in let b = weight_none g xs (λ v z at. none (suc v) z at) in omega arith
+weight_none g (x ∷ xs) none = let a = none 0 x refl in let b = weight_none g xs (λ v z at. none (suc v) z at) in
+    omega arith
 
 -- one thing weighs 1, and the others nothing
-pub weight_one : {X : Type 0} (g : X → ℕ) (xs : List X) (u : ℕ) (y : X) → slice_get xs u ≡ Some y → g y ≡ 1 → ((v : ℕ) (z : X) → slice_get xs v ≡ Some z → v ≢ u → g z ≡ 0) → weight g xs ≡ 1
+pub weight_one : {X : Type 0} (g : X → ℕ) (xs : List X) (u : ℕ) (y : X) → slice_get xs u ≡ Some y → g y ≡ 1
+    → ((v : ℕ) (z : X) → slice_get xs v ≡ Some z → v ≢ u → g z ≡ 0) → weight g xs ≡ 1
 weight_one g [] u y at one none = absurd (none-some y at)
 weight_one g (x ∷ xs) zero y at one none =
     let a : g x ≡ 1 = ap g (same_Some x y at) ∙ one in
@@ -47,7 +52,8 @@ total (suc n) f = f 0 + total n (λ x. f (suc x))
 
 pub total_same : (n : ℕ) (f g : ℕ → ℕ) → ((x : ℕ) → x < n → f x ≡ g x) → total n f ≡ total n g
 total_same zero f g same = refl
-total_same (suc n) f g same = ap₂ (λ (a b : ℕ). a + b) (same 0 (omega arith)) (total_same n (λ x. f (suc x)) (λ x. g (suc x)) (λ x lt. same (suc x) (omega arith)))
+total_same (suc n) f g same = ap₂ (λ (a b : ℕ). a + b) (same 0 (omega arith))
+    (total_same n (λ x. f (suc x)) (λ x. g (suc x)) (λ x lt. same (suc x) (omega arith)))
 
 pub total_add : (n : ℕ) (f g : ℕ → ℕ) → total n (λ x. f x + g x) ≡ total n f + total n g
 total_add zero f g = refl
@@ -69,11 +75,13 @@ total_at : (n y : ℕ) → y < n → total n (λ x. one_if (x == y)) ≡ 1
 total_at zero y lt = absurd (omega arith)
 total_at (suc n) zero lt =
     let a : one_if (0 == 0) ≡ 1 = ap one_if (eq-eqb 0 0 refl) in
-    let b : total n (λ x. one_if (suc x == 0)) ≡ 0 = total_same n (λ x. one_if (suc x == 0)) (λ x. 0) (λ x _. ap one_if (ne_eqb (suc x) 0 (λ e. absurd (omega arith)))) ∙ total_none n in
+    let b : total n (λ x. one_if (suc x == 0)) ≡ 0 = total_same n (λ x. one_if (suc x == 0)) (λ x. 0)
+    (λ x _. ap one_if (ne_eqb (suc x) 0 (λ e. absurd (omega arith)))) ∙ total_none n in
     omega arith
 total_at (suc n) (suc y) lt =
     let a : one_if (0 == suc y) ≡ 0 = ap one_if (ne_eqb 0 (suc y) (λ e. absurd (omega arith))) in
-    let b : total n (λ x. one_if (suc x == suc y)) ≡ 1 = total_same n (λ x. one_if (suc x == suc y)) (λ x. one_if (x == y)) (λ x _. ap one_if (same_test x y)) ∙ total_at n y (omega arith) in
+    let b : total n (λ x. one_if (suc x == suc y)) ≡ 1 = total_same n (λ x. one_if (suc x == suc y))
+    (λ x. one_if (x == y)) (λ x _. ap one_if (same_test x y)) ∙ total_at n y (omega arith) in
     omega arith
   where
     same_test : (x y : ℕ) → eqb (suc x) (suc y) ≡ eqb x y
@@ -82,9 +90,11 @@ total_at (suc n) (suc y) lt =
       | no ne ↦ ne_eqb (suc x) (suc y) (λ e. ne (omega arith)) ∙ sym (ne_eqb x y ne)
     ]
 
-pub total_weight : {X : Type 0} (n : ℕ) (g : X → ℕ → ℕ) (ks : List X) → total n (λ x. weight (λ k. g k x) ks) ≡ weight (λ k. total n (g k)) ks
+pub total_weight : {X : Type 0} (n : ℕ) (g : X → ℕ → ℕ) (ks : List X)
+    → total n (λ x. weight (λ k. g k x) ks) ≡ weight (λ k. total n (g k)) ks
 total_weight n g [] = total_none n
-total_weight n g (k ∷ ks) = total_add n (g k) (λ x. weight (λ j. g j x) ks) ∙ ap (λ (a : ℕ). total n (g k) + a) (total_weight n g ks)
+total_weight n g (k ∷ ks) = total_add n (g k) (λ x. weight (λ j. g j x) ks)
+    ∙ ap (λ (a : ℕ). total n (g k) + a) (total_weight n g ks)
 
 -- the marks that are set
 pub total_marks : (bs : List Bool) → total (length bs) (λ x. one_if (get_or bs x false)) ≡ length (filter (λ b. b) bs)

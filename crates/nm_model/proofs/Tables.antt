@@ -44,7 +44,8 @@ module _ {X : Type 0} where
 
   pub above_none : (m : List (ℕ × X)) (s q : ℕ) → q ≤ s → Above m s → get m q ≡ None
   above_none [] s q le h = refl
-  above_none (e ∷ es) s q le h = get_head e es q ∙ (cond-false (eqb q e.0) (Some e.1) (get es q) (ne_eqb q e.0 (λ i. let low = h.0 in omega arith)) ∙ above_none es s q le h.1)
+  above_none (e ∷ es) s q le h = get_head e es q ∙ (cond-false (eqb q e.0) (Some e.1) (get es q)
+      (ne_eqb q e.0 (λ i. let low = h.0 in omega arith)) ∙ above_none es s q le h.1)
 
   -- ---- put
 
@@ -53,19 +54,25 @@ module _ {X : Type 0} where
   get-put (e ∷ es) s x q = by (nat_cmp s e.0) refl (get-put es s x q)
     where
       by : (r : Ordering) → nat_cmp s e.0 ≡ r → get (put es s x) q ≡ cond (eqb q s) (Some x) (get es q)
-          → get (match_ordering r ((s, x) ∷ e ∷ es) ((e.0, x) ∷ es) (e ∷ put es s x)) q ≡ cond (eqb q s) (Some x) (get (e ∷ es) q)
+          → get (match_ordering r ((s, x) ∷ e ∷ es) ((e.0, x) ∷ es) (e ∷ put es s x)) q
+          ≡ cond (eqb q s) (Some x) (get (e ∷ es) q)
       by Less h later = get_head (s, x) (e ∷ es) q
       by Equal h later =
           let same = is_equal s e.0 h in
           get_head (e.0, x) es q ∙ go (eqb q s) refl (ap (λ (y : ℕ). eqb q y) (sym same))
         where
-          go : (b : Bool) → eqb q s ≡ b → eqb q e.0 ≡ eqb q s → cond (eqb q e.0) (Some x) (get es q) ≡ cond b (Some x) (get (e ∷ es) q)
+          go : (b : Bool) → eqb q s ≡ b → eqb q e.0 ≡ eqb q s
+              → cond (eqb q e.0) (Some x) (get es q) ≡ cond b (Some x) (get (e ∷ es) q)
           go true is i = cond-true (eqb q e.0) (Some x) (get es q) (i ∙ is)
-          go false is i = cond-false (eqb q e.0) (Some x) (get es q) (i ∙ is) ∙ sym (get_head e es q ∙ cond-false (eqb q e.0) (Some e.1) (get es q) (i ∙ is))
-      by Greater h later = get_head e (put es s x) q ∙ (ap (cond (eqb q e.0) (Some e.1)) later ∙ go (eqb q e.0) (eqb q s) refl refl)
+          go false is i = cond-false (eqb q e.0) (Some x) (get es q) (i ∙ is)
+              ∙ sym (get_head e es q ∙ cond-false (eqb q e.0) (Some e.1) (get es q) (i ∙ is))
+      by Greater h later = get_head e (put es s x) q
+          ∙ (ap (cond (eqb q e.0) (Some e.1)) later ∙ go (eqb q e.0) (eqb q s) refl refl)
         where
-          go : (a b : Bool) → eqb q e.0 ≡ a → eqb q s ≡ b → cond a (Some e.1) (cond b (Some x) (get es q)) ≡ cond b (Some x) (get (e ∷ es) q)
-          go true true i j = let high = is_greater s e.0 h in let one = eqb-true q e.0 i in let two = eqb-true q s j in absurd (omega arith)
+          go : (a b : Bool) → eqb q e.0 ≡ a → eqb q s ≡ b
+              → cond a (Some e.1) (cond b (Some x) (get es q)) ≡ cond b (Some x) (get (e ∷ es) q)
+          go true true i j = let high = is_greater s e.0 h in let one = eqb-true q e.0 i in
+              let two = eqb-true q s j in absurd (omega arith)
           go true false i j = sym (get_head e es q ∙ cond-true (eqb q e.0) (Some e.1) (get es q) i)
           go false true i j = refl
           go false false i j = sym (get_head e es q ∙ cond-false (eqb q e.0) (Some e.1) (get es q) i)
@@ -74,7 +81,8 @@ module _ {X : Type 0} where
   above_put [] s x t lt h = (lt, tt)
   above_put (e ∷ es) s x t lt h = by (nat_cmp s e.0) (above_put es s x t lt h.1)
     where
-      by : (r : Ordering) → Above (put es s x) t → Above (match_ordering r ((s, x) ∷ e ∷ es) ((e.0, x) ∷ es) (e ∷ put es s x)) t
+      by : (r : Ordering) → Above (put es s x) t → Above
+          (match_ordering r ((s, x) ∷ e ∷ es) ((e.0, x) ∷ es) (e ∷ put es s x)) t
       by Less later = (lt, h)
       by Equal later = h
       by Greater later = (h.0, later)
@@ -83,7 +91,8 @@ module _ {X : Type 0} where
   ascends-put [] s x h = (tt, tt)
   ascends-put (e ∷ es) s x h = by (nat_cmp s e.0) refl (ascends-put es s x h.1)
     where
-      by : (r : Ordering) → nat_cmp s e.0 ≡ r → Ascends (put es s x) → Ascends (match_ordering r ((s, x) ∷ e ∷ es) ((e.0, x) ∷ es) (e ∷ put es s x))
+      by : (r : Ordering) → nat_cmp s e.0 ≡ r → Ascends (put es s x)
+          → Ascends (match_ordering r ((s, x) ∷ e ∷ es) ((e.0, x) ∷ es) (e ∷ put es s x))
       by Less i later = let lt = is_less s e.0 i in ((lt, above_less es s e.0 (omega arith) h.0), h)
       by Equal i later = h
       by Greater i later = (above_put es s x e.0 (is_greater s e.0 i) h.0, later)
@@ -98,7 +107,8 @@ module _ {X : Type 0} where
       go false = refl
   get-without (e ∷ es) s q h = by (is_eq (nat_cmp s e.0)) (at_eqb s e.0) (get-without es s q h.1)
     where
-      by : (b : Bool) → b ≡ eqb s e.0 → get (without es s) q ≡ cond (eqb q s) None (get es q) → get (cond b es (e ∷ without es s)) q ≡ cond (eqb q s) None (get (e ∷ es) q)
+      by : (b : Bool) → b ≡ eqb s e.0 → get (without es s) q ≡ cond (eqb q s) None (get es q)
+          → get (cond b es (e ∷ without es s)) q ≡ cond (eqb q s) None (get (e ∷ es) q)
       by true is later = go (eqb q s) refl
         where
           same : s ≡ e.0
@@ -106,11 +116,15 @@ module _ {X : Type 0} where
 
           go : (b : Bool) → eqb q s ≡ b → get es q ≡ cond b None (get (e ∷ es) q)
           go true i = let at = eqb-true q s i in let head = same in above_none es e.0 q (omega arith) h.0
-          go false i = sym (get_head e es q ∙ cond-false (eqb q e.0) (Some e.1) (get es q) (ap (λ (y : ℕ). eqb q y) (sym same) ∙ i))
-      by false is later = get_head e (without es s) q ∙ (ap (cond (eqb q e.0) (Some e.1)) later ∙ go (eqb q e.0) (eqb q s) refl refl)
+          go false i = sym (get_head e es q ∙ cond-false (eqb q e.0) (Some e.1) (get es q)
+              (ap (λ (y : ℕ). eqb q y) (sym same) ∙ i))
+      by false is later = get_head e (without es s) q
+          ∙ (ap (cond (eqb q e.0) (Some e.1)) later ∙ go (eqb q e.0) (eqb q s) refl refl)
         where
-          go : (a b : Bool) → eqb q e.0 ≡ a → eqb q s ≡ b → cond a (Some e.1) (cond b None (get es q)) ≡ cond b None (get (e ∷ es) q)
-          go true true i j = let one = eqb-true q e.0 i in let two = eqb-true q s j in absurd (true≢false (sym (eq-eqb s e.0 (omega arith)) ∙ sym is))
+          go : (a b : Bool) → eqb q e.0 ≡ a → eqb q s ≡ b
+              → cond a (Some e.1) (cond b None (get es q)) ≡ cond b None (get (e ∷ es) q)
+          go true true i j = let one = eqb-true q e.0 i in let two = eqb-true q s j in
+              absurd (true≢false (sym (eq-eqb s e.0 (omega arith)) ∙ sym is))
           go true false i j = sym (get_head e es q ∙ cond-true (eqb q e.0) (Some e.1) (get es q) i)
           go false true i j = refl
           go false false i j = sym (get_head e es q ∙ cond-false (eqb q e.0) (Some e.1) (get es q) i)

@@ -11,12 +11,14 @@ use Rattle.nm_model.specs.Knowledge.{Knowledge, read, slot_read, onward, slot_on
 abbrev at_test : Bool → Option (List Side) → Option (List Side)
 at_test b rest = elim b [ true ↦ Some [] | false ↦ rest ]
 
-one_more : (n m : ℕ) (k : Knowledge) (s p : ℕ) → n ≡ m + 1 → way n k s p ≡ at_test (s == p) (before_way (onward k s) (way m k (slot_on k s (onward k s)) p))
+one_more : (n m : ℕ) (k : Knowledge) (s p : ℕ) → n ≡ m + 1
+    → way n k s p ≡ at_test (s == p) (before_way (onward k s) (way m k (slot_on k s (onward k s)) p))
 one_more n m k s p e = rw (e, add-one) refl
 
 -- at the last node
 pub way_here : (n m : ℕ) (k : Knowledge) (s p : ℕ) → n ≡ m + 1 → s ≡ p → way n k s p ≡ Some []
-way_here n m k s p e same = one_more n m k s p e ∙ ap (λ b. at_test b (before_way (onward k s) (way m k (slot_on k s (onward k s)) p))) (eq-eqb s p same)
+way_here n m k s p e same = one_more n m k s p e
+    ∙ ap (λ b. at_test b (before_way (onward k s) (way m k (slot_on k s (onward k s)) p))) (eq-eqb s p same)
 
 -- where the way goes on
 pub way_next : (n m : ℕ) (k : Knowledge) (s p : ℕ) (side : Side) → n ≡ m + 1 → s ≢ p → onward k s ≡ Some side
@@ -41,7 +43,8 @@ some_before side (Some sides) = refl
 -- the slots so far, then this node with its leaf and those below, are the slots so far with this
 -- node and its leaf, and then those below
 pub cut_before : (k : Knowledge) (slots : List ℕ) (s : ℕ) (side keep : Side) (w : Option (List Side)) → is_some w ≡ true
-    → (slots ++ s ∷ slot_read (read k s (other side)) ∷ []) ++ cut_by k (slot_read (read k s side)) (unwrap_or w []) keep
+    → (slots ++ s ∷ slot_read (read k s (other side)) ∷ [])
+    ++ cut_by k (slot_read (read k s side)) (unwrap_or w []) keep
     ≡ slots ++ cut_by k s (unwrap_or (before_way (Some side) w) []) keep
 cut_before k slots s side keep None is = absurd cc
 cut_before k slots s side keep (Some sides) is = append_assoc slots _ _

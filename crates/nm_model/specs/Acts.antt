@@ -62,7 +62,8 @@ nothing k = ⊥
 -- calls and the keys `last` after them (Herlihy and Wing, legal sequential history)
 abbrev pub Replays : (ℕ → Type 0) → List Act → (ℕ → Type 0) → Type 0
 Replays first [] last = (k : ℕ) → IsKey k → first k ↔ last k
-Replays first (a ∷ acts) last = IsKey a.key × Gives first a.op a.key a.answer × Replays (changed first a.op a.key a.answer) acts last
+Replays first (a ∷ acts) last = IsKey a.key × Gives first a.op a.key a.answer
+    × Replays (changed first a.op a.key a.answer) acts last
 
 -- ---- the set that the words hold
 

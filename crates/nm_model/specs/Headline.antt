@@ -72,7 +72,8 @@ TellsTheEpoch m w _ = ⊥
 abbrev pub TellsWhatStands : Memory → ℕ → Event → Reply → Type 0
 TellsWhatStands m w Sight r = TellsTheEpoch m w r
 TellsWhatStands m w (SightFor op key) r = TellsTheEpoch m w r
-TellsWhatStands m w (Scan u) r = (r ≡ Idle) × (announcement m u ≡ None) ⊎ (e : ℕ) × (r ≡ In e) × (announcement m u ≡ Some e)
+TellsWhatStands m w (Scan u) r = (r ≡ Idle) × (announcement m u ≡ None) ⊎ (e : ℕ) × (r ≡ In e)
+    × (announcement m u ≡ Some e)
 TellsWhatStands m w Advance (Moved e) = e ≡ m.epoch + 1
 TellsWhatStands m w Advance (Behind e) = e ≡ m.epoch
 TellsWhatStands m w (Claim s) (Claimed t) = (t ≡ s) × (in_pool m s ≡ true)
@@ -106,7 +107,8 @@ nodes_freed_of _ = []
 -- a node's edge on a side is tagged, and the one beside it is flagged and leads to the leaf
 -- (Natarajan and Mittal, section 3.2, cleanup; for whole chains ours)
 abbrev pub IsFrozenOver : Memory → ℕ → Side → ℕ → Type 0
-IsFrozenOver m x side leaf = ((edge m x side).tag ≡ true) × ((edge m x (other side)).flag ≡ true) × (child m x (other side) ≡ leaf)
+IsFrozenOver m x side leaf = ((edge m x side).tag ≡ true) × ((edge m x (other side)).flag ≡ true)
+    × (child m x (other side) ≡ leaf)
 
 -- a chain from a slot down to a parent: each internal node is followed by its flagged leaf, and
 -- then by the node to which its tagged edge leads. The last internal node is the parent, and its
@@ -114,7 +116,8 @@ IsFrozenOver m x side leaf = ((edge m x side).tag ≡ true) × ((edge m x (other
 -- ours)
 abbrev pub IsFrozenChainTo : Memory → ℕ → Side → ℕ → List ℕ → Type 0
 IsFrozenChainTo m parent keep s (x ∷ leaf ∷ []) = (x ≡ s) × (x ≡ parent) × IsFrozenOver m x keep leaf
-IsFrozenChainTo m parent keep s (x ∷ leaf ∷ y ∷ rest) = (x ≡ s) × (side : Side) × IsFrozenOver m x side leaf × IsFrozenChainTo m parent keep (child m x side) (y ∷ rest)
+IsFrozenChainTo m parent keep s (x ∷ leaf ∷ y ∷ rest) = (x ≡ s) × (side : Side) × IsFrozenOver m x side leaf
+    × IsFrozenChainTo m parent keep (child m x side) (y ∷ rest)
 IsFrozenChainTo m parent keep s _ = ⊥
 
 -- the slots of these nodes (Natarajan and Mittal, section 3.2, cleanup)
@@ -185,7 +188,8 @@ waits_of w turns = filter (λ n. not (is_among (freed_by turns) n)) (cuts_of w t
 pub record AreFreedInTurn (turns : List Turn) : Type 0 where
   pub queues : (w : ℕ) → freed_of w turns ++ waits_of w turns ≡ cuts_of w turns
   pub only : (n : NodeId) → Contains (freed_by turns) n → (w : ℕ) × Contains (cuts_of w turns) n
-  pub once : (w v i j : ℕ) (n : NodeId) → slice_get (cuts_of w turns) i ≡ Some n → slice_get (cuts_of v turns) j ≡ Some n → (w ≡ v) × (i ≡ j)
+  pub once : (w v i j : ℕ) (n : NodeId) → slice_get (cuts_of w turns) i ≡ Some n
+      → slice_get (cuts_of v turns) j ≡ Some n → (w ≡ v) × (i ≡ j)
 
 -- ---- grace
 
@@ -223,12 +227,14 @@ pub record IsPinned (w : ℕ) (turns : List Turn) : Type 0 where
 -- while a worker is pinned at an epoch, the epoch in memory is that one or the next (Fraser, section
 -- 5.2.3)
 abbrev pub EpochStaysNear : Layout → List Turn → Type 0
-EpochStaysNear L turns = (w e : ℕ) (pin : IsPinned w turns) → pin.sight.outcome ≡ Ok (Pinned e) → ((words_after L turns).epoch ≡ e) ⊎ ((words_after L turns).epoch ≡ e + 1)
+EpochStaysNear L turns = (w e : ℕ) (pin : IsPinned w turns) → pin.sight.outcome ≡ Ok (Pinned e)
+    → ((words_after L turns).epoch ≡ e) ⊎ ((words_after L turns).epoch ≡ e + 1)
 
 -- if a node is cut by one turn and freed by a later one, each worker that was pinned at the cut,
 -- including the remover, has left between the two (Fraser, section 5.2.3)
 abbrev pub Grace : List Turn → Type 0
-Grace turns = (before between rest : List Turn) (cut free : Turn) (n : NodeId) → turns ≡ before ++ cut ∷ (between ++ free ∷ rest)
+Grace turns = (before between rest : List Turn) (cut free : Turn) (n : NodeId)
+    → turns ≡ before ++ cut ∷ (between ++ free ∷ rest)
     → Contains (nodes_cut_of cut.outcome) n → Contains (nodes_freed_of free.outcome) n
     → (w : ℕ) → IsPinned w before → HasLeft w between
 
@@ -251,7 +257,8 @@ lets_go m _ _ x = false
 -- the slot before them
 abbrev pub has_after : Memory → ℕ → ℕ → Bool → List Turn → Bool
 has_after m w x had [] = had
-has_after m w x had (t ∷ ts) = has_after (after_turn m t) w x (if t.worker == w then takes t.event t.outcome x || (had && not (lets_go m t.event t.outcome x)) else had) ts
+has_after m w x had (t ∷ ts) = has_after (after_turn m t) w x
+    (if t.worker == w then takes t.event t.outcome x || (had && not (lets_go m t.event t.outcome x)) else had) ts
 
 -- the places of a slot: in the pool, in a worker's hands, at the end of a path from the root, or at
 -- an index of those of a worker's cuts that wait
@@ -276,13 +283,15 @@ pub record OnePlace (L : Layout) (turns : List Turn) (x : ℕ) : Type 0 where
 
 -- only the worker that has a slot in its hands stores in the slot's fields
 abbrev pub OnlyHoldersStore : Layout → List Turn → Type 0
-OnlyHoldersStore L turns = (before rest : List Turn) (t : Turn) (s v : ℕ) (f : Field) → turns ≡ before ++ t ∷ rest → t.event ≡ Fill s f v → t.outcome ≡ Ok Filled
+OnlyHoldersStore L turns = (before rest : List Turn) (t : Turn) (s v : ℕ) (f : Field) → turns ≡ before ++ t ∷ rest
+    → t.event ≡ Fill s f v → t.outcome ≡ Ok Filled
     → has_after (opening L) t.worker s false before ≡ true
 
 -- a slot that a path from the root reaches has a greater birth than each node in that slot that was
 -- cut (the birth is the node's generation)
 abbrev pub WhatIsReachedIsYounger : Layout → List Turn → Type 0
-WhatIsReachedIsYounger L turns = (w : ℕ) (n : NodeId) → Contains (cuts_of w turns) n → Reached (words_after L turns) n.slot → n.birth < (node (words_after L turns) n.slot).birth
+WhatIsReachedIsYounger L turns = (w : ℕ) (n : NodeId) → Contains (cuts_of w turns) n
+    → Reached (words_after L turns) n.slot → n.birth < (node (words_after L turns) n.slot).birth
 
 -- ---- what workers touch
 
@@ -328,7 +337,8 @@ pub record WasTold (L : Layout) (w x : ℕ) (turns : List Turn) : Type 0 where
 -- a worker touches a slot other than 1 and 2, which it does not have in its hands, only after it
 -- has learned of the slot under its present pin. Each walk begins with slots 1 and 2
 abbrev pub OnlyWhatWasToldIsTouched : Layout → List Turn → Type 0
-OnlyWhatWasToldIsTouched L turns = (before rest : List Turn) (t : Turn) (r : Reply) (x : ℕ) → turns ≡ before ++ t ∷ rest → t.outcome ≡ Ok r → Contains (touched t.event) x → 3 ≤ x
+OnlyWhatWasToldIsTouched L turns = (before rest : List Turn) (t : Turn) (r : Reply) (x : ℕ)
+    → turns ≡ before ++ t ∷ rest → t.outcome ≡ Ok r → Contains (touched t.event) x → 3 ≤ x
     → has_after (opening L) t.worker x false before ≡ false → WasTold L t.worker x before
 
 -- a slot is neither in the pool nor in a worker's hands, and has the birth that it had
@@ -347,7 +357,8 @@ WhatWasToldStays L turns = (w x : ℕ) (o : WasTold L w x turns) → IsStill L o
 -- the theorem, for the turns of a run
 pub record Headline (L : Layout) (turns : List Turn) : Type 0 where
   -- what is read is what the turns have written
-  pub reads : (before rest : List Turn) (t : Turn) (r : Reply) → turns ≡ before ++ t ∷ rest → t.outcome ≡ Ok r → TellsWhatStands (words_after L before) t.worker t.event r
+  pub reads : (before rest : List Turn) (t : Turn) (r : Reply) → turns ≡ before ++ t ∷ rest → t.outcome ≡ Ok r
+      → TellsWhatStands (words_after L before) t.worker t.event r
   -- each turn cuts exactly the nodes that its reply names as cut
   pub cuts : (before rest : List Turn) (t : Turn) → turns ≡ before ++ t ∷ rest → CutsItsNodes (words_after L before) t
   -- at each moment each worker's freed nodes followed by those that wait are its cuts, in their

@@ -34,7 +34,8 @@ call_by n so_far _ _ = so_far
 -- the call after these turns; the first of them is number n
 abbrev pub call_after : ℕ → ℕ → Option Called → List Turn → Option Called
 call_after w n so_far [] = so_far
-call_after w n so_far (t ∷ ts) = call_after w (n + 1) (if t.worker == w then call_by n so_far t.event t.outcome else so_far) ts
+call_after w n so_far (t ∷ ts) = call_after w (n + 1)
+    (if t.worker == w then call_by n so_far t.event t.outcome else so_far) ts
 
 -- the call of a worker's pin after its turns. It began with a sight for it that was answered
 -- `pinned`, and has the number of that turn
@@ -48,9 +49,11 @@ called_in a = record { pin = a.pin; op = a.op; key = a.key }
 -- an act is a call that a leave answered with its answer, or a call that has no answer yet. Its
 -- moment (linearization point), a number of turns, is within the call (Herlihy and Wing)
 pub data IsAct (turns : List Turn) (a : Act) : Type 0 where
-  IsAnswered : (before since : List Turn) → turns ≡ before ++ record { worker = a.worker; event = LeaveWith a.answer; outcome = Ok Departed } ∷ since
+  IsAnswered : (before since : List Turn) → turns ≡ before
+      ++ record { worker = a.worker; event = LeaveWith a.answer; outcome = Ok Departed } ∷ since
       → call_begun a.worker before ≡ Some (called_in a) → a.pin < a.moment → a.moment ≤ length before → IsAct turns a
-  IsPending : call_begun a.worker turns ≡ Some (called_in a) → a.pin < a.moment → a.moment ≤ length turns → IsAct turns a
+  IsPending : call_begun a.worker turns ≡ Some (called_in a) → a.pin < a.moment → a.moment ≤ length turns
+      → IsAct turns a
 
 -- the call has an act, with that answer
 abbrev pub HasAct : List Act → ℕ → Called → Bool → Type 0
@@ -63,26 +66,32 @@ IsInCall turns op a = (call_begun a.worker turns ≡ Some (called_in a)) × (a.o
 
 -- a flag that the worker has won names one of these nodes
 abbrev pub HasFlaggedOneOf : List Turn → ℕ → List NodeId → Type 0
-HasFlaggedOneOf turns w ns = (p : ℕ) × (side : Side) × (s : ℕ) × (n : NodeId) × Contains turns (record { worker = w; event = Flag p side s; outcome = Ok (Flagged n) }) × Contains ns n
+HasFlaggedOneOf turns w ns = (p : ℕ) × (side : Side) × (s : ℕ) × (n : NodeId)
+    × Contains turns (record { worker = w; event = Flag p side s; outcome = Ok (Flagged n) }) × Contains ns n
 
 -- the acts are the answered calls and some of those with no answer yet, each once, in the order of
 -- their moments, which are within the calls. One plain set, empty at first, gives each call its
 -- answer. At each moment it has the keys of the leaves that are reached then (Herlihy and Wing)
 pub record IsHistory (L : Layout) (turns : List Turn) (acts : List Act) : Type 0 where
   pub replays : Replays nothing acts (InSet (words_after L turns))
-  pub moments : (so_far rest : List Turn) → turns ≡ so_far ++ rest → Replays nothing (filter (λ (a : Act). nat_le a.moment (length so_far)) acts) (InSet (words_after L so_far))
+  pub moments : (so_far rest : List Turn) → turns ≡ so_far ++ rest
+      → Replays nothing (filter (λ (a : Act). nat_le a.moment (length so_far)) acts) (InSet (words_after L so_far))
   pub in_order : AllPairs (λ (a b : Act). a.moment ≤ b.moment) acts
   pub once : AllPairs (λ (a b : Act). (a.worker ≡ b.worker) × (a.pin ≡ b.pin) → ⊥) acts
   pub each : (a : Act) → IsAmong acts a → IsAct turns a
-  pub answered : (before since : List Turn) (w : ℕ) (answer : Bool) (c : Called) → turns ≡ before ++ record { worker = w; event = LeaveWith answer; outcome = Ok Departed } ∷ since
+  pub answered : (before since : List Turn) (w : ℕ) (answer : Bool) (c : Called)
+      → turns ≡ before ++ record { worker = w; event = LeaveWith answer; outcome = Ok Departed } ∷ since
       → call_begun w before ≡ Some c → HasAct acts w c answer
   -- a won link is the moment of its own insert. A cut by a splice is the moment of the deletes that
   -- flagged its leaves: their acts follow each other, in the order of the cut
-  pub links : (before since : List Turn) (w p : ℕ) (side : Side) (leaf new : ℕ) (n : NodeId) → turns ≡ before ++ record { worker = w; event = Link p side leaf new; outcome = Ok (Linked n) } ∷ since
+  pub links : (before since : List Turn) (w p : ℕ) (side : Side) (leaf new : ℕ) (n : NodeId)
+      → turns ≡ before ++ record { worker = w; event = Link p side leaf new; outcome = Ok (Linked n) } ∷ since
       → (a : Act) × IsAmong acts a × (a.worker ≡ w) × (a.moment ≡ length before + 1) × IsInCall before Insert a
-  pub cuts : (before since : List Turn) (t : Turn) (ns : List NodeId) → turns ≡ before ++ t ∷ since → t.outcome ≡ Ok (Cut ns)
+  pub cuts : (before since : List Turn) (t : Turn) (ns : List NodeId) → turns ≡ before ++ t ∷ since
+      → t.outcome ≡ Ok (Cut ns)
       → (a : ℕ) (side : Side) (s p : ℕ) (keep : Side) → t.event ≡ Splice a side s p keep
-      → HasInARow acts (leaf_keys (words_after L before) (slots_of ns)) (length before + 1) (λ a. IsInCall before Delete a × HasFlaggedOneOf before a.worker ns)
+      → HasInARow acts (leaf_keys (words_after L before) (slots_of ns)) (length before + 1)
+      (λ a. IsInCall before Delete a × HasFlaggedOneOf before a.worker ns)
 
 -- the turns have a history
 abbrev pub HasHistory : Layout → List Turn → Type 0
@@ -106,7 +115,8 @@ pub record AnswerStands (L : Layout) (was now : List Turn) (w : ℕ) (op : Op) (
   pub begins : length was ≤ pin
   pub history : HasHistory L now
   pub each : (later : List Turn) (acts : List Act) → IsHistory L (now ++ later) acts
-      → (a : Act) × IsAmong acts a × (a.worker ≡ w) × (called_in a ≡ record { pin = pin; op = op; key = k }) × (a.answer ≡ answer)
+      → (a : Act) × IsAmong acts a × (a.worker ≡ w) × (called_in a ≡ record { pin = pin; op = op; key = k })
+      × (a.answer ≡ answer)
       × (pin < a.moment) × (a.moment < length now)
 
 -- ---- one key's look-up

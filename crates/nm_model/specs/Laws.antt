@@ -13,7 +13,17 @@ use Rattle.nm_model.specs.declared.ledger.Ledger.{Ledger}
 use Rattle.nm_model.specs.Memory.{named}
 use Rattle.nm_model.specs.Ledgers.{held}
 use Rattle.nm_model.specs.Paths.{Reached}
-pub use Rattle.nm_model.specs.Headline.{slots_of, nodes_cut_of, nodes_freed_of, cuts_of, freed_by, is_among, freed_of, CutsJust, HasLeft}
+pub use Rattle.nm_model.specs.Headline.{
+  slots_of,
+  nodes_cut_of,
+  nodes_freed_of,
+  cuts_of,
+  freed_by,
+  is_among,
+  freed_of,
+  CutsJust,
+  HasLeft,
+}
 use Rattle.nm_model.specs.Runs.{State, of, start, after, trace, next, outcome}
 
 -- it holds in every state of every run, if there are nodes for the fixed part of the tree

@@ -85,6 +85,7 @@ abbrev pub opening : Layout → Memory
 opening L = record {
   epoch = 0;
   announcements = replicate L.workers None;
-  nodes = blank ∷ fork infinity_2 2 5 ∷ fork infinity_1 3 4 ∷ leaf infinity_0 ∷ leaf infinity_1 ∷ leaf infinity_2 ∷ replicate (L.nodes - 5) blank;
+  nodes = blank ∷ fork infinity_2 2 5 ∷ fork infinity_1 3 4 ∷ leaf infinity_0 ∷ leaf infinity_1 ∷ leaf infinity_2
+      ∷ replicate (L.nodes - 5) blank;
   pool = false ∷ false ∷ false ∷ false ∷ false ∷ false ∷ replicate (L.nodes - 5) true;
 }

@@ -40,7 +40,8 @@ use Rattle.nm_order.proofs.WalksOfRuns.{trace_in-append, log-append}
 
 -- ---- lists
 
-pub later_keys : (before since : List (ℕ × Event)) → All (λ t. HasKey t.1) (before ++ since) → All (λ t. HasKey t.1) since
+pub later_keys : (before since : List (ℕ × Event)) → All (λ t. HasKey t.1) (before ++ since)
+    → All (λ t. HasKey t.1) since
 later_keys [] since keys = keys
 later_keys (t ∷ ts) since keys = later_keys ts since (λ j e less. keys (suc j) e (omega arith))
 
@@ -53,12 +54,17 @@ part-append w (t ∷ ts) us =
 -- a pin stands in these turns, or the last that was confirmed or left has one of their numbers
 pub anew_or_stands : (w p n : ℕ) (xs : List Turn) → p ≤ n → PinStands w xs ⊎ (n ≤ last_anew w p n xs)
 anew_or_stands w p n [] le = inl refl
-anew_or_stands w p n (x ∷ xs) le = by (list_any begins_anew (log_of w (x ∷ []))) refl (λ q small. anew_or_stands w q (n + 1) xs small)
+anew_or_stands w p n (x ∷ xs) le = by (list_any begins_anew (log_of w (x ∷ []))) refl
+    (λ q small. anew_or_stands w q (n + 1) xs small)
   where
-    whole : list_any begins_anew (log_of w (x ∷ xs)) ≡ (list_any begins_anew (log_of w (x ∷ [])) || list_any begins_anew (log_of w xs))
-    whole = ap (list_any begins_anew) (log-append w (x ∷ []) xs) ∙ list_any-append begins_anew (log_of w (x ∷ [])) (log_of w xs)
+    whole : list_any begins_anew (log_of w (x ∷ xs))
+        ≡ (list_any begins_anew (log_of w (x ∷ [])) || list_any begins_anew (log_of w xs))
+    whole = ap (list_any begins_anew) (log-append w (x ∷ []) xs)
+        ∙ list_any-append begins_anew (log_of w (x ∷ [])) (log_of w xs)
 
-    by : (b : Bool) → list_any begins_anew (log_of w (x ∷ [])) ≡ b → ((q : ℕ) → q ≤ n + 1 → PinStands w xs ⊎ (n + 1 ≤ last_anew w q (n + 1) xs)) → PinStands w (x ∷ xs) ⊎ (n ≤ last_anew w (cond b n p) (n + 1) xs)
+    by : (b : Bool) → list_any begins_anew (log_of w (x ∷ [])) ≡ b
+        → ((q : ℕ) → q ≤ n + 1 → PinStands w xs ⊎ (n + 1 ≤ last_anew w q (n + 1) xs))
+        → PinStands w (x ∷ xs) ⊎ (n ≤ last_anew w (cond b n p) (n + 1) xs)
     by true is rest = inr (last_grows w n (n + 1) xs (omega arith)).0
     by false is rest = elim (rest p (omega arith)) [
       | inl stands ↦ inl (whole ∙ (ap (λ (b : Bool). b || list_any begins_anew (log_of w xs)) is ∙ stands))
@@ -70,25 +76,35 @@ anew_or_stands w p n (x ∷ xs) le = by (list_any begins_anew (log_of w (x ∷ [
 module _ (L : Layout) (enough : 5 ≤ L.nodes) where
   -- the number of a pin is below that of the next turn but one
   pin_at_most : (ts : List (ℕ × Event)) (w : ℕ) → pin_of L ts w ≤ length ts
-  pin_at_most ts w = let g = (last_grows w 0 0 (trace_in (ordered L) ts) (omega arith)).1 in let t = length_trace (ordered L) ts in omega (arith, g, t)
+  pin_at_most ts w = let g = (last_grows w 0 0 (trace_in (ordered L) ts) (omega arith)).1 in
+      let t = length_trace (ordered L) ts in omega (arith, g, t)
 
   module _ (before : List (ℕ × Event)) (keys : All (λ t. HasKey t.1) before) (w k : ℕ) where
-    legal_later : (op : Op) (answer : Bool) (m : WasLegal L before w op k answer) → (pin_of L before w < length m.before) × (length m.before ≤ length before)
+    legal_later : (op : Op) (answer : Bool) (m : WasLegal L before w op k answer)
+        → (pin_of L before w < length m.before) × (length m.before ≤ length before)
     legal_later op answer m =
-        let stays : pin_of L before w ≡ pin_of L m.before w = ap (λ (l : List (ℕ × Event)). pin_of L l w) m.is_run ∙ pin_stays L m.before m.since w m.stands in
-        let less = pin_below L enough m.before (first_keys m.before m.since (subst (λ (l : List (ℕ × Event)). All (λ t. HasKey t.1) l) m.is_run keys)) w (record { op = op; key = k }) (is_own_call (after_in (ordered L) m.before) w op k m.called) in
-        let long : length before ≡ length m.before + length m.since = ap (λ (l : List (ℕ × Event)). length l) m.is_run ∙ length-append m.before m.since in
+        let stays : pin_of L before w ≡ pin_of L m.before w = ap (λ (l : List (ℕ × Event)). pin_of L l w) m.is_run
+        ∙ pin_stays L m.before m.since w m.stands in
+        let less = pin_below L enough m.before (first_keys m.before m.since
+        (subst (λ (l : List (ℕ × Event)). All (λ t. HasKey t.1) l) m.is_run keys)) w
+        (record { op = op; key = k }) (is_own_call (after_in (ordered L) m.before) w op k m.called) in
+        let long : length before ≡ length m.before + length m.since = ap (λ (l : List (ℕ × Event)). length l)
+        m.is_run ∙ length-append m.before m.since in
         (omega (arith, stays, less), omega (arith, long))
 
-    inserted_later : (m : HasWonInsert L before w k) → (pin_of L before w < length m.before + 1) × (length m.before + 1 ≤ length before)
+    inserted_later : (m : HasWonInsert L before w k)
+        → (pin_of L before w < length m.before + 1) × (length m.before + 1 ≤ length before)
     unfolding after_in
     inserted_later m =
         let stays : pin_of L before w ≡ pin_of L (m.before ++ link ∷ []) w =
         ap (λ (l : List (ℕ × Event)). pin_of L l w) (m.is_run ∙ sym (append_assoc m.before (link ∷ []) m.since))
-        ∙ pin_stays L (m.before ++ link ∷ []) m.since w (subst (λ (c : Configuration). PinStands w (trace_in c m.since)) (sym (after_in-append (ordered L) m.before (link ∷ []))) m.stands) in
+        ∙ pin_stays L (m.before ++ link ∷ []) m.since w
+        (subst (λ (c : Configuration). PinStands w (trace_in c m.since))
+        (sym (after_in-append (ordered L) m.before (link ∷ []))) m.stands) in
         let more = pin_more L m.before link w in
         let most = by (list_any begins_anew (entries w (after_in (ordered L) m.before) link)) in
-        let long : length before ≡ length m.before + length (link ∷ m.since) = ap (λ (l : List (ℕ × Event)). length l) m.is_run ∙ length-append m.before (link ∷ m.since) in
+        let long : length before ≡ length m.before + length (link ∷ m.since) = ap
+        (λ (l : List (ℕ × Event)). length l) m.is_run ∙ length-append m.before (link ∷ m.since) in
         (omega (arith, stays, more, most), omega (arith, long))
       where
         link : ℕ × Event
@@ -98,14 +114,19 @@ module _ (L : Layout) (enough : 5 ≤ L.nodes) where
         by true = omega arith
         by false = pin_at_most m.before w
 
-    deleted_later : (m : HasWonDelete L before w k) → (pin_of L before w < length m.before + 1) × (length m.before + 1 ≤ length before)
+    deleted_later : (m : HasWonDelete L before w k)
+        → (pin_of L before w < length m.before + 1) × (length m.before + 1 ≤ length before)
     deleted_later m =
-        let stays : pin_of L before w ≡ pin_of L m.before w = ap (λ (l : List (ℕ × Event)). pin_of L l w) m.is_run ∙ pin_stays L m.before (m.cut ∷ m.since) w m.stands in
+        let stays : pin_of L before w ≡ pin_of L m.before w = ap (λ (l : List (ℕ × Event)). pin_of L l w) m.is_run
+        ∙ pin_stays L m.before (m.cut ∷ m.since) w m.stands in
         let most = pin_at_most m.before w in
-        let long : length before ≡ length m.before + length (m.cut ∷ m.since) = ap (λ (l : List (ℕ × Event)). length l) m.is_run ∙ length-append m.before (m.cut ∷ m.since) in
+        let long : length before ≡ length m.before + length (m.cut ∷ m.since) = ap
+        (λ (l : List (ℕ × Event)). length l) m.is_run ∙ length-append m.before (m.cut ∷ m.since) in
         (omega (arith, stays, most), omega (arith, long))
 
-    moment_later : (op : Op) (answer : Bool) (m : HasMoment L before w op k answer) → (pin_of L before w < moment_number L before w op k answer m) × (moment_number L before w op k answer m ≤ length before)
+    moment_later : (op : Op) (answer : Bool) (m : HasMoment L before w op k answer)
+        → (pin_of L before w < moment_number L before w op k answer m)
+        × (moment_number L before w op k answer m ≤ length before)
     moment_later Has answer m = legal_later Has answer m
     moment_later Insert true m = inserted_later m
     moment_later Insert false m = legal_later Insert false m
@@ -114,9 +135,12 @@ module _ (L : Layout) (enough : 5 ≤ L.nodes) where
 
 -- ---- the law
 
-module _ (L : Layout) (enough : 5 ≤ L.nodes) (w : ℕ) (below : w < L.workers) (past more : List (ℕ × Event)) (keys : All (λ t. HasKey t.1) (past ++ more)) (log : List Entry) (op : Op) (k : ℕ) (answer : Bool)
-    (is_part : part_of w (trace_in (ordered L) (past ++ more)) ≡ log ++ (LeaveWith answer, Departed) ∷ []) (added : List Entry) (grown : log ≡ part_of w (trace_in (ordered L) past) ++ added)
-    (no_call : (search_after idle (part_of w (trace_in (ordered L) past))).call ≡ None) (called : (search_after idle log).call ≡ Some (record { op = op; key = k })) where
+module _ (L : Layout) (enough : 5 ≤ L.nodes) (w : ℕ) (below : w < L.workers) (past more : List (ℕ × Event))
+    (keys : All (λ t. HasKey t.1) (past ++ more)) (log : List Entry) (op : Op) (k : ℕ) (answer : Bool)
+    (is_part : part_of w (trace_in (ordered L) (past ++ more)) ≡ log ++ (LeaveWith answer, Departed) ∷ [])
+    (added : List Entry) (grown : log ≡ part_of w (trace_in (ordered L) past) ++ added)
+    (no_call : (search_after idle (part_of w (trace_in (ordered L) past))).call ≡ None)
+    (called : (search_after idle log).call ≡ Some (record { op = op; key = k })) where
   last : LastTurn w (ordered L) (past ++ more) log (LeaveWith answer, Departed)
   last = last_turn w (past ++ more) keys (ordered L) log (LeaveWith answer, Departed) is_part
 
@@ -125,7 +149,9 @@ module _ (L : Layout) (enough : 5 ≤ L.nodes) (w : ℕ) (below : w < L.workers)
 
   -- the answer is no turn of the past, which has fewer entries
   not_past : (mid : List (ℕ × Event)) → past ≡ (last.before ++ last.turn ∷ []) ++ mid → ⊥
-  not_past mid is = let a = longer in let b = length-append log (last_reply ∷ rest) in let c = length-append (part_of w (trace_in (ordered L) past)) added in let d = ap (λ (l : List Entry). length l) grown in absurd (omega (arith, a, b, c, d))
+  not_past mid is = let a = longer in let b = length-append log (last_reply ∷ rest) in
+      let c = length-append (part_of w (trace_in (ordered L) past)) added in
+      let d = ap (λ (l : List Entry). length l) grown in absurd (omega (arith, a, b, c, d))
     where
       last_reply : Entry
       last_reply = (last.turn.1, reply_of (after_in (ordered L) last.before).state last.turn.0 last.turn.1)
@@ -135,43 +161,61 @@ module _ (L : Layout) (enough : 5 ≤ L.nodes) (w : ℕ) (below : w < L.workers)
 
       longer : length (part_of w (trace_in (ordered L) past)) ≡ length (log ++ last_reply ∷ rest)
       longer = ap (λ (l : List Entry). length l) (
-          ap (λ (l : List (ℕ × Event)). part_of w (trace_in (ordered L) l)) (is ∙ append_assoc last.before (last.turn ∷ []) mid)
+          ap (λ (l : List (ℕ × Event)). part_of w (trace_in (ordered L) l))
+          (is ∙ append_assoc last.before (last.turn ∷ []) mid)
           ∙ (ap (part_of w) (trace_in-append (ordered L) last.before (last.turn ∷ mid))
-          ∙ (part-append w (trace_in (ordered L) last.before) (trace_in (after_in (ordered L) last.before) (last.turn ∷ mid))
-          ∙ (λ i. last.is_before i ++ own_adds w (after_in (ordered L) last.before) last.turn mid last.is_allowed last.takes i))))
+          ∙ (part-append w (trace_in (ordered L) last.before)
+          (trace_in (after_in (ordered L) last.before) (last.turn ∷ mid))
+          ∙ (λ i. last.is_before i ++ own_adds w (after_in (ordered L) last.before) last.turn mid last.is_allowed
+          last.takes i))))
 
   goes_on : (mid : List (ℕ × Event)) × (last.before ≡ past ++ mid)
   goes_on = elim (cases_lt (length last.before) (length past)) [
-    | inl less ↦ (let m = begins_with (last.before ++ last.turn ∷ []) last.since past more (append_assoc last.before (last.turn ∷ []) last.since ∙ sym last.is_run) (let l = length-append last.before (last.turn ∷ []) in omega (arith, less, l)) in absurd (not_past m.0 m.1))
+    | inl less ↦ (let m = begins_with (last.before ++ last.turn ∷ []) last.since past more
+        (append_assoc last.before (last.turn ∷ []) last.since ∙ sym last.is_run)
+        (let l = length-append last.before (last.turn ∷ []) in omega (arith, less, l)) in absurd (not_past m.0 m.1))
     | inr le ↦ begins_with past more last.before (last.turn ∷ last.since) last.is_run le
   ]
 
-  own_call : (ts : List (ℕ × Event)) → All (λ t. HasKey t.1) ts → (l : List Entry) → part_of w (trace_in (ordered L) ts) ≡ l → (own_search (after_in (ordered L) ts) w).call ≡ (search_after idle l).call
+  own_call : (ts : List (ℕ × Event)) → All (λ t. HasKey t.1) ts → (l : List Entry)
+      → part_of w (trace_in (ordered L) ts) ≡ l → (own_search (after_in (ordered L) ts) w).call
+      ≡ (search_after idle l).call
   own_call ts has l is =
-      let told : ToldBy L w l (after_in (ordered L) ts) = subst (λ (x : List Entry). ToldBy L w x (after_in (ordered L) ts)) is (told_by_part L enough w below ts has) in
-      ap (λ (S : Search). S.call) (ap (λ (x : Option (List Search)). search_of (unwrap_or x []) w) told.is_ordered.are ∙ told.search)
+      let told : ToldBy L w l (after_in (ordered L) ts) = subst
+      (λ (x : List Entry). ToldBy L w x (after_in (ordered L) ts)) is (told_by_part L enough w below ts has) in
+      ap (λ (S : Search). S.call) (ap (λ (x : Option (List Search)). search_of (unwrap_or x []) w)
+      told.is_ordered.are ∙ told.search)
 
   -- the pin of the call was confirmed behind the past
   pinned : length past ≤ pin_of L last.before w
-  pinned = elim (anew_or_stands w (pin_of L past w) (length (trace_in (ordered L) past)) (trace_in (after_in (ordered L) past) goes_on.0) (let m = pin_at_most L enough past w in let t = length_trace (ordered L) past in omega (arith, m, t))) [
-    | inl stands ↦ absurd (none-some (record { op = op; key = k }) (sym (own_call past past_keys _ refl ∙ no_call) ∙ (sym (stayed stands) ∙ (own_call last.before last.keys log last.is_before ∙ called))))
-    | inr anew ↦ (let j = joined in let t = length_trace (ordered L) past in omega (arith, anew, j, t))
-  ]
+  pinned = elim (anew_or_stands w (pin_of L past w) (length (trace_in (ordered L) past))
+      (trace_in (after_in (ordered L) past) goes_on.0)
+      (let m = pin_at_most L enough past w in let t = length_trace (ordered L) past in omega (arith, m, t))) [
+        | inl stands ↦ absurd (none-some (record { op = op; key = k })
+            (sym (own_call past past_keys _ refl ∙ no_call)
+            ∙ (sym (stayed stands) ∙ (own_call last.before last.keys log last.is_before ∙ called))))
+        | inr anew ↦ (let j = joined in let t = length_trace (ordered L) past in omega (arith, anew, j, t))
+      ]
     where
-      joined : pin_of L last.before w ≡ last_anew w (pin_of L past w) (length (trace_in (ordered L) past)) (trace_in (after_in (ordered L) past) goes_on.0)
+      joined : pin_of L last.before w ≡ last_anew w (pin_of L past w) (length (trace_in (ordered L) past))
+          (trace_in (after_in (ordered L) past) goes_on.0)
       joined = ap (λ (l : List (ℕ × Event)). pin_of L l w) goes_on.1
           ∙ (ap (last_anew w 0 0) (trace_in-append (ordered L) past goes_on.0)
           ∙ (last-join w 0 0 (trace_in (ordered L) past) (trace_in (after_in (ordered L) past) goes_on.0)
-          ∙ ap (λ (n : ℕ). last_anew w (pin_of L past w) n (trace_in (after_in (ordered L) past) goes_on.0)) (plain (length (trace_in (ordered L) past)))))
+          ∙ ap (λ (n : ℕ). last_anew w (pin_of L past w) n (trace_in (after_in (ordered L) past) goes_on.0))
+          (plain (length (trace_in (ordered L) past)))))
         where
           plain : (n : ℕ) → 0 + n ≡ n
           plain n = omega arith
 
-      stayed : PinStands w (trace_in (after_in (ordered L) past) goes_on.0) → (own_search (after_in (ordered L) last.before) w).call ≡ (own_search (after_in (ordered L) past) w).call
+      stayed : PinStands w (trace_in (after_in (ordered L) past) goes_on.0)
+          → (own_search (after_in (ordered L) last.before) w).call ≡ (own_search (after_in (ordered L) past) w).call
       stayed stands =
           ap (λ (l : List (ℕ × Event)). (own_search (after_in (ordered L) l) w).call) goes_on.1
           ∙ (ap (λ (c : Configuration). (own_search c w).call) (after_in-append (ordered L) past goes_on.0)
-          ∙ call_stays L enough w goes_on.0 (later_keys past goes_on.0 (subst (λ (l : List (ℕ × Event)). All (λ t. HasKey t.1) l) goes_on.1 last.keys)) (after_in (ordered L) past) (each_ordered L enough past past_keys) stands)
+          ∙ call_stays L enough w goes_on.0 (later_keys past goes_on.0
+          (subst (λ (l : List (ℕ × Event)). All (λ t. HasKey t.1) l) goes_on.1 last.keys))
+          (after_in (ordered L) past) (each_ordered L enough past past_keys) stands)
 
   is_leave : last.turn.1 ≡ LeaveWith answer
   is_leave = ap (λ (x : Entry). x.0) last.is_entry
@@ -192,21 +236,32 @@ module _ (L : Layout) (enough : 5 ≤ L.nodes) (w : ℕ) (below : w < L.workers)
         may = may;
         pinned = pinned;
         moment = moment_of L enough last.before last.keys w op k answer may;
-        later = (moment_later L enough last.before last.keys w k op answer (moment_of L enough last.before last.keys w op k answer may)).0;
-        sooner = (moment_later L enough last.before last.keys w k op answer (moment_of L enough last.before last.keys w op k answer may)).1;
+        later = (moment_later L enough last.before last.keys w k op answer
+            (moment_of L enough last.before last.keys w op k answer may)).0;
+        sooner = (moment_later L enough last.before last.keys w k op answer
+            (moment_of L enough last.before last.keys w op k answer may)).1;
       }
         where
           turn : last.turn ≡ (w, LeaveWith answer)
           turn = λ i. (own i, is_leave i)
 
           told : ToldBy L w log (after_in (ordered L) last.before)
-          told = subst (λ (x : List Entry). ToldBy L w x (after_in (ordered L) last.before)) last.is_before (told_by_part L enough w below last.before last.keys)
+          told = subst (λ (x : List Entry). ToldBy L w x (after_in (ordered L) last.before)) last.is_before
+              (told_by_part L enough w below last.before last.keys)
 
           may : MayAnswer (after_in (ordered L) last.before) w op k answer
           may = record {
-            called = record { searches = told.is_ordered.searches; are = told.is_ordered.are; is_call = ap (λ (S : Search). S.call) told.search ∙ called };
-            leaves = ap (outcome_in (after_in (ordered L) last.before)) (sym turn) ∙ (allowed_outcome (after_in (ordered L) last.before) last.turn last.is_allowed ∙ ap (λ (r : Reply). Ok r) (ap (λ (x : Entry). x.1) last.is_entry));
+            called = record {
+              searches = told.is_ordered.searches;
+              are = told.is_ordered.are;
+              is_call = ap
+                  (λ (S : Search). S.call) told.search ∙ called;
+            };
+            leaves = ap (outcome_in (after_in (ordered L) last.before)) (sym turn)
+                ∙ (allowed_outcome (after_in (ordered L) last.before) last.turn last.is_allowed
+                ∙ ap (λ (r : Reply). Ok r) (ap (λ (x : Entry). x.1) last.is_entry));
           }
 
 pub answers_are_of_their_calls : AnswersAreOfTheirCalls
-answers_are_of_their_calls L enough w below past more keys log op k answer is_part entries grown no_call called = answered_since L enough w below past more keys log op k answer is_part entries grown no_call called
+answers_are_of_their_calls L enough w below past more keys log op k answer is_part entries grown no_call called =
+    answered_since L enough w below past more keys log op k answer is_part entries grown no_call called

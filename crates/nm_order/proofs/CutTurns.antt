@@ -47,7 +47,8 @@ cut_shown r h = absurd (true≢false (sym h))
 
 -- ---- lists
 
-mapped : {X Y : Type 0} (f : X → Y) (xs : List X) (i : ℕ) (x : X) → slice_get xs i ≡ Some x → slice_get (map f xs) i ≡ Some (f x)
+mapped : {X Y : Type 0} (f : X → Y) (xs : List X) (i : ℕ) (x : X) → slice_get xs i ≡ Some x
+    → slice_get (map f xs) i ≡ Some (f x)
 mapped f [] i x at = absurd (none-some x at)
 mapped f (y ∷ xs) zero x at = ap Some (ap f (same_Some y x at))
 mapped f (y ∷ xs) (suc i) x at = mapped f xs i x at
@@ -65,17 +66,27 @@ module _ (L : Layout) (enough : 5 ≤ L.nodes) where
     pub reached_inside : (x : ℕ) → Reached c.state.memory x → x ≤ L.nodes
     reached_inside x r =
         let l = law_of_state L enough c o in
-        subst (λ (m : Layout). x ≤ m.nodes) layout_is (subst (λ (y : ℕ). y ≤ c.state.layout.nodes) r.ends (within_path c.state.layout.nodes (picture c.state l.0) l.1.tree 1 r.path (let room = l.1.tree.room in omega arith)))
+        subst (λ (m : Layout). x ≤ m.nodes) layout_is
+        (subst (λ (y : ℕ). y ≤ c.state.layout.nodes) r.ends
+        (within_path c.state.layout.nodes (picture c.state l.0) l.1.tree 1 r.path
+        (let room = l.1.tree.room in omega arith)))
 
     -- a slot is reached, or it is not
     pub reached_or : (x : ℕ) → x ≢ 0 → x ≤ L.nodes → Reached c.state.memory x ⊎ (Reached c.state.memory x → ⊥)
     reached_or x some inside = by one.place refl one.here
       where
         one : OneSlotPlace c.state x
-        one = subst (λ (s : State). x ≤ s.layout.nodes → OneSlotPlace s x) (sym o.leads) (each_slot_has_one_place L enough o.events x some) (subst (λ (m : Layout). x ≤ m.nodes) (sym layout_is) inside)
+        one = subst (λ (s : State). x ≤ s.layout.nodes → OneSlotPlace s x) (sym o.leads)
+            (each_slot_has_one_place L enough o.events x some)
+            (subst (λ (m : Layout). x ≤ m.nodes) (sym layout_is) inside)
 
-        by : (p : SlotPlace) → one.place ≡ p → SlotStandsAt c.state x one.place → Reached c.state.memory x ⊎ (Reached c.state.memory x → ⊥)
-        by (OnPath path) is here = inl (record { path = path; ends = subst (SlotStandsAt c.state x) is here; is_slot = some })
+        by : (p : SlotPlace) → one.place ≡ p → SlotStandsAt c.state x one.place
+            → Reached c.state.memory x ⊎ (Reached c.state.memory x → ⊥)
+        by (OnPath path) is here = inl (record {
+          path = path;
+          ends = subst (SlotStandsAt c.state x) is here;
+          is_slot = some;
+        })
         by InPool is here = inr (λ r. differ (one.only (OnPath r.path) r.ends ∙ is))
           where
             differ : {q : List Side} → OnPath q ≡ InPool → ⊥
@@ -92,17 +103,22 @@ module _ (L : Layout) (enough : 5 ≤ L.nodes) where
   -- what a turn does to a reached slot
   pub data CutOrNot (c : Configuration) (t : ℕ × Event) (x : ℕ) : Type 0 where
     StaysReached : Reached (next_in c t).state.memory x → CutOrNot c t x
-    IsCutNow : (ns : List NodeId) → outcome_in c t ≡ Ok (Cut ns) → Contains ns (named c.state.memory x) → (Reached (next_in c t).state.memory x → ⊥) → CutOrNot c t x
+    IsCutNow : (ns : List NodeId) → outcome_in c t ≡ Ok (Cut ns) → Contains ns (named c.state.memory x)
+        → (Reached (next_in c t).state.memory x → ⊥) → CutOrNot c t x
 
   -- of a splice that is won: what it cuts, and the births that it names
-  pub cut_shows : (c : Configuration) (t : ℕ × Event) → IsOrdered L c → (ns : List NodeId) → outcome_in c t ≡ Ok (Cut ns)
-      → ((x : ℕ) → IsCut c.state.memory (next_in c t).state.memory x ↔ Contains (slots_of ns) x) × (ns ≡ map (named c.state.memory) (slots_of ns))
+  pub cut_shows : (c : Configuration) (t : ℕ × Event) → IsOrdered L c → (ns : List NodeId)
+      → outcome_in c t ≡ Ok (Cut ns)
+      → ((x : ℕ) → IsCut c.state.memory (next_in c t).state.memory x ↔ Contains (slots_of ns) x)
+      × (ns ≡ map (named c.state.memory) (slots_of ns))
   cut_shows c t o ns is = go (refused_in c t.0 t.1) refl
     where
       Shows : State → State → Type 0
-      Shows s s' = ((x : ℕ) → IsCut s.memory s'.memory x ↔ Contains (slots_of ns) x) × (ns ≡ map (named s.memory) (slots_of ns))
+      Shows s s' = ((x : ℕ) → IsCut s.memory s'.memory x ↔ Contains (slots_of ns) x)
+          × (ns ≡ map (named s.memory) (slots_of ns))
 
-      by : outcome (after (start L) o.events) t ≡ Ok (Cut ns) → Shows (after (start L) o.events) (next (after (start L) o.events) t)
+      by : outcome (after (start L) o.events) t ≡ Ok (Cut ns)
+          → Shows (after (start L) o.events) (next (after (start L) o.events) t)
       by is = on (only_splices_answer_cuts L enough o.events t ns is)
         where
           on : SpliceOrSwap t.1 → Shows (after (start L) o.events) (next (after (start L) o.events) t)
@@ -110,7 +126,8 @@ module _ (L : Layout) (enough : 5 ≤ L.nodes) where
               let turn : t ≡ (t.0, Splice e.0 e.1 e.2 e.3 e.4) = λ i. (t.0, e.5 i) in
               let is' : outcome (after (start L) o.events) (t.0, Splice e.0 e.1 e.2 e.3 e.4) ≡ Ok (Cut ns) =
               ap (outcome (after (start L) o.events)) (sym turn) ∙ is in
-              subst (λ (u : ℕ × Event). Shows (after (start L) o.events) (next (after (start L) o.events) u)) (sym turn) (
+              subst (λ (u : ℕ × Event). Shows (after (start L) o.events) (next (after (start L) o.events) u))
+              (sym turn) (
                 cuts_just L enough o.events t.0 e.0 e.1 e.2 e.3 e.4 ns is',
                 cuts_name_births L enough o.events t.0 e.0 e.1 e.2 e.3 e.4 ns is',
               )
@@ -118,7 +135,8 @@ module _ (L : Layout) (enough : 5 ≤ L.nodes) where
               let turn : t ≡ (t.0, Swap e.0 e.1 e.2 e.3) = λ i. (t.0, e.4 i) in
               let is' : outcome (after (start L) o.events) (t.0, Swap e.0 e.1 e.2 e.3) ≡ Ok (Cut ns) =
               ap (outcome (after (start L) o.events)) (sym turn) ∙ is in
-              subst (λ (u : ℕ × Event). Shows (after (start L) o.events) (next (after (start L) o.events) u)) (sym turn) (
+              subst (λ (u : ℕ × Event). Shows (after (start L) o.events) (next (after (start L) o.events) u))
+              (sym turn) (
                 swaps_cut_just L enough o.events t.0 e.0 e.1 e.2 e.3 ns is',
                 swaps_name_births L enough o.events t.0 e.0 e.1 e.2 e.3 ns is',
               )
@@ -126,21 +144,28 @@ module _ (L : Layout) (enough : 5 ≤ L.nodes) where
       go : (r : Option Refused) → refused_in c t.0 t.1 ≡ r → Shows c.state (next_in c t).state
       go (Some r) why = absurd (no_reply r (Cut ns) (sym (refused_outcome c t r why) ∙ is))
       go None why = subst (Shows c.state) (allowed_state c t why)
-          (subst (λ (s : State). outcome s t ≡ Ok (Cut ns) → Shows s (next s t)) (sym o.leads) by (state_outcome c t why ∙ (sym (allowed_outcome c t why) ∙ is)))
+          (subst (λ (s : State). outcome s t ≡ Ok (Cut ns) → Shows s (next s t)) (sym o.leads) by
+          (state_outcome c t why ∙ (sym (allowed_outcome c t why) ∙ is)))
 
   -- and that its nodes go down a frozen chain
   pub cut_goes_down : (c : Configuration) (t : ℕ × Event) → IsOrdered L c → (ns : List NodeId) → IsSplice t.1
       → outcome_in c t ≡ Ok (Cut ns) → (s : ℕ) × IsFrozenChain c.state.memory s (slots_of ns)
   cut_goes_down c t o ns e is = go (refused_in c t.0 t.1) refl
     where
-      by : outcome (after (start L) o.events) t ≡ Ok (Cut ns) → (s : ℕ) × IsFrozenChain (after (start L) o.events).memory s (slots_of ns)
+      by : outcome (after (start L) o.events) t ≡ Ok (Cut ns)
+          → (s : ℕ) × IsFrozenChain (after (start L) o.events).memory s (slots_of ns)
       by is =
-          let turn : t ≡ (t.0, Splice e.0 e.1 e.2 e.3 e.4) = λ i. (t.0, e.5 i) in
-          (e.2, cuts_go_down L enough o.events t.0 e.0 e.1 e.2 e.3 e.4 ns (ap (outcome (after (start L) o.events)) (sym turn) ∙ is))
+          let turn : t ≡ (t.0, Splice e.0 e.1 e.2 e.3 e.4) = λ i. (t.0, e.5 i) in (
+            e.2,
+            cuts_go_down L enough o.events t.0 e.0 e.1 e.2 e.3 e.4 ns
+                (ap (outcome (after (start L) o.events)) (sym turn) ∙ is),
+          )
 
       go : (r : Option Refused) → refused_in c t.0 t.1 ≡ r → (s : ℕ) × IsFrozenChain c.state.memory s (slots_of ns)
       go (Some r) why = absurd (no_reply r (Cut ns) (sym (refused_outcome c t r why) ∙ is))
-      go None why = subst (λ (s : State). outcome s t ≡ Ok (Cut ns) → (x : ℕ) × IsFrozenChain s.memory x (slots_of ns)) (sym o.leads) by (state_outcome c t why ∙ (sym (allowed_outcome c t why) ∙ is))
+      go None why = subst (λ (s : State). outcome s t ≡ Ok (Cut ns)
+          → (x : ℕ) × IsFrozenChain s.memory x (slots_of ns)) (sym o.leads) by
+          (state_outcome c t why ∙ (sym (allowed_outcome c t why) ∙ is))
 
   -- that it is a splice, or a swap
   pub cut_is : (c : Configuration) (t : ℕ × Event) → IsOrdered L c → (ns : List NodeId) → outcome_in c t ≡ Ok (Cut ns)
@@ -149,34 +174,44 @@ module _ (L : Layout) (enough : 5 ≤ L.nodes) where
     where
       go : (r : Option Refused) → refused_in c t.0 t.1 ≡ r → SpliceOrSwap t.1
       go (Some r) why = absurd (no_reply r (Cut ns) (sym (refused_outcome c t r why) ∙ is))
-      go None why = only_splices_answer_cuts L enough o.events t ns (ap (λ (s : State). outcome s t) (sym o.leads) ∙ (state_outcome c t why ∙ (sym (allowed_outcome c t why) ∙ is)))
+      go None why = only_splices_answer_cuts L enough o.events t ns
+          (ap (λ (s : State). outcome s t) (sym o.leads)
+          ∙ (state_outcome c t why ∙ (sym (allowed_outcome c t why) ∙ is)))
 
   -- each node that a cut names has the birth of its slot
-  pub named_so : (c : Configuration) (t : ℕ × Event) → IsOrdered L c → (ns : List NodeId) → outcome_in c t ≡ Ok (Cut ns) → (n : NodeId) → Contains ns n → named c.state.memory n.slot ≡ n
-  named_so c t o ns is n among = same_Some (named c.state.memory n.slot) n (sym there ∙ (ap (λ (l : List NodeId). slice_get l among.0) (sym (cut_shows c t o ns is).1) ∙ at))
+  pub named_so : (c : Configuration) (t : ℕ × Event) → IsOrdered L c → (ns : List NodeId)
+      → outcome_in c t ≡ Ok (Cut ns) → (n : NodeId) → Contains ns n → named c.state.memory n.slot ≡ n
+  named_so c t o ns is n among = same_Some (named c.state.memory n.slot) n
+      (sym there ∙ (ap (λ (l : List NodeId). slice_get l among.0) (sym (cut_shows c t o ns is).1) ∙ at))
     where
       at : slice_get ns among.0 ≡ Some n
       at = slice_get-get_or ns among.0 n among.1 ∙ ap Some among.2
 
       there : slice_get (map (named c.state.memory) (slots_of ns)) among.0 ≡ Some (named c.state.memory n.slot)
-      there = mapped (named c.state.memory) (slots_of ns) among.0 n.slot (mapped (λ (y : NodeId). y.slot) ns among.0 n at)
+      there = mapped (named c.state.memory) (slots_of ns) among.0 n.slot
+          (mapped (λ (y : NodeId). y.slot) ns among.0 n at)
 
   -- a turn that answers no cut leaves each reached slot reached
-  pub uncut_stays : (c : Configuration) (t : ℕ × Event) → IsOrdered L c → ((ns : List NodeId) → outcome_in c t ≡ Ok (Cut ns) → ⊥) → (x : ℕ) → Reached c.state.memory x → Reached (next_in c t).state.memory x
+  pub uncut_stays : (c : Configuration) (t : ℕ × Event) → IsOrdered L c
+      → ((ns : List NodeId) → outcome_in c t ≡ Ok (Cut ns) → ⊥) → (x : ℕ) → Reached c.state.memory x
+      → Reached (next_in c t).state.memory x
   uncut_stays c t o uncut x r = go (refused_in c t.0 t.1) refl
     where
       go : (q : Option Refused) → refused_in c t.0 t.1 ≡ q → Reached (next_in c t).state.memory x
       go (Some q) why = subst (λ (d : Configuration). Reached d.state.memory x) (sym (refused_next c t q why)) r
       go None why = subst (λ (s : State). Reached s.memory x) (allowed_state c t why)
-          (subst (λ (s : State). ((ns : List NodeId) → outcome s t ≡ Ok (Cut ns) → ⊥) → Reached s.memory x → Reached (next s t).memory x) (sym o.leads)
+          (subst (λ (s : State). ((ns : List NodeId) → outcome s t ≡ Ok (Cut ns) → ⊥) → Reached s.memory x
+          → Reached (next s t).memory x) (sym o.leads)
           (λ none was. nothing_else_cuts L enough o.events t none x was)
           (λ ns is. uncut ns (allowed_outcome c t why ∙ (sym (state_outcome c t why) ∙ is))) r)
 
-  pub cut_or_not : (c : Configuration) (t : ℕ × Event) → HasKey t.1 → IsOrdered L c → (x : ℕ) → Reached c.state.memory x → CutOrNot c t x
-  cut_or_not c t has o x r = elim (reached_or (next_in c t) (ordered_next L enough c t has o) x r.is_slot (reached_inside c o x r)) [
-    | inl still ↦ StaysReached still
-    | inr gone ↦ by (outcome_in c t) refl gone
-  ]
+  pub cut_or_not : (c : Configuration) (t : ℕ × Event) → HasKey t.1 → IsOrdered L c → (x : ℕ)
+      → Reached c.state.memory x → CutOrNot c t x
+  cut_or_not c t has o x r = elim (reached_or (next_in c t) (ordered_next L enough c t has o) x r.is_slot
+      (reached_inside c o x r)) [
+        | inl still ↦ StaysReached still
+        | inr gone ↦ by (outcome_in c t) refl gone
+      ]
     where
       by : (q : Result Reply Refused) → outcome_in c t ≡ q → (Reached (next_in c t).state.memory x → ⊥) → CutOrNot c t x
       by (Err q) is gone = absurd (gone (uncut_stays c t o (λ ns cut. differ ns (sym is ∙ cut)) x r))
@@ -186,8 +221,12 @@ module _ (L : Layout) (enough : 5 ≤ L.nodes) where
       by (Ok q) is gone = on (is_cut q) refl
         where
           on : (b : Bool) → is_cut q ≡ b → CutOrNot c t x
-          on false other = absurd (gone (uncut_stays c t o (λ ns cut. true≢false (ap is_cut (same_reply (Cut ns) q (sym cut ∙ is)) ∙ other)) x r))
+          on false other = absurd (gone (uncut_stays c t o
+              (λ ns cut. true≢false (ap is_cut (same_reply (Cut ns) q (sym cut ∙ is)) ∙ other)) x r))
           on true cut =
               let ns = cut_shown q cut in
               let shows = cut_shows c t o ns.0 (is ∙ ap (λ (y : Reply). Ok y) ns.1) in
-              IsCutNow ns.0 (is ∙ ap (λ (y : Reply). Ok y) ns.1) (subst (λ (l : List NodeId). Contains l (named c.state.memory x)) (sym shows.1) (mapped_among (named c.state.memory) (slots_of ns.0) x ((shows.0 x).0 (record { was = r; gone = gone })))) gone
+              IsCutNow ns.0 (is ∙ ap (λ (y : Reply). Ok y) ns.1)
+              (subst (λ (l : List NodeId). Contains l (named c.state.memory x)) (sym shows.1)
+              (mapped_among (named c.state.memory) (slots_of ns.0) x
+              ((shows.0 x).0 (record { was = r; gone = gone })))) gone

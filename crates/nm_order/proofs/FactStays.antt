@@ -42,9 +42,12 @@ as_was : (xs : List Arrival) → Among xs xs
 as_was xs a there = (a, there, record { slot = refl; parent = refl; side = refl; key = λ v is. is; ended = λ is. is })
 
 -- the walks since the flag take a look as all walks do
-looked_since : (s : Search) (x : ℕ) (f : Field) (r : Reply) (c : Call) → s.call ≡ Some c → Among s.later (walked c.key s.later x f r)
+looked_since : (s : Search) (x : ℕ) (f : Field) (r : Reply) (c : Call) → s.call ≡ Some c
+    → Among s.later (walked c.key s.later x f r)
 unfolding searched
-looked_since s x f r c is = subst (λ (o : Option Call). Among s.later (look_for (record s { walks = s.later }) o x f r).walks) is (only_grow (record s { walks = s.later }) (Look x f) r refl).walks
+looked_since s x f r c is = subst (λ (o : Option Call). Among s.later
+    (look_for (record s { walks = s.later }) o x f r).walks) is
+    (only_grow (record s { walks = s.later }) (Look x f) r refl).walks
 
 later_stays : (s : Search) (e : Event) (r : Reply) → begins_anew (e, r) ≡ false → Among s.later (searched s e r).later
 later_stays s e r stands = go (goes_on_so s e r stands)
@@ -61,13 +64,15 @@ later_stays s e r stands = go (goes_on_so s e r stands)
             since None = as_was s.later
             since (Some n) = looked_since s x f r c at
 
-arrivals_stay : (s : Search) (e : Event) (r : Reply) → begins_anew (e, r) ≡ false → (since : Since) → Among (arrivals s since) (arrivals (searched s e r) since)
+arrivals_stay : (s : Search) (e : Event) (r : Reply) → begins_anew (e, r) ≡ false → (since : Since)
+    → Among (arrivals s since) (arrivals (searched s e r) since)
 arrivals_stay s e r stands ThePin = (only_grow s e r stands).walks
 arrivals_stay s e r stands TheFlag = later_stays s e r stands
 
 -- ---- facts stay
 
-module _ (s : State) (w : ℕ) (S : Search) (l : Knowledge) (T : Search) (stays : Stays s.memory (of s w) l) (call : T.call ≡ S.call) (walks : (since : Since) → Among (arrivals S since) (arrivals T since))
+module _ (s : State) (w : ℕ) (S : Search) (l : Knowledge) (T : Search) (stays : Stays s.memory (of s w) l)
+    (call : T.call ≡ S.call) (walks : (since : Since) → Among (arrivals S since) (arrivals T since))
     (nulls : NullsStand s.memory (of s w)) where
   record Follows (since : Since) (k x p : ℕ) (d : Side) (a : Arrived S since k x p d) : Type 0 where
     now : Arrived T since k x p d
@@ -78,7 +83,16 @@ module _ (s : State) (w : ℕ) (S : Search) (l : Knowledge) (T : Search) (stays 
   follows since k x p d a =
       let b = walks since a.arrival a.among in
       record {
-        now = record { call = a.call; is_call = call ∙ a.is_call; is_for = a.is_for; arrival = b.0; among = b.1; is_slot = b.2.slot ∙ a.is_slot; is_parent = b.2.parent ∙ a.is_parent; is_side = b.2.side ∙ a.is_side };
+        now = record {
+          call = a.call;
+          is_call = call ∙ a.is_call;
+          is_for = a.is_for;
+          arrival = b.0;
+          among = b.1;
+          is_slot = b.2.slot ∙ a.is_slot;
+          is_parent = b.2.parent ∙ a.is_parent;
+          is_side = b.2.side ∙ a.is_side;
+        };
         key = λ n is. b.2.key n is;
         ended = λ is. b.2.ended is;
       }
@@ -106,7 +120,8 @@ module _ (s : State) (w : ℕ) (S : Search) (l : Knowledge) (T : Search) (stays 
   held_still (CallIs op k) holds is = call ∙ holds
   held_still (Came since k x p d) holds is = (follows since k x p d holds).now
   held_still (ReadKey since k x p d n) holds is = let f = follows since k x p d holds.0 in (f.now, f.key n holds.1)
-  held_still (EndedAt since k x p d n) holds is = let f = follows since k x p d holds.0 in (f.now, f.key n holds.1, f.ended holds.2)
+  held_still (EndedAt since k x p d n) holds is = let f = follows since k x p d holds.0 in
+      (f.now, f.key n holds.1, f.ended holds.2)
 
 pub facts_stay : FactsStay
 facts_stay L enough w log entry l stands fact holds = go (last_entry L enough w log entry l)
@@ -116,13 +131,19 @@ facts_stay L enough w log entry l stands fact holds = go (last_entry L enough w 
         let o = last.told.is_ordered in
         let law = law_of_state L enough last.before o in
         let before = told_holds L w log last.before last.told fact holds in
-        let known : learn w (of last.before.state w) entry.0 entry.1 ≡ known_by L w (log ++ entry ∷ []) = ap (λ (k : Knowledge). learn w k entry.0 entry.1) last.told.knows ∙ sym (known_more w _ log entry) in
-        let search : searched (search_of o.searches w) entry.0 entry.1 ≡ search_after idle (log ++ entry ∷ []) = ap (λ (s : Search). searched s entry.0 entry.1) last.told.search ∙ sym (search_more idle log entry) in
+        let known : learn w (of last.before.state w) entry.0 entry.1
+        ≡ known_by L w (log ++ entry ∷ []) = ap (λ (k : Knowledge). learn w k entry.0 entry.1) last.told.knows
+        ∙ sym (known_more w _ log entry) in
+        let search : searched (search_of o.searches w) entry.0 entry.1
+        ≡ search_after idle (log ++ entry ∷ []) = ap (λ (s : Search). searched s entry.0 entry.1)
+        last.told.search ∙ sym (search_more idle log entry) in
         subst (λ (k : Knowledge). HoldsIn k (search_after idle (log ++ entry ∷ [])) fact) known
         (subst (λ (s : Search). HoldsIn (learn w (of last.before.state w) entry.0 entry.1) s fact) search
-        (held_still last.before.state w (search_of o.searches w) (learn w (of last.before.state w) entry.0 entry.1) (searched (search_of o.searches w) entry.0 entry.1)
+        (held_still last.before.state w (search_of o.searches w) (learn w (of last.before.state w) entry.0 entry.1)
+        (searched (search_of o.searches w) entry.0 entry.1)
         (learned_stays last.before.state.memory (of last.before.state w) w entry.0 entry.1 is_answered stands)
-        (only_grow (search_of o.searches w) entry.0 entry.1 stands).call (arrivals_stay (search_of o.searches w) entry.0 entry.1 stands) (law.1.tree.null_read w) fact before
+        (only_grow (search_of o.searches w) entry.0 entry.1 stands).call
+        (arrivals_stay (search_of o.searches w) entry.0 entry.1 stands) (law.1.tree.null_read w) fact before
         (true_in L enough last.before o w (kept o.searches o.are w) fact before)))
       where
         kept : AllKept last.before
@@ -135,5 +156,8 @@ facts_stay L enough w log entry l stands fact holds = go (last_entry L enough w 
             law = law_of_state L enough last.before last.told.is_ordered
 
             by : PartOf w last.by entry.0 → Answers last.before.state.memory entry.0 entry.1
-            by (Own is) = subst (λ (r : Reply). Answers last.before.state.memory entry.0 r) last.replied (answers last.before.state law.0 law.1 last.by entry.0 (allowed last.before.state last.by entry.0 (allowed_by_state last.before last.by entry.0 last.is_allowed)))
+            by (Own is) = subst (λ (r : Reply). Answers last.before.state.memory entry.0 r) last.replied
+                (answers last.before.state law.0 law.1 last.by entry.0
+                (allowed last.before.state last.by entry.0 (allowed_by_state last.before last.by entry.0
+                last.is_allowed)))
             by (Resigns v is) = subst (λ (e : Event). Answers last.before.state.memory e entry.1) (sym is) tt

@@ -38,23 +38,32 @@ abbrev pub AllPlaces : (ℕ → ℕ → Side → Type 0) → List Arrival → Ty
 AllPlaces P ws = (i : ℕ) (a : Arrival) → slice_get ws i ≡ Some a → P a.slot a.parent a.side
 
 module _ (P : ℕ → ℕ → Side → Type 0) where
-  at_map : (f : Arrival → Arrival) → ((a : Arrival) → P a.slot a.parent a.side → P (f a).slot (f a).parent (f a).side) → (ws : List Arrival) → AllPlaces P ws → AllPlaces P (map f ws)
-  at_map f keeps ws all i b at = let a = mapped_at f ws i b at in subst (λ (c : Arrival). P c.slot c.parent c.side) (sym a.2) (keeps a.0 (all i a.0 a.1))
+  at_map : (f : Arrival → Arrival) → ((a : Arrival) → P a.slot a.parent a.side
+      → P (f a).slot (f a).parent (f a).side) → (ws : List Arrival) → AllPlaces P ws → AllPlaces P (map f ws)
+  at_map f keeps ws all i b at = let a = mapped_at f ws i b at in
+      subst (λ (c : Arrival). P c.slot c.parent c.side) (sym a.2) (keeps a.0 (all i a.0 a.1))
 
   arrive : (ws : List Arrival) (x p : ℕ) (d : Side) → AllPlaces P ws → P x p d → AllPlaces P (with_arrival ws x p d)
-  arrive ws x p d all new = cond_both (list_any (is_by x p d) ws) ws (ws ++ new_arrival x p d ∷ []) (AllPlaces P) (λ _. all)
+  arrive ws x p d all new = cond_both (list_any (is_by x p d) ws) ws (ws ++ new_arrival x p d ∷ []) (AllPlaces P)
+      (λ _. all)
       (λ _ i a at. elim (more_at ws (new_arrival x p d) i a at) [
         | inl old ↦ all i a old
         | inr is ↦ subst (λ (c : Arrival). P c.slot c.parent c.side) (sym is) new
       ])
 
   pub places_walked : (k : ℕ) (ws : List Arrival) (x : ℕ) (f : Field) (r : Reply) → AllPlaces P ws
-      → ((d : Side) (e : Edge) → f ≡ EdgeOn d → r ≡ EdgeIs e → e.slot ≢ 0 → (is_first x d ≡ true) ⊎ (list_any (goes_on k x d) ws ≡ true) → P e.slot x d) → AllPlaces P (walked k ws x f r)
-  places_walked k ws x Key (KeyIs v) all new = at_map (keyed x v) (λ a p. cond_both ((a.slot == x) && is_none a.key) (record a { key = Some v }) a (λ c. P c.slot c.parent c.side) (λ _. p) (λ _. p)) ws all
-  places_walked k ws x (EdgeOn d) (EdgeIs e) all new = cond_both (e.slot == 0) (map (ended k x d) ws) (cond (is_first x d || list_any (goes_on k x d) ws) (with_arrival ws e.slot x d) ws) (AllPlaces P)
-      (λ _. at_map (ended k x d) (λ a p. cond_both (goes_on k x d a) (record a { ended = true }) a (λ c. P c.slot c.parent c.side) (λ _. p) (λ _. p)) ws all)
+      → ((d : Side) (e : Edge) → f ≡ EdgeOn d → r ≡ EdgeIs e → e.slot ≢ 0
+      → (is_first x d ≡ true) ⊎ (list_any (goes_on k x d) ws ≡ true) → P e.slot x d) → AllPlaces P (walked k ws x f r)
+  places_walked k ws x Key (KeyIs v) all new = at_map (keyed x v)
+      (λ a p. cond_both ((a.slot == x) && is_none a.key) (record a { key = Some v }) a (λ c. P c.slot c.parent c.side)
+      (λ _. p) (λ _. p)) ws all
+  places_walked k ws x (EdgeOn d) (EdgeIs e) all new = cond_both (e.slot == 0) (map (ended k x d) ws)
+      (cond (is_first x d || list_any (goes_on k x d) ws) (with_arrival ws e.slot x d) ws) (AllPlaces P)
+      (λ _. at_map (ended k x d) (λ a p. cond_both (goes_on k x d a) (record a { ended = true }) a
+      (λ c. P c.slot c.parent c.side) (λ _. p) (λ _. p)) ws all)
       (λ some. cond_both (is_first x d || list_any (goes_on k x d) ws) (with_arrival ws e.slot x d) ws (AllPlaces P)
-      (λ goes. arrive ws e.slot x d all (new d e refl refl (eqb-false e.slot 0 some) (or_cases (is_first x d) (list_any (goes_on k x d) ws) goes)))
+      (λ goes. arrive ws e.slot x d all (new d e refl refl (eqb-false e.slot 0 some)
+      (or_cases (is_first x d) (list_any (goes_on k x d) ws) goes)))
       (λ _. all))
   places_walked k ws x f r all new = all
 
@@ -62,10 +71,12 @@ module _ (P : ℕ → ℕ → Side → Type 0) where
 
 pub data FlagStep (s : Search) (e : Event) (r : Reply) (t : Search) : Type 0 where
   SameFlag : t.flagged ≡ s.flagged → FlagStep s e r t
-  NewFlag : (p leaf : ℕ) (d : Side) (n : NodeId) → e ≡ Flag p d leaf → r ≡ Flagged n → t.flagged ≡ Some n → t.later ≡ s.later → FlagStep s e r t
+  NewFlag : (p leaf : ℕ) (d : Side) (n : NodeId) → e ≡ Flag p d leaf → r ≡ Flagged n → t.flagged ≡ Some n
+      → t.later ≡ s.later → FlagStep s e r t
 
 pub flag_step : (s : Search) (e : Event) (r : Reply) → begins_anew (e, r) ≡ false → FlagStep s e r (searched s e r)
-flag_step s = search_goes (FlagStep s) s (λ x f r. SameFlag (ap (λ (t : Search). t.flagged) (look_beside s s.call x f r))) (λ p side leaf new n. SameFlag refl)
+flag_step s = search_goes (FlagStep s) s (λ x f r. SameFlag
+    (ap (λ (t : Search). t.flagged) (look_beside s s.call x f r))) (λ p side leaf new n. SameFlag refl)
     (λ p side leaf n. NewFlag p leaf side n refl refl refl refl) (λ a side x p keep ns. SameFlag refl)
     (λ p side leaf new ns. SameFlag refl) (λ e r. SameFlag refl)
 
@@ -103,37 +114,56 @@ last_of (x ∷ q) (y ∷ r) g d is = let rest = last_of q r g d (tails is) in ((
     tails : {a b : List Side} → x ∷ a ≡ y ∷ b → a ≡ b
     tails e = cc
 
-pub flag_leads : (s : State) (h : ℕ → ℕ) (law : Lawful s h) (w p : ℕ) (d : Side) (leaf : ℕ) → p < length s.memory.nodes → knows (of s w) p ≡ true → leaf ≢ 0 → edge s.memory p d ≡ to leaf → LeadsFlagged (put_edge s.memory p d (flag_to leaf)) leaf 1
+pub flag_leads : (s : State) (h : ℕ → ℕ) (law : Lawful s h) (w p : ℕ) (d : Side) (leaf : ℕ)
+    → p < length s.memory.nodes → knows (of s w) p ≡ true → leaf ≢ 0 → edge s.memory p d ≡ to leaf
+    → LeadsFlagged (put_edge s.memory p d (flag_to leaf)) leaf 1
 flag_leads s h law w p d leaf inside known some unmarked path g to_leaf =
-    ap (λ (y : ℕ). (edge (put_edge s.memory p d (flag_to leaf)) y g).flag) at_p ∙ (ap (λ (f : Side). (edge (put_edge s.memory p d (flag_to leaf)) p f).flag) one_path.1 ∙ ap (λ (e : Edge). e.flag) (put_here s.memory p d (flag_to leaf) inside))
+    ap (λ (y : ℕ). (edge (put_edge s.memory p d (flag_to leaf)) y g).flag) at_p
+    ∙ (ap (λ (f : Side). (edge (put_edge s.memory p d (flag_to leaf)) p f).flag) one_path.1
+    ∙ ap (λ (e : Edge). e.flag) (put_here s.memory p d (flag_to leaf) inside))
   where
     same : (y : ℕ) (f : Side) → child (put_edge s.memory p d (flag_to leaf)) y f ≡ child s.memory y f
     same y f = by (put_case s.memory p d (flag_to leaf) inside y f)
       where
         by : Put s.memory p d (flag_to leaf) y f → child (put_edge s.memory p d (flag_to leaf)) y f ≡ child s.memory y f
-        by (Here at side is) = ap (λ (e : Edge). e.slot) is ∙ (ap (λ (e : Edge). e.slot) (sym unmarked) ∙ (ap (λ (z : ℕ). child s.memory z d) (sym at) ∙ ap (child s.memory y) side))
+        by (Here at side is) = ap (λ (e : Edge). e.slot) is
+            ∙ (ap (λ (e : Edge). e.slot) (sym unmarked) ∙ (ap (λ (z : ℕ). child s.memory z d) (sym at)
+            ∙ ap (child s.memory y) side))
         by (There is) = ap (λ (e : Edge). e.slot) is
 
     range : (1 ≤ p) × (p ≤ s.layout.nodes)
     range = law.tree.known w p known
 
     live : IsLive (picture s h) p
-    live = law.tree.guarded w p (record { from = p; known = known; path = []; ends = refl; is_slot = λ z. (let r = law.tree.known w p known in absurd (omega arith)) })
+    live = law.tree.guarded w p (record {
+      from = p;
+      known = known;
+      path = [];
+      ends = refl;
+      is_slot = λ z.
+          (let r = law.tree.known w p known in absurd (omega arith));
+    })
 
     above : IsOnPath (picture s h) p
-    above = live_on_path s.layout.nodes (picture s h) p law.tree live (λ z. (let r = law.tree.known w p known in absurd (omega arith))) range.1 (unmarked_not_queued s.layout.nodes (picture s h) p d leaf law.tree unmarked some)
+    above = live_on_path s.layout.nodes (picture s h) p law.tree live
+        (λ z. (let r = law.tree.known w p known in absurd (omega arith))) range.1
+        (unmarked_not_queued s.layout.nodes (picture s h) p d leaf law.tree unmarked some)
 
     here : follow (child (put_edge s.memory p d (flag_to leaf))) 1 path ≡ follow (child s.memory) 1 path
     here = same_follow (child s.memory) (child (put_edge s.memory p d (flag_to leaf))) same 1 path
 
     first_end : follow (child s.memory) 1 (path ++ g ∷ []) ≡ leaf
-    first_end = follow-append (child s.memory) 1 path (g ∷ []) ∙ (ap (λ (y : ℕ). child s.memory y g) (sym here) ∙ (sym (same (follow (child (put_edge s.memory p d (flag_to leaf))) 1 path) g) ∙ to_leaf))
+    first_end = follow-append (child s.memory) 1 path (g ∷ [])
+        ∙ (ap (λ (y : ℕ). child s.memory y g) (sym here)
+        ∙ (sym (same (follow (child (put_edge s.memory p d (flag_to leaf))) 1 path) g) ∙ to_leaf))
 
     second_end : follow (child s.memory) 1 (above.path ++ d ∷ []) ≡ leaf
-    second_end = follow-append (child s.memory) 1 above.path (d ∷ []) ∙ (ap (λ (y : ℕ). child s.memory y d) above.ends ∙ ap (λ (e : Edge). e.slot) unmarked)
+    second_end = follow-append (child s.memory) 1 above.path (d ∷ [])
+        ∙ (ap (λ (y : ℕ). child s.memory y d) above.ends ∙ ap (λ (e : Edge). e.slot) unmarked)
 
     one_path : (path ≡ above.path) × (g ≡ d)
-    one_path = last_of path above.path g d (alone s.layout.nodes (picture s h) law.tree (path ++ g ∷ []) (above.path ++ d ∷ []) (λ z. some (sym first_end ∙ z)) (first_end ∙ sym second_end))
+    one_path = last_of path above.path g d (alone s.layout.nodes (picture s h) law.tree (path ++ g ∷ [])
+        (above.path ++ d ∷ []) (λ z. some (sym first_end ∙ z)) (first_end ∙ sym second_end))
 
     at_p : follow (child (put_edge s.memory p d (flag_to leaf))) 1 path ≡ p
     at_p = here ∙ (ap (follow (child s.memory) 1) one_path.0 ∙ above.ends)

@@ -12,7 +12,8 @@ use Rattle.nm_order.proofs.LastEntries.{ToldBy, told_by_part}
 pub held_ledgers_are_kept : HeldLedgersAreKept
 held_ledgers_are_kept L enough w log l = go (told_by_part L enough w l.worker l.turns l.keys)
   where
-    go : ToldBy L w (part_of w (trace_in (ordered L) l.turns)) (after_in (ordered L) l.turns) → LedgersAreKept w (known_by L w log)
+    go : ToldBy L w (part_of w (trace_in (ordered L) l.turns)) (after_in (ordered L) l.turns)
+        → LedgersAreKept w (known_by L w log)
     go told =
         let c : Configuration = after_in (ordered L) l.turns in
         let events = told.is_ordered.events in
@@ -20,5 +21,6 @@ held_ledgers_are_kept L enough w log l = go (told_by_part L enough w l.worker l.
           split = λ o held is. freed_then_queue L events w o held is;
           labelled = λ o i e at none'. (briefs_are_right L enough events w).waiting o i e at none';
         } in
-        let same : of (after (start L) events) w ≡ known_by L w log = ap (λ (s : State). of s w) (sym told.is_ordered.leads) ∙ (told.knows ∙ ap (known_by L w) l.is_part) in
+        let same : of (after (start L) events) w ≡ known_by L w log = ap (λ (s : State). of s w)
+        (sym told.is_ordered.leads) ∙ (told.knows ∙ ap (known_by L w) l.is_part) in
         subst (λ (k : Knowledge). LedgersAreKept w k) same there

@@ -30,22 +30,29 @@ module _ (s : State) (h : ℕ → ℕ) (law : Lawful s h) (w : ℕ) where
   waits o i e at = law.tree.queues o i e.node.slot (in_queue o i e at)
 
   -- a slot that waits stands nowhere but there
-  alone : (o i : ℕ) (e : Queued) → WaitsAt (of s w) o i e → (q : SeekRecord) → Stands (picture s h) e.node.slot q → InQueue o i ≡ q
+  alone : (o i : ℕ) (e : Queued) → WaitsAt (of s w) o i e → (q : SeekRecord) → Stands (picture s h) e.node.slot q
+      → InQueue o i ≡ q
   alone o i e at q there =
       let range = waits o i e at in
       let low = range.0 in
-      nowhere_else (picture s h) e.node.slot (InQueue o i) q (law.tree.places e.node.slot (λ z. omega (arith, low)) range.1) (in_queue o i e at) there
+      nowhere_else (picture s h) e.node.slot (InQueue o i) q
+      (law.tree.places e.node.slot (λ z. omega (arith, low)) range.1) (in_queue o i e at) there
 
   not_private : (o i : ℕ) (e : Queued) → WaitsAt (of s w) o i e → is_private (of s w) e.node.slot ≡ false
-  not_private o i e at = false_from_ne_true (is_private (of s w) e.node.slot) (λ own. let e : InQueue o i ≡ PrivateTo w = alone o i e at (PrivateTo w) own in cc)
+  not_private o i e at = false_from_ne_true (is_private (of s w) e.node.slot)
+      (λ own. let e : InQueue o i ≡ PrivateTo w = alone o i e at (PrivateTo w) own in cc)
 
-  one_index : (o p i j : ℕ) (e f : Queued) → WaitsAt (of s w) o i e → WaitsAt (of s w) p j f → e.node.slot ≡ f.node.slot → (o ≡ p) × (i ≡ j)
-  one_index o p i j e f at there same = let e : InQueue o i ≡ InQueue p j = alone o i e at (InQueue p j) (in_queue p j f there ∙ ap Some (sym same)) in (cc, cc)
+  one_index : (o p i j : ℕ) (e f : Queued) → WaitsAt (of s w) o i e → WaitsAt (of s w) p j f
+      → e.node.slot ≡ f.node.slot → (o ≡ p) × (i ≡ j)
+  one_index o p i j e f at there same =
+      let e : InQueue o i ≡ InQueue p j = alone o i e at (InQueue p j) (in_queue p j f there ∙ ap Some (sym same)) in
+      (cc, cc)
 
   below : (o : ℕ) → IsSome (held (of s w).ledgers o) → o < s.layout.workers
   below o some = elim (cases_lt o (length (of s w).ledgers)) [
     | inl lt ↦ let sizes = law.holders.sizes w in omega (arith, lt, sizes)
-    | inr past ↦ absurd (true≢false (sym some ∙ ap (λ (l : Option Ledger). is_some l) (get_or_past (of s w).ledgers o None past)))
+    | inr past ↦ absurd (true≢false (sym some ∙ ap (λ (l : Option Ledger). is_some l)
+        (get_or_past (of s w).ledgers o None past)))
   ]
 
   pub hands : AreApart s.layout (of s w)
@@ -60,10 +67,13 @@ module _ (s : State) (h : ℕ → ℕ) (law : Lawful s h) (w : ℕ) where
 pub hands_are_apart : HandsAreApart
 hands_are_apart L enough w log l = go (told_by_part L enough w l.worker l.turns l.keys)
   where
-    go : ToldBy L w (part_of w (trace_in (ordered L) l.turns)) (after_in (ordered L) l.turns) → AreApart L (known_by L w log)
+    go : ToldBy L w (part_of w (trace_in (ordered L) l.turns)) (after_in (ordered L) l.turns)
+        → AreApart L (known_by L w log)
     go told =
         let c : Configuration = after_in (ordered L) l.turns in
         let law = law_of_state L enough c told.is_ordered in
-        let layout : c.state.layout ≡ L = ap (λ (s : State). s.layout) told.is_ordered.leads ∙ layout_after L told.is_ordered.events in
+        let layout : c.state.layout ≡ L = ap (λ (s : State). s.layout) told.is_ordered.leads
+        ∙ layout_after L told.is_ordered.events in
         subst (λ (M : Layout). AreApart M (known_by L w log)) layout
-        (subst (λ (k : Knowledge). AreApart c.state.layout k) (told.knows ∙ ap (known_by L w) l.is_part) (hands c.state law.0 law.1 w))
+        (subst (λ (k : Knowledge). AreApart c.state.layout k) (told.knows ∙ ap (known_by L w) l.is_part)
+        (hands c.state law.0 law.1 w))

@@ -18,4 +18,5 @@ has_key e fits = tt
 pub all_keys : (ts : List (ℕ × Event)) → list_all (λ t. key_fits t.1) ts ≡ true → All (λ t. HasKey t.1) ts
 all_keys [] fits i d below = absurd (omega (arith, below))
 all_keys (t ∷ ts) fits zero d below = has_key t.1 (and_parts (key_fits t.1) (list_all (λ t. key_fits t.1) ts) fits).0
-all_keys (t ∷ ts) fits (suc i) d below = all_keys ts (and_parts (key_fits t.1) (list_all (λ t. key_fits t.1) ts) fits).1 i d (omega arith)
+all_keys (t ∷ ts) fits (suc i) d below = all_keys ts
+    (and_parts (key_fits t.1) (list_all (λ t. key_fits t.1) ts) fits).1 i d (omega arith)

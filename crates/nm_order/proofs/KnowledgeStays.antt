@@ -52,7 +52,8 @@ pub record Renews (old new : Edge) : Type 0 where
 pub record Stays (m : Memory) (k l : Knowledge) : Type 0 where
   pub pin : l.brief.pin ≡ k.brief.pin
   pub known : StillKnown k l
-  pub reads : (x : ℕ) (d : Side) → (read l x d ≡ read k x d) ⊎ ((e : Edge) × (read l x d ≡ Some e) × Renews (edge m x d) e)
+  pub reads : (x : ℕ) (d : Side) → (read l x d ≡ read k x d)
+      ⊎ ((e : Edge) × (read l x d ≡ Some e) × Renews (edge m x d) e)
   pub births : (x : ℕ) → ((seen_of l x).birth ≡ (seen_of k x).birth) ⊎ ((seen_of l x).birth ≡ Some (node m x).birth)
 
 module _ (m : Memory) (k : Knowledge) where
@@ -76,17 +77,26 @@ module _ (m : Memory) (k : Knowledge) where
     pin = refl;
     known = still_read k p d e;
     reads = λ x g. go x g (eqb x p && same_side d g) refl (read_after k p d e x g);
-    births = λ x. inl (ap (λ (n : Seen). n.birth) (seen_put (met k.known e.slot) p (with_read (seen_of k p) d e) x) ∙ birth x (eqb x p) refl);
+    births = λ x. inl (ap (λ (n : Seen). n.birth) (seen_put (met k.known e.slot) p (with_read (seen_of k p) d e) x)
+        ∙ birth x (eqb x p) refl);
   }
     where
-      go : (x : ℕ) (g : Side) (b : Bool) → (eqb x p && same_side d g) ≡ b → read (read_edge k p d e) x g ≡ cond (eqb x p && same_side d g) (Some e) (read k x g)
-          → (read (read_edge k p d e) x g ≡ read k x g) ⊎ ((y : Edge) × (read (read_edge k p d e) x g ≡ Some y) × Renews (edge m x g) y)
+      go : (x : ℕ) (g : Side) (b : Bool) → (eqb x p && same_side d g) ≡ b
+          → read (read_edge k p d e) x g ≡ cond (eqb x p && same_side d g) (Some e) (read k x g)
+          → (read (read_edge k p d e) x g ≡ read k x g)
+          ⊎ ((y : Edge) × (read (read_edge k p d e) x g ≡ Some y) × Renews (edge m x g) y)
       go x g true is after =
           let parts = and_parts (eqb x p) (same_side d g) is in
-          inr (e, after ∙ ap (λ (b : Bool). cond b (Some e) (read k x g)) is, rw (eqb-true x p parts.0, ← same_side-true d g parts.1) new)
+          inr (
+            e,
+            after ∙ ap (λ (b : Bool). cond b (Some e) (read k x g)) is,
+            rw
+                (eqb-true x p parts.0, ← same_side-true d g parts.1) new,
+          )
       go x g false is after = inl (after ∙ ap (λ (b : Bool). cond b (Some e) (read k x g)) is)
 
-      birth : (x : ℕ) (b : Bool) → eqb x p ≡ b → (cond b (with_read (seen_of k p) d e) (seen_of (record k { known = met k.known e.slot }) x)).birth ≡ (seen_of k x).birth
+      birth : (x : ℕ) (b : Bool) → eqb x p ≡ b → (cond b (with_read (seen_of k p) d e)
+          (seen_of (record k { known = met k.known e.slot }) x)).birth ≡ (seen_of k x).birth
       birth x true is = with_birth (seen_of k p) d e ∙ ap (λ (y : ℕ). (seen_of k y).birth) (sym (eqb-true x p is))
       birth x false is = ap (λ (n : Seen). n.birth) (seen_met k.known e.slot x)
 
@@ -105,7 +115,12 @@ module _ (m : Memory) (k : Knowledge) where
       }
 
   tagged_on : (p : ℕ) (d : Side) (e : Edge) → (e ≡ edge m p d) × (e.slot ≢ 0) → Renews (edge m p d) (tagged e)
-  tagged_on p d e is = rw (← is.0) (record { slot = refl; flag = λ h. h; tag = λ _. ap not (ne_eqb e.slot 0 is.1); frozen = λ h. ap (λ (b : Bool). with_tag b) (ap not (ne_eqb e.slot 0 is.1) ∙ sym h) })
+  tagged_on p d e is = rw (← is.0) (record {
+    slot = refl;
+    flag = λ h. h;
+    tag = λ _. ap not (ne_eqb e.slot 0 is.1);
+    frozen = λ h. ap (λ (b : Bool). with_tag b) (ap not (ne_eqb e.slot 0 is.1) ∙ sym h);
+  })
     where
       with_tag : Bool → Edge
       with_tag b = record { slot = e.slot; flag = e.flag; tag = b }
@@ -114,20 +129,27 @@ module _ (m : Memory) (k : Knowledge) where
   born p b is = record {
     pin = refl;
     known = λ x h. has_put_there k.known p (record (seen_of k p) { birth = Some b }) x (inr h);
-    reads = λ x d. inl (ap (λ (n : Seen). read_on n d) (seen_put k.known p (record (seen_of k p) { birth = Some b }) x) ∙ go x d (eqb x p) refl);
+    reads = λ x d. inl (ap (λ (n : Seen). read_on n d)
+        (seen_put k.known p (record (seen_of k p) { birth = Some b }) x) ∙ go x d (eqb x p) refl);
     births = λ x. birth x (eqb x p) refl;
   }
     where
-      go : (x : ℕ) (d : Side) (c : Bool) → eqb x p ≡ c → read_on (cond c (record (seen_of k p) { birth = Some b }) (seen_of k x)) d ≡ read k x d
+      go : (x : ℕ) (d : Side) (c : Bool) → eqb x p ≡ c
+          → read_on (cond c (record (seen_of k p) { birth = Some b }) (seen_of k x)) d ≡ read k x d
       go x Left true at = ap (λ (y : ℕ). (seen_of k y).left) (sym (eqb-true x p at))
       go x Right true at = ap (λ (y : ℕ). (seen_of k y).right) (sym (eqb-true x p at))
       go x Left false at = refl
       go x Right false at = refl
 
-      birth : (x : ℕ) (c : Bool) → eqb x p ≡ c → ((seen_of (read_birth k p b) x).birth ≡ (seen_of k x).birth) ⊎ ((seen_of (read_birth k p b) x).birth ≡ Some (node m x).birth)
-      birth x true at = inr (ap (λ (n : Seen). n.birth) (seen_put k.known p (record (seen_of k p) { birth = Some b }) x) ∙ (ap (λ (c : Bool). (cond c (record (seen_of k p) { birth = Some b }) (seen_of k x)).birth) at
+      birth : (x : ℕ) (c : Bool) → eqb x p ≡ c → ((seen_of (read_birth k p b) x).birth ≡ (seen_of k x).birth)
+          ⊎ ((seen_of (read_birth k p b) x).birth ≡ Some (node m x).birth)
+      birth x true at = inr (ap (λ (n : Seen). n.birth)
+          (seen_put k.known p (record (seen_of k p) { birth = Some b }) x)
+          ∙ (ap (λ (c : Bool). (cond c (record (seen_of k p) { birth = Some b }) (seen_of k x)).birth) at
           ∙ (ap Some is ∙ ap (λ (y : ℕ). Some (node m y).birth) (sym (eqb-true x p at)))))
-      birth x false at = inl (ap (λ (n : Seen). n.birth) (seen_put k.known p (record (seen_of k p) { birth = Some b }) x) ∙ ap (λ (c : Bool). (cond c (record (seen_of k p) { birth = Some b }) (seen_of k x)).birth) at)
+      birth x false at = inl (ap (λ (n : Seen). n.birth)
+          (seen_put k.known p (record (seen_of k p) { birth = Some b }) x)
+          ∙ ap (λ (c : Bool). (cond c (record (seen_of k p) { birth = Some b }) (seen_of k x)).birth) at)
 
   -- the slot of a new node is known
   met_new : (l : Knowledge) (new : ℕ) → l.known ≡ met k.known new → l.brief.pin ≡ k.brief.pin → Stays m k l
@@ -168,7 +190,8 @@ module _ (m : Memory) (k : Knowledge) where
   known_look x Birth (BirthIs b) is = born x b is
   known_look x _ _ is = quiet _ refl refl
 
-  pub learned_stays : (w : ℕ) (e : Event) (r : Reply) → Answers m e r → begins_anew (e, r) ≡ false → Stays m k (learn w k e r)
+  pub learned_stays : (w : ℕ) (e : Event) (r : Reply) → Answers m e r → begins_anew (e, r) ≡ false
+      → Stays m k (learn w k e r)
   unfolding learn
   learned_stays w Sight r is stands = sight r stands
   learned_stays w (SightFor op key) r is stands = call op key r stands
@@ -181,7 +204,8 @@ module _ (m : Memory) (k : Knowledge) where
   learned_stays w (Claim x) (Claimed t) is stands = quiet _ refl refl
   learned_stays w (Give x) (Returned t) is stands = quiet _ refl refl
   learned_stays w (Give x) (Freed n) is stands = quiet _ refl refl
-  learned_stays w (Look x f) r is stands = cond_both (is_private k x) (look_private k x f r) (look_known k x f r) (Stays m k) (λ _. private_look x f r) (λ _. known_look x f r is)
+  learned_stays w (Look x f) r is stands = cond_both (is_private k x) (look_private k x f r) (look_known k x f r)
+      (Stays m k) (λ _. private_look x f r) (λ _. known_look x f r is)
   learned_stays w (Fill x f v) Filled is stands = quiet _ refl refl
   learned_stays w (Link p d leaf new) (Linked n) is stands = met_new _ new refl refl
   learned_stays w (Link p d leaf new) (Lost e) is stands = renewed p d e (same p d e is)
@@ -192,7 +216,8 @@ module _ (m : Memory) (k : Knowledge) where
   learned_stays w (Splice a d x p keep) (Lost e) is stands = renewed a d e (same a d e is)
   learned_stays w (Swap p d leaf new) (Cut ns) is stands = met_new _ new refl refl
   learned_stays w (Swap p d leaf new) (Lost e) is stands = renewed p d e (same p d e is)
-  learned_stays w (Join v) (Joined ls) is stands = cond_both (eqb w v) (resigned k) (inheriting k ls) (Stays m k) (λ _. quiet _ refl refl) (λ _. quiet _ refl refl)
+  learned_stays w (Join v) (Joined ls) is stands = cond_both (eqb w v) (resigned k) (inheriting k ls) (Stays m k)
+      (λ _. quiet _ refl refl) (λ _. quiet _ refl refl)
   learned_stays w e r is stands = quiet _ refl refl
 
 -- ---- a leaf that is known
@@ -201,7 +226,8 @@ module _ (m : Memory) (k : Knowledge) where
 abbrev pub NullsStand : Memory → Knowledge → Type 0
 NullsStand m k = (x : ℕ) (d : Side) (e : Edge) → read k x d ≡ Some e → e.slot ≡ 0 → child m x d ≡ 0
 
-null_stays : (m : Memory) (k l : Knowledge) → NullsStand m k → Stays m k l → (x : ℕ) (d : Side) → is_null (read k x d) ≡ true → is_null (read l x d) ≡ true
+null_stays : (m : Memory) (k l : Knowledge) → NullsStand m k → Stays m k l → (x : ℕ) (d : Side)
+    → is_null (read k x d) ≡ true → is_null (read l x d) ≡ true
 null_stays m k l stand stays x d null = elim (stays.reads x d) [
   | inl same ↦ ap is_null same ∙ null
   | inr new ↦ ap is_null new.1 ∙ eq-eqb new.0.slot 0 (new.2.slot ∙ null_child (read k x d) refl null)
@@ -211,18 +237,22 @@ null_stays m k l stand stays x d null = elim (stays.reads x d) [
     null_child None is t = absurd (true≢false (sym t))
     null_child (Some e) is t = stand x d e is (eqb-true e.slot 0 t)
 
-pub leaf_stays : (m : Memory) (k l : Knowledge) → NullsStand m k → Stays m k l → (x : ℕ) → knows_leaf k x ≡ true → knows_leaf l x ≡ true
+pub leaf_stays : (m : Memory) (k l : Knowledge) → NullsStand m k → Stays m k l → (x : ℕ) → knows_leaf k x ≡ true
+    → knows_leaf l x ≡ true
 leaf_stays m k l stand stays x leaf = elim (or_cases (is_null (read k x Left)) (is_null (read k x Right)) leaf) [
   | inl left ↦ or_left (is_null (read l x Left)) (is_null (read l x Right)) (null_stays m k l stand stays x Left left)
-  | inr right ↦ or_right (is_null (read l x Left)) (is_null (read l x Right)) (null_stays m k l stand stays x Right right)
+  | inr right ↦ or_right (is_null (read l x Left)) (is_null (read l x Right))
+      (null_stays m k l stand stays x Right right)
 ]
 
 -- ---- the answers of an event that is allowed
 
-lost_is : (e : Edge) (x : ℕ) (won : Reply) (P : Reply → Type 0) → (is_to e x ≡ true → P won) → P (Lost e) → P (reply_exchange e x won)
+lost_is : (e : Edge) (x : ℕ) (won : Reply) (P : Reply → Type 0) → (is_to e x ≡ true → P won) → P (Lost e)
+    → P (reply_exchange e x won)
 lost_is e x won P first second = cond_both (is_to e x) won (Lost e) P first (λ _. second)
 
-pub answers : (s : State) (h : ℕ → ℕ) (law : Lawful s h) (w : ℕ) (e : Event) → Allowed s w e → Answers s.memory e (reply_of s w e)
+pub answers : (s : State) (h : ℕ → ℕ) (law : Lawful s h) (w : ℕ) (e : Event) → Allowed s w e
+    → Answers s.memory e (reply_of s w e)
 unfolding reply
 answers s h law w e ok = go e ok.event
   where
@@ -233,6 +263,7 @@ answers s h law w e ok = go e ok.event
     go (Link p d leaf new) ok = lost_is (edge s.memory p d) leaf _ (Answers s.memory (Link p d leaf new)) (λ _. tt) refl
     go (Flag p d leaf) ok = lost_is (edge s.memory p d) leaf _ (Answers s.memory (Flag p d leaf)) (λ t. t) refl
     go (Tag p d) ok = (refl, tag_not_null s h law w p d ok)
-    go (Splice a d x p keep) ok = lost_is (edge s.memory a d) x _ (Answers s.memory (Splice a d x p keep)) (λ _. tt) refl
+    go (Splice a d x p keep) ok = lost_is (edge s.memory a d) x _ (Answers s.memory (Splice a d x p keep)) (λ _. tt)
+        refl
     go (Swap p d leaf new) ok = lost_is (edge s.memory p d) leaf _ (Answers s.memory (Swap p d leaf new)) (λ _. tt) refl
     go e ok = tt

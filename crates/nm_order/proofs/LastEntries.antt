@@ -24,11 +24,13 @@ use Rattle.nm_order.proofs.OrderedLaws.{IsOrdered, each_ordered}
 
 -- ---- folds over a log with one entry more
 
-pub known_more : (w : ℕ) (k : Knowledge) (log : List Entry) (e : Entry) → known_after w k (log ++ e ∷ []) ≡ learn w (known_after w k log) e.0 e.1
+pub known_more : (w : ℕ) (k : Knowledge) (log : List Entry) (e : Entry)
+    → known_after w k (log ++ e ∷ []) ≡ learn w (known_after w k log) e.0 e.1
 known_more w k [] e = refl
 known_more w k (f ∷ log) e = known_more w (learn w k f.0 f.1) log e
 
-pub search_more : (s : Search) (log : List Entry) (e : Entry) → search_after s (log ++ e ∷ []) ≡ searched (search_after s log) e.0 e.1
+pub search_more : (s : Search) (log : List Entry) (e : Entry)
+    → search_after s (log ++ e ∷ []) ≡ searched (search_after s log) e.0 e.1
 search_more s [] e = refl
 search_more s (f ∷ log) e = search_more (searched s f.0 f.1) log e
 
@@ -46,13 +48,16 @@ at_some None ss P is h = absurd (go is)
     go e = cc
 at_some (Some xs) ss P is h = subst P (same_Some xs ss is) h
 
-pub told_by_part : (L : Layout) → 5 ≤ L.nodes → (w : ℕ) → w < L.workers → (turns : List (ℕ × Event)) → All (λ t. HasKey t.1) turns → ToldBy L w (part_of w (trace_in (ordered L) turns)) (after_in (ordered L) turns)
+pub told_by_part : (L : Layout) → 5 ≤ L.nodes → (w : ℕ) → w < L.workers → (turns : List (ℕ × Event))
+    → All (λ t. HasKey t.1) turns → ToldBy L w (part_of w (trace_in (ordered L) turns)) (after_in (ordered L) turns)
 told_by_part L enough w below turns keys =
     let o = each_ordered L enough turns keys in
     record {
       is_ordered = o;
       knows = logs_tell L turns w below;
-      search = at_some (after_in (ordered L) turns).searches o.searches (λ ss. search_of ss w ≡ search_after idle (log_of w (trace_in (ordered L) turns))) o.are (searches_tell L turns w below)
+      search = at_some (after_in (ordered L) turns).searches o.searches
+          (λ ss. search_of ss w ≡ search_after idle (log_of w (trace_in (ordered L) turns))) o.are
+          (searches_tell L turns w below)
           ∙ sym (part_tells_search w (trace_in (ordered L) turns) idle);
     }
 
@@ -80,7 +85,9 @@ all_and P x xs p ps (suc i) d below = ps i d (omega (arith, below))
 
 module _ (w : ℕ) where
   -- one turn more in front
-  behind : (c : Configuration) (t : ℕ × Event) (ts : List (ℕ × Event)) (log more : List Entry) (e : Entry) → HasKey t.1 → ((us : List (ℕ × Event)) → part_of w (trace_in c (t ∷ us)) ≡ more ++ part_of w (trace_in (next_in c t) us))
+  behind : (c : Configuration) (t : ℕ × Event) (ts : List (ℕ × Event)) (log more : List Entry) (e : Entry)
+      → HasKey t.1 → ((us : List (ℕ × Event)) → part_of w (trace_in c (t ∷ us))
+      ≡ more ++ part_of w (trace_in (next_in c t) us))
       → LastTurn w (next_in c t) ts log e → LastTurn w c (t ∷ ts) (more ++ log) e
   unfolding after_in
   behind c t ts log more e has adds l = record {
@@ -96,7 +103,9 @@ module _ (w : ℕ) where
     is_entry = l.is_entry;
   }
 
-  pub last_turn : (ts : List (ℕ × Event)) → All (λ t. HasKey t.1) ts → (c : Configuration) (log : List Entry) (e : Entry) → part_of w (trace_in c ts) ≡ log ++ e ∷ [] → LastTurn w c ts log e
+  pub last_turn : (ts : List (ℕ × Event)) → All (λ t. HasKey t.1) ts
+      → (c : Configuration) (log : List Entry) (e : Entry) → part_of w (trace_in c ts) ≡ log ++ e ∷ []
+      → LastTurn w c ts log e
   unfolding after_in trace_in
   last_turn [] keys c [] e is = absurd (go is)
     where
@@ -106,23 +115,29 @@ module _ (w : ℕ) where
     where
       go : ◌≡◌ {A = List Entry} [] (f ∷ (log ++ e ∷ [])) → ⊥
       go h = cc
-  last_turn (t ∷ ts) keys c log e is = go (refused_in c t.0 t.1) refl (last_turn ts (λ i d below. keys (suc i) d (omega arith)) (next_in c t))
+  last_turn (t ∷ ts) keys c log e is = go (refused_in c t.0 t.1) refl
+      (last_turn ts (λ i d below. keys (suc i) d (omega arith)) (next_in c t))
     where
       Rest : Type 0
-      Rest = (log : List Entry) (e : Entry) → part_of w (trace_in (next_in c t) ts) ≡ log ++ e ∷ [] → LastTurn w (next_in c t) ts log e
+      Rest = (log : List Entry) (e : Entry) → part_of w (trace_in (next_in c t) ts) ≡ log ++ e ∷ []
+          → LastTurn w (next_in c t) ts log e
 
       has : HasKey t.1
       has = keys 0 t (omega arith)
 
       go : (o : Option Refused) → refused_in c t.0 t.1 ≡ o → Rest → LastTurn w c (t ∷ ts) log e
-      go (Some r) why rest = behind c t ts log [] e has (λ us. refused_adds w c t us r why ∙ ap (λ (d : Configuration). part_of w (trace_in d us)) (sym (refused_next c t r why)))
-          (rest log e (ap (λ (d : Configuration). part_of w (trace_in d ts)) (refused_next c t r why) ∙ (sym (refused_adds w c t ts r why) ∙ is)))
+      go (Some r) why rest = behind c t ts log [] e has
+          (λ us. refused_adds w c t us r why ∙ ap (λ (d : Configuration). part_of w (trace_in d us))
+          (sym (refused_next c t r why)))
+          (rest log e (ap (λ (d : Configuration). part_of w (trace_in d ts)) (refused_next c t r why)
+          ∙ (sym (refused_adds w c t ts r why) ∙ is)))
       go None why rest = by (takes_part w t.0 t.1) refl
         where
           r : Reply
           r = reply_of c.state t.0 t.1
 
-          own : takes_part w t.0 t.1 ≡ true → (log : List Entry) → (t.1, r) ∷ part_of w (trace_in (next_in c t) ts) ≡ log ++ e ∷ [] → LastTurn w c (t ∷ ts) log e
+          own : takes_part w t.0 t.1 ≡ true → (log : List Entry)
+              → (t.1, r) ∷ part_of w (trace_in (next_in c t) ts) ≡ log ++ e ∷ [] → LastTurn w c (t ∷ ts) log e
           own takes [] same = record {
             before = [];
             since = ts;
@@ -137,11 +152,13 @@ module _ (w : ℕ) where
           }
           own takes (f ∷ log) same =
               let parts = head_is (t.1, r) f (part_of w (trace_in (next_in c t) ts)) (log ++ e ∷ []) same in
-              subst (λ (f : Entry). LastTurn w c (t ∷ ts) (f ∷ log) e) parts.0 (behind c t ts log ((t.1, r) ∷ []) e has (λ us. own_adds w c t us why takes) (rest log e parts.1))
+              subst (λ (f : Entry). LastTurn w c (t ∷ ts) (f ∷ log) e) parts.0
+              (behind c t ts log ((t.1, r) ∷ []) e has (λ us. own_adds w c t us why takes) (rest log e parts.1))
 
           by : (b : Bool) → takes_part w t.0 t.1 ≡ b → LastTurn w c (t ∷ ts) log e
           by true takes = own takes log (sym (own_adds w c t ts why takes) ∙ is)
-          by false none = behind c t ts log [] e has (λ us. others_add w c t us why none) (rest log e (sym (others_add w c t ts why none) ∙ is))
+          by false none = behind c t ts log [] e has (λ us. others_add w c t us why none)
+              (rest log e (sym (others_add w c t ts why none) ∙ is))
 
 -- ---- of a log
 
@@ -172,7 +189,8 @@ pub record LastEntry (L : Layout) (w : ℕ) (log : List Entry) (e : Entry) : Typ
   pub takes : PartOf w by e.0
   pub replied : reply_of before.state by e.0 ≡ e.1
 
-pub last_entry : (L : Layout) → 5 ≤ L.nodes → (w : ℕ) (log : List Entry) (e : Entry) → IsLogOf L w (log ++ e ∷ []) → LastEntry L w log e
+pub last_entry : (L : Layout) → 5 ≤ L.nodes → (w : ℕ) (log : List Entry) (e : Entry) → IsLogOf L w (log ++ e ∷ [])
+    → LastEntry L w log e
 last_entry L enough w log e l = go (last_turn w l.turns l.keys (ordered L) log e l.is_part)
   where
     go : LastTurn w (ordered L) l.turns log e → LastEntry L w log e
@@ -181,7 +199,8 @@ last_entry L enough w log e l = go (last_turn w l.turns l.keys (ordered L) log e
       keys = t.keys;
       before = after_in (ordered L) t.before;
       leads = refl;
-      told = subst (λ (log : List Entry). ToldBy L w log (after_in (ordered L) t.before)) t.is_before (told_by_part L enough w l.worker t.before t.keys);
+      told = subst (λ (log : List Entry). ToldBy L w log (after_in (ordered L) t.before)) t.is_before
+          (told_by_part L enough w l.worker t.before t.keys);
       by = t.turn.0;
       has_key = t.has_key;
       is_allowed = t.is_allowed;

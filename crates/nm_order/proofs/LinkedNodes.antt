@@ -33,9 +33,11 @@ module _ (s : State) (births : EachBirthStands s) (born : (w : ℕ) → BornFirs
       go (Some d) is = by d.birth refl
         where
           by : (b : Option ℕ) → d.birth ≡ b → node_linked (of s w) x ≡ named s.memory x
-          by None none = absurd (true≢false (sym keyed ∙ (ap (λ (o : Option Draft). is_some (unwrap_or o unfilled).key) is ∙ ap is_some (born w x d is none))))
+          by None none = absurd (true≢false (sym keyed
+              ∙ (ap (λ (o : Option Draft). is_some (unwrap_or o unfilled).key) is ∙ ap is_some (born w x d is none))))
           by (Some b) some =
-              let stored : (draft_of (of s w) x).birth ≡ Some b = ap (λ (o : Option Draft). (unwrap_or o unfilled).birth) is ∙ some in
+              let stored : (draft_of (of s w) x).birth ≡ Some b = ap
+              (λ (o : Option Draft). (unwrap_or o unfilled).birth) is ∙ some in
               let birth = ap (λ (o : Option ℕ). unwrap_or o 0) stored ∙ sym ((births w).stored x b stored) in
               λ i. record { slot = x; birth = birth i }
 
@@ -43,16 +45,20 @@ module _ (s : State) (births : EachBirthStands s) (born : (w : ℕ) → BornFirs
   unfolding outcome reply
   links_name w p d leaf new n is = go (refused s w (Link p d leaf new)) refl is
     where
-      go : (o : Option Refused) → refused s w (Link p d leaf new) ≡ o → answered o (reply_of s w (Link p d leaf new)) ≡ Ok (Linked n) → n ≡ named s.memory new
+      go : (o : Option Refused) → refused s w (Link p d leaf new) ≡ o
+          → answered o (reply_of s w (Link p d leaf new)) ≡ Ok (Linked n) → n ≡ named s.memory new
       go (Some x) why is = absurd (no_reply x (Linked n) is)
       go None why is = by (is_to (edge s.memory p d) leaf) (same_reply _ (Linked n) is)
         where
           keyed : is_some (draft_of (of s w) new).key ≡ true
           keyed = let ready = (link_checked s w p d leaf new (allowed s w (Link p d leaf new) why).event).ready in
-              (and_parts (is_some (draft_of (of s w) new).key) (is_number (draft_of (of s w) new).left leaf || is_number (draft_of (of s w) new).right leaf)
-              (and_parts (is_fork_over (draft_of (of s w) new) leaf) (is_leaf_draft (of s w) (unwrap_or (beside (draft_of (of s w) new) leaf) 0)) ready).0).0
+              (and_parts (is_some (draft_of (of s w) new).key)
+              (is_number (draft_of (of s w) new).left leaf || is_number (draft_of (of s w) new).right leaf)
+              (and_parts (is_fork_over (draft_of (of s w) new) leaf)
+              (is_leaf_draft (of s w) (unwrap_or (beside (draft_of (of s w) new) leaf) 0)) ready).0).0
 
-          by : (b : Bool) → cond b (Linked (node_linked (of s w) new)) (Lost (edge s.memory p d)) ≡ Linked n → n ≡ named s.memory new
+          by : (b : Bool) → cond b (Linked (node_linked (of s w) new)) (Lost (edge s.memory p d)) ≡ Linked n
+              → n ≡ named s.memory new
           by true e = same_node e ∙ birth_is w new keyed
             where
               same_node : Linked (node_linked (of s w) new) ≡ Linked n → n ≡ node_linked (of s w) new
@@ -63,4 +69,5 @@ module _ (s : State) (births : EachBirthStands s) (born : (w : ℕ) → BornFirs
               lost e = cc
 
 pub links_name_new_nodes : OfEachState LinksNameNewNodes
-links_name_new_nodes L enough turns = links_name (after (start L) turns) (each_birth_stands L enough turns) (sound L enough turns).once.born
+links_name_new_nodes L enough turns = links_name (after (start L) turns) (each_birth_stands L enough turns)
+    (sound L enough turns).once.born

@@ -20,7 +20,8 @@ module _ {X : Type 0} where
   pub from_the_end : (xs : List X) → FromTheEnd xs
   from_the_end xs = on_from [] xs nothing
 
-module _ (L : Layout) (w : ℕ) (P : List Entry → Type 0) (first : P []) (step : (log : List Entry) (e : Entry) → IsLogOf L w (log ++ e ∷ []) → P log → P (log ++ e ∷ [])) where
+module _ (L : Layout) (w : ℕ) (P : List Entry → Type 0) (first : P [])
+    (step : (log : List Entry) (e : Entry) → IsLogOf L w (log ++ e ∷ []) → P log → P (log ++ e ∷ [])) where
   by_end : (log : List Entry) → FromTheEnd log → IsLogOf L w log → P log
   by_end _ nothing l = first
   by_end _ (one_more log e f) l = step log e l (by_end log f (log_before L w log e l))

@@ -31,7 +31,8 @@ module _ {X : Type 0} where
   no_part (x ∷ xs) b p = elim p [ ]
 
   -- a part ends before the log's last entry, or with it
-  pub part_ends : (xs ys : List X) (b e : X) → IsPart (xs ++ b ∷ []) (ys ++ e ∷ []) → IsPart (xs ++ b ∷ []) ys ⊎ ((b ≡ e) × IsPart xs ys)
+  pub part_ends : (xs ys : List X) (b e : X) → IsPart (xs ++ b ∷ []) (ys ++ e ∷ [])
+      → IsPart (xs ++ b ∷ []) ys ⊎ ((b ≡ e) × IsPart xs ys)
   part_ends [] [] b e (takes p) = inr (refl, nothing)
   part_ends [] [] b e (skips p) = absurd (no_part [] b p)
   part_ends [] (y ∷ ys) b e (takes p) = inl (takes (part_of_nothing ys))

@@ -24,7 +24,9 @@ use Rattle.nm_order.proofs.OwnTurns.{own_search}
 use Rattle.nm_model.specs.declared.arrivals.Call.{Call}
 use Rattle.std.proofs.lemmas.Option.{same_Some}
 
-pub moment_of : (L : Layout) → 5 ≤ L.nodes → (turns : List (ℕ × Event)) → All (λ t. HasKey t.1) turns → (w : ℕ) (op : Op) (k : ℕ) (answer : Bool) → MayAnswer (after_in (ordered L) turns) w op k answer → HasMoment L turns w op k answer
+pub moment_of : (L : Layout) → 5 ≤ L.nodes → (turns : List (ℕ × Event)) → All (λ t. HasKey t.1) turns
+    → (w : ℕ) (op : Op) (k : ℕ) (answer : Bool) → MayAnswer (after_in (ordered L) turns) w op k answer
+    → HasMoment L turns w op k answer
 moment_of L enough turns keys w Has k answer may = each_other_answer L enough turns keys w Has k answer may refl
 moment_of L enough turns keys w Insert k true may = each_true_insert L enough turns keys w k may
 moment_of L enough turns keys w Insert k false may = each_other_answer L enough turns keys w Insert k false may refl
@@ -32,7 +34,8 @@ moment_of L enough turns keys w Delete k true may = each_true_delete_cuts L enou
 moment_of L enough turns keys w Delete k false may = each_other_answer L enough turns keys w Delete k false may refl
 
 pub answers_have_moments : AnswersHaveMoments
-answers_have_moments L enough w log op k answer called l = by (last_turn w l.turns l.keys (ordered L) log (LeaveWith answer, Departed) l.is_part)
+answers_have_moments L enough w log op k answer called l = by
+    (last_turn w l.turns l.keys (ordered L) log (LeaveWith answer, Departed) l.is_part)
   where
     by : LastTurn w (ordered L) l.turns log (LeaveWith answer, Departed) → IsAnsweredIn L l.turns w op k answer
     by t = on (part_or w t.turn.0 t.turn.1 t.takes)
@@ -41,7 +44,8 @@ answers_have_moments L enough w log op k answer called l = by (last_turn w l.tur
         is_leave = ap (λ (x : Entry). x.0) t.is_entry
 
         told : ToldBy L w log (after_in (ordered L) t.before)
-        told = subst (λ (x : List Entry). ToldBy L w x (after_in (ordered L) t.before)) t.is_before (told_by_part L enough w l.worker t.before t.keys)
+        told = subst (λ (x : List Entry). ToldBy L w x (after_in (ordered L) t.before)) t.is_before
+            (told_by_part L enough w l.worker t.before t.keys)
 
         on : PartOf w t.turn.0 t.turn.1 → IsAnsweredIn L l.turns w op k answer
         on (Resigns v is) = absurd (differ (sym is_leave ∙ is))
@@ -61,15 +65,24 @@ answers_have_moments L enough w log op k answer called l = by (last_turn w l.tur
 
             may : MayAnswer (after_in (ordered L) t.before) w op k answer
             may = record {
-              called = record { searches = told.is_ordered.searches; are = told.is_ordered.are; is_call = ap (λ (S : Search). S.call) told.search ∙ called };
-              leaves = ap (outcome_in (after_in (ordered L) t.before)) (sym turn) ∙ (allowed_outcome (after_in (ordered L) t.before) t.turn t.is_allowed ∙ ap (λ (r : Reply). Ok r) (ap (λ (x : Entry). x.1) t.is_entry));
+              called = record {
+                searches = told.is_ordered.searches;
+                are = told.is_ordered.are;
+                is_call = ap
+                    (λ (S : Search). S.call) told.search ∙ called;
+              };
+              leaves = ap (outcome_in (after_in (ordered L) t.before)) (sym turn)
+                  ∙ (allowed_outcome (after_in (ordered L) t.before) t.turn t.is_allowed
+                  ∙ ap (λ (r : Reply). Ok r) (ap (λ (x : Entry). x.1) t.is_entry));
             }
 
 pub pending_deletes_have_flagged : PendingDeletesHaveFlagged
-pending_deletes_have_flagged L enough w log k n called flagged l = subst (λ (j : ℕ). (f : HasFlagged L l.turns w j) × (f.flagged ≡ n)) same_key (f.flag, f.is_node)
+pending_deletes_have_flagged L enough w log k n called flagged l = subst
+    (λ (j : ℕ). (f : HasFlagged L l.turns w j) × (f.flagged ≡ n)) same_key (f.flag, f.is_node)
   where
     told : ToldBy L w log (after_in (ordered L) l.turns)
-    told = subst (λ (x : List Entry). ToldBy L w x (after_in (ordered L) l.turns)) l.is_part (told_by_part L enough w l.worker l.turns l.keys)
+    told = subst (λ (x : List Entry). ToldBy L w x (after_in (ordered L) l.turns)) l.is_part
+        (told_by_part L enough w l.worker l.turns l.keys)
 
     own : own_search (after_in (ordered L) l.turns) w ≡ search_after idle log
     own = ap (λ (x : Option (List Search)). search_of (unwrap_or x []) w) told.is_ordered.are ∙ told.search
@@ -78,4 +91,5 @@ pending_deletes_have_flagged L enough w log k n called flagged l = subst (λ (j 
     f = fates L enough l.turns l.keys w n (ap (λ (S : Search). S.flagged) own ∙ flagged)
 
     same_key : f.k ≡ k
-    same_key = ap (λ (c : Call). c.key) (same_Some (record { op = Delete; key = f.k }) (record { op = Delete; key = k }) (sym f.is_call ∙ (ap (λ (S : Search). S.call) own ∙ called)))
+    same_key = ap (λ (c : Call). c.key) (same_Some (record { op = Delete; key = f.k })
+        (record { op = Delete; key = k }) (sym f.is_call ∙ (ap (λ (S : Search). S.call) own ∙ called)))

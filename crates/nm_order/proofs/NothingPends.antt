@@ -24,8 +24,10 @@ use Rattle.nm_order.proofs.PendingLeaves.{flag_noted}
 use Rattle.nm_order.proofs.RunExchanges.{first_keys}
 
 module _ (L : Layout) (enough : 5 ≤ L.nodes) (turns : List (ℕ × Event)) (keys : All (λ t. HasKey t.1) turns) where
-  none_flagged : (w : ℕ) → w < L.workers → (search_after idle (part_of w (trace_in (ordered L) turns))).flagged ≡ None → (k : ℕ) → HasFlagged L turns w k → ⊥
-  none_flagged w below none k f = none-some f.flagged (sym none ∙ (ap (λ (s : Search). s.flagged) (sym own) ∙ flag_noted L enough turns keys w k f))
+  none_flagged : (w : ℕ) → w < L.workers → (search_after idle (part_of w (trace_in (ordered L) turns))).flagged
+      ≡ None → (k : ℕ) → HasFlagged L turns w k → ⊥
+  none_flagged w below none k f = none-some f.flagged
+      (sym none ∙ (ap (λ (s : Search). s.flagged) (sym own) ∙ flag_noted L enough turns keys w k f))
     where
       told : ToldBy L w (part_of w (trace_in (ordered L) turns)) (after_in (ordered L) turns)
       told = told_by_part L enough w below turns keys
@@ -44,7 +46,8 @@ module _ (L : Layout) (enough : 5 ≤ L.nodes) (turns : List (ℕ × Event)) (ke
       before = after_in (ordered L) f.before
 
       here : IsOrdered L before
-      here = each_ordered L enough f.before (first_keys f.before ((w, event) ∷ f.since) (subst (All (λ t. HasKey t.1)) f.is_run keys))
+      here = each_ordered L enough f.before (first_keys f.before ((w, event) ∷ f.since)
+          (subst (All (λ t. HasKey t.1)) f.is_run keys))
 
       layout : before.state.layout ≡ L
       layout = ap (λ (s : State). s.layout) here.leads ∙ layout_after L here.events
@@ -54,7 +57,9 @@ module _ (L : Layout) (enough : 5 ≤ L.nodes) (turns : List (ℕ × Event)) (ke
 
       go : (o : Option Refused) → refused_in before w event ≡ o → w < L.workers
       go (Some r) why = absurd (no r _ (sym (refused_outcome before (w, event) r why) ∙ f.won))
-      go None why = subst (λ (l : Layout). w < l.workers) layout (allowed before.state w event (allowed_by_state before w event why)).worker
+      go None why = subst (λ (l : Layout). w < l.workers) layout
+          (allowed before.state w event (allowed_by_state before w event why)).worker
 
-  pub nothing_pends : ((w : ℕ) → w < L.workers → (search_after idle (part_of w (trace_in (ordered L) turns))).flagged ≡ None) → NothingIsPending L turns
+  pub nothing_pends : ((w : ℕ) → w < L.workers → (search_after idle (part_of w (trace_in (ordered L) turns))).flagged
+      ≡ None) → NothingIsPending L turns
   nothing_pends none w k f = none_flagged w (flagger w k f) (none w (flagger w k f)) k f

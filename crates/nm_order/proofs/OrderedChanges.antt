@@ -51,27 +51,40 @@ module _ (s : State) (h : ℕ → ℕ) (law : Lawful s h) where
   first_onward k small fixed q r f goes there same =
       let left : c 1 Left ≡ 2 = law.tree.root_left in
       let path : follow c 1 (Left ∷ Left ∷ q) ≡ follow c (c 2 Left) q = ap (λ (y : ℕ). follow c (c y Left) q) left in
-      let some : follow c 1 r ≢ 0 = λ z. there (ap (λ (y : ℕ). c y f) (sym same ∙ z) ∙ null_below s.layout.nodes (picture s h) law.tree f) in
-      let is : r ≡ Left ∷ Left ∷ q = alone s.layout.nodes (picture s h) law.tree r (Left ∷ Left ∷ q) some (same ∙ sym path) in
+      let some : follow c 1 r ≢ 0 = λ z. there (ap (λ (y : ℕ). c y f) (sym same ∙ z)
+      ∙ null_below s.layout.nodes (picture s h) law.tree f) in
+      let is : r ≡ Left ∷ Left ∷ q = alone s.layout.nodes (picture s h) law.tree r (Left ∷ Left ∷ q) some
+      (same ∙ sym path) in
       let at_root : side_of k (v 1) ≡ Left = ap (side_of k) fixed.root ∙ left_of k infinity_2 (omega arith) in
       let at_second : side_of k (v 2) ≡ Left = ap (side_of k) fixed.second ∙ left_of k infinity_1 (omega arith) in
-      subst (λ (p : List Side). GoesBy c v k 1 p) (sym is) (at_root, (ap (λ (y : ℕ). side_of k (v y)) left ∙ at_second, subst (λ (y : ℕ). GoesBy c v k (c y Left) q) (sym left) goes))
+      subst (λ (p : List Side). GoesBy c v k 1 p) (sym is) (
+        at_root,
+        (
+          ap (λ (y : ℕ). side_of k (v y)) left
+              ∙ at_second,
+          subst (λ (y : ℕ). GoesBy c v k (c y Left) q) (sym left) goes,
+        ),
+      )
 
   -- private slots are on no path, from the root or from what a worker knows
   pub off_root : (w x : ℕ) → is_private (of s w) x ≡ true → (q : List Side) → follow c 1 q ≡ x → ⊥
   off_root w x own q is =
       let some : x ≢ 0 = λ z. (let r = law.tree.privates w x own in absurd (omega arith)) in
-      true≢false (sym own ∙ (ap (is_private (of s w)) (sym is) ∙ (reached_live s.layout.nodes (picture s h) law.tree q (rw is some)).shared w))
+      true≢false (sym own ∙ (ap (is_private (of s w)) (sym is)
+      ∙ (reached_live s.layout.nodes (picture s h) law.tree q (rw is some)).shared w))
 
-  pub off_known : (u z w x : ℕ) → knows (of s u) z ≡ true → is_private (of s w) x ≡ true → (q : List Side) → follow c z q ≡ x → ⊥
+  pub off_known : (u z w x : ℕ) → knows (of s u) z ≡ true → is_private (of s w) x ≡ true → (q : List Side)
+      → follow c z q ≡ x → ⊥
   off_known u z w x known own q is =
       let some : x ≢ 0 = λ e. (let r = law.tree.privates w x own in absurd (omega arith)) in
-      true≢false (sym own ∙ (law.tree.guarded u x (record { from = z; known = known; path = q; ends = is; is_slot = some })).shared w)
+      true≢false (sym own ∙ (law.tree.guarded u x (record
+      { from = z; known = known; path = q; ends = is; is_slot = some })).shared w)
 
   -- what an event changes, so that the order outlasts it
   pub record Outlasts (m : Memory) : Type 0 where
     pub order : InOrder c v → InOrder (child m) (key m)
-    pub onward : s.layout.radix ≡ false → (u z k : ℕ) → knows (of s u) z ≡ true → Onward c v k z → Onward (child m) (key m) k z
+    pub onward : s.layout.radix ≡ false → (u z k : ℕ) → knows (of s u) z ≡ true → Onward c v k z
+        → Onward (child m) (key m) k z
     pub keys : (u z : ℕ) → knows (of s u) z ≡ true → key m z ≡ v z
     pub fixed : FixedKeys s.memory → FixedKeys m
 
@@ -116,8 +129,10 @@ module _ (s : State) (h : ℕ → ℕ) (law : Lawful s h) where
 
   pub outlasts : (w : ℕ) (e : Event) (m : Memory) → InOrder c v → AsksOrder w e → TreeChange s h w e m → Outlasts m
   outlasts w e m order asks (Kept children keys) = record {
-    order = λ o. subst (λ (d : Children). InOrder d (key m)) (sym same) (subst (λ (n : Keys). InOrder c n) (sym same_keys) o);
-    onward = λ search u z k known o. subst (λ (d : Children). Onward d (key m) k z) (sym same) (subst (λ (n : Keys). Onward c n k z) (sym same_keys) o);
+    order = λ o. subst (λ (d : Children). InOrder d (key m)) (sym same)
+        (subst (λ (n : Keys). InOrder c n) (sym same_keys) o);
+    onward = λ search u z k known o. subst (λ (d : Children). Onward d (key m) k z) (sym same)
+        (subst (λ (n : Keys). Onward c n k z) (sym same_keys) o);
     keys = λ u z known. keys z;
     fixed = fixed_still m keys;
   }
@@ -129,16 +144,24 @@ module _ (s : State) (h : ℕ → ℕ) (law : Lawful s h) where
       same_keys = fun_ext keys
   outlasts w e m order asks (Filled x own apart) = record {
     order = order_apart c (child m) v (key m) x apart (off_root w x own);
-    onward = λ search u z k known. onward_apart c (child m) v (key m) x apart (off_root w x own) k z (off_known u z w x known own);
+    onward = λ search u z k known. onward_apart c (child m) v (key m) x apart (off_root w x own) k z
+        (off_known u z w x known own);
     keys = λ u z known. apart.keys z (λ i. off_known u z w x known own [] i);
-    fixed = λ f. record { root = apart.keys 1 (low 1 (omega arith)) ∙ f.root; second = apart.keys 2 (low 2 (omega arith)) ∙ f.second };
+    fixed = λ f. record {
+      root = apart.keys 1 (low 1 (omega arith))
+          ∙ f.root;
+      second = apart.keys 2 (low 2 (omega arith)) ∙ f.second;
+    };
   }
     where
       low : (y : ℕ) → y ≤ 5 → y ≢ x
       low y few i = let r = law.tree.privates w x own in absurd (omega arith)
   outlasts w e m order asks (Linked p d leaf new is unmarked l link exchanged keys) = record {
-    order = λ o. subst (λ (n : Keys). InOrder (child m) n) (sym same_keys) (order_linked c (child m) v p d leaf new l.far l.side k o);
-    onward = λ search u z n known o. subst (λ (y : Keys). Onward (child m) y n z) (sym same_keys) (onward_linked c (child m) v p d leaf new l.far l.side k (link.is_leaf search) n z some (off_known u z w new known link.own) o);
+    order = λ o. subst (λ (n : Keys). InOrder (child m) n) (sym same_keys)
+        (order_linked c (child m) v p d leaf new l.far l.side k o);
+    onward = λ search u z n known o. subst (λ (y : Keys). Onward (child m) y n z) (sym same_keys)
+        (onward_linked c (child m) v p d leaf new l.far l.side k (link.is_leaf search) n z some
+        (off_known u z w new known link.own) o);
     keys = λ u z known. keys z;
     fixed = fixed_still m keys;
   }
@@ -166,8 +189,10 @@ module _ (s : State) (h : ℕ → ℕ) (law : Lawful s h) where
       same_keys : key m ≡ v
       same_keys = fun_ext keys
   outlasts w e m order asks (Spliced a d way g some target keys high) = record {
-    order = λ o. subst (λ (n : Keys). InOrder (child m) n) (sym same_keys) (order_spliced c (child m) v a d way g some o);
-    onward = λ search u z n known o. subst (λ (y : Keys). Onward (child m) y n z) (sym same_keys) (onward_spliced c (child m) v a d way g some n z o);
+    order = λ o. subst (λ (n : Keys). InOrder (child m) n) (sym same_keys)
+        (order_spliced c (child m) v a d way g some o);
+    onward = λ search u z n known o. subst (λ (y : Keys). Onward (child m) y n z) (sym same_keys)
+        (onward_spliced c (child m) v a d way g some n z o);
     keys = λ u z known. keys z;
     fixed = fixed_still m keys;
   }

@@ -40,11 +40,14 @@ right_of k n past = cond-false (nat_lt k n) Left Right (false_from_ne_true (nat_
 
 -- ---- a link's slots
 
-module _ (s : State) (h : ℕ → ℕ) (law : Lawful s h) (w p : ℕ) (d : Side) (leaf new far : ℕ) (dl : Side) (link : IsLink s.layout.radix s.layout.nodes (picture s h) w p d leaf new far dl) where
+module _ (s : State) (h : ℕ → ℕ) (law : Lawful s h) (w p : ℕ) (d : Side) (leaf new far : ℕ) (dl : Side)
+    (link : IsLink s.layout.radix s.layout.nodes (picture s h) w p d leaf new far dl) where
   pub above : IsOnPath (picture s h) p
-  above = live_on_path s.layout.nodes (picture s h) p law.tree link.live link.is_slot link.inside (unmarked_not_queued s.layout.nodes (picture s h) p d leaf law.tree link.unmarked link.leaf_slot)
+  above = live_on_path s.layout.nodes (picture s h) p law.tree link.live link.is_slot link.inside
+      (unmarked_not_queued s.layout.nodes (picture s h) p d leaf law.tree link.unmarked link.leaf_slot)
 
-  abbrev pub grafted : (c' : ℕ → Side → ℕ) → Exchanged (child s.memory) c' p d new → Grafting (child s.memory) c' p d leaf new far dl
+  abbrev pub grafted : (c' : ℕ → Side → ℕ) → Exchanged (child s.memory) c' p d new
+      → Grafting (child s.memory) c' p d leaf new far dl
   grafted c' exchanged = record {
     nothing = null_below s.layout.nodes (picture s h) law.tree;
     alone = alone s.layout.nodes (picture s h) law.tree;
@@ -64,8 +67,12 @@ module _ (s : State) (h : ℕ → ℕ) (law : Lawful s h) (w p : ℕ) (d : Side)
 
 -- ---- what a link that is in order has shown
 
-module _ (s : State) (h : ℕ → ℕ) (law : Lawful s h) (w : ℕ) (births : BirthsStand s w) (k : ℕ) (small : IsKey k) (fixed : FixedKeys s.memory) (ws : List Arrival) (walks : WalkLaw s.layout.radix (child s.memory) (key s.memory) (knows (of s w)) k ws)
-    (p : ℕ) (d : Side) (leaf new : ℕ) (l : Linkable (of s w) new leaf) (link : IsLink s.layout.radix s.layout.nodes (picture s h) w p d leaf new l.far l.side) (is_far_key : is_number (new_leaf (of s w) leaf new).key k ≡ true) where
+module _ (s : State) (h : ℕ → ℕ) (law : Lawful s h) (w : ℕ) (births : BirthsStand s w) (k : ℕ) (small : IsKey k)
+    (fixed : FixedKeys s.memory) (ws : List Arrival)
+    (walks : WalkLaw s.layout.radix (child s.memory) (key s.memory) (knows (of s w)) k ws)
+    (p : ℕ) (d : Side) (leaf new : ℕ) (l : Linkable (of s w) new leaf)
+    (link : IsLink s.layout.radix s.layout.nodes (picture s h) w p d leaf new l.far l.side)
+    (is_far_key : is_number (new_leaf (of s w) leaf new).key k ≡ true) where
   abbrev c : Children
   c = child s.memory
 
@@ -79,7 +86,8 @@ module _ (s : State) (h : ℕ → ℕ) (law : Lawful s h) (w : ℕ) (births : Bi
   leads = ap (λ (e : Edge). e.slot) link.unmarked
 
   pub far_key : key s.memory l.far ≡ k
-  far_key = births.key l.far k (number_is (draft_of (of s w) l.far).key k (ap (λ (x : ℕ). is_number (draft_of (of s w) x).key k) (sym l.is_far) ∙ is_far_key))
+  far_key = births.key l.far k (number_is (draft_of (of s w) l.far).key k
+      (ap (λ (x : ℕ). is_number (draft_of (of s w) x).key k) (sym l.is_far) ∙ is_far_key))
 
   to_leaf : follow (child s.memory) 1 (on.path ++ d ∷ []) ≡ leaf
   to_leaf = follow-append (child s.memory) 1 on.path (d ∷ []) ∙ (ap (λ (y : ℕ). child s.memory y d) on.ends ∙ leads)
@@ -97,7 +105,8 @@ module _ (s : State) (h : ℕ → ℕ) (law : Lawful s h) (w : ℕ) (births : Bi
       go : (dl : Side) → edge s.memory new dl ≡ to leaf → edge s.memory new (other dl) ≡ to l.far → dl ≡ g
       go dl a b = by dl g a b over
         where
-          by : (dl g : Side) → edge s.memory new dl ≡ to leaf → edge s.memory new (other dl) ≡ to l.far → edge s.memory new g ≡ to leaf → dl ≡ g
+          by : (dl g : Side) → edge s.memory new dl ≡ to leaf → edge s.memory new (other dl) ≡ to l.far
+              → edge s.memory new g ≡ to leaf → dl ≡ g
           by Left Left a b o = refl
           by Left Right a b o = absurd (leaf_not_far (same _ _ o b refl))
           by Right Left a b o = absurd (leaf_not_far (same _ _ o b refl))
@@ -109,7 +118,8 @@ module _ (s : State) (h : ℕ → ℕ) (law : Lawful s h) (w : ℕ) (births : Bi
     leaf_side : side_of (key s.memory leaf) (key s.memory new) ≡ l.side
     far_side : side_of (key s.memory l.far) (key s.memory new) ≡ other l.side
 
-  forks : (n : ℕ) → key s.memory leaf ≡ n → (not (n == k) && is_fork_for (draft_of (of s w) new) leaf k n) ≡ true → Forks
+  forks : (n : ℕ) → key s.memory leaf ≡ n → (not (n == k) && is_fork_for (draft_of (of s w) new) leaf k n) ≡ true
+      → Forks
   forks n leaf_key fork = go (nat_lt k n) refl parts.1
     where
       parts : (not (n == k) ≡ true) × (is_fork_for (draft_of (of s w) new) leaf k n ≡ true)
@@ -121,11 +131,13 @@ module _ (s : State) (h : ℕ → ℕ) (law : Lawful s h) (w : ℕ) (births : Bi
       dd : Draft
       dd = draft_of (of s w) new
 
-      go : (b : Bool) → nat_lt k n ≡ b → cond b (is_number dd.key n && is_number dd.right leaf) (is_number dd.key k && is_number dd.left leaf) ≡ true → Forks
+      go : (b : Bool) → nat_lt k n ≡ b → cond b (is_number dd.key n && is_number dd.right leaf)
+          (is_number dd.key k && is_number dd.left leaf) ≡ true → Forks
       go true less t =
           let both = and_parts (is_number dd.key n) (is_number dd.right leaf) t in
           let new_is : key s.memory new ≡ n = births.key new n (number_is dd.key n both.0) in
-          let side : l.side ≡ Right = leaf_on Right (law.tree.drafts w new Right leaf (number_is dd.right leaf both.1)).1 in
+          let side : l.side ≡ Right = leaf_on Right (law.tree.drafts w new Right leaf
+          (number_is dd.right leaf both.1)).1 in
           record {
             new_key = inr (new_is ∙ sym leaf_key);
             leaf_side = rw (leaf_key, new_is, side) (right_of n n (λ lt. absurd (omega arith)));
@@ -150,27 +162,39 @@ module _ (s : State) (h : ℕ → ℕ) (law : Lawful s h) (w : ℕ) (births : Bi
   comes : s.layout.radix ≡ false → (a : Arrival) → a.parent ≡ p → a.side ≡ d → CameFrom k ws a → Comes
   comes search a parent side (FromRoot root left) =
       let two : p ≡ 2 = sym parent ∙ root in
-      let path : on.path ≡ Left ∷ [] = alone s.layout.nodes (picture s h) law.tree on.path (Left ∷ []) (λ z. on.is_slot (sym on.ends ∙ z)) (on.ends ∙ (two ∙ sym law.tree.root_left)) in
+      let path : on.path ≡ Left ∷ [] = alone s.layout.nodes (picture s h) law.tree on.path (Left ∷ [])
+      (λ z. on.is_slot (sym on.ends ∙ z)) (on.ends ∙ (two ∙ sym law.tree.root_left)) in
       record {
-        goes = subst (λ (q : List Side). GoesBy (child s.memory) (key s.memory) k 1 q) (sym path) (ap (side_of k) fixed.root ∙ left_of k _ (omega arith), tt);
-        turns = ap (λ (x : ℕ). side_of k (key s.memory x)) two ∙ (ap (side_of k) fixed.second ∙ (left_of k infinity_1 (omega arith) ∙ (sym left ∙ side)));
+        goes = subst (λ (q : List Side). GoesBy (child s.memory) (key s.memory) k 1 q) (sym path)
+            (ap (side_of k) fixed.root ∙ left_of k _ (omega arith), tt);
+        turns = ap (λ (x : ℕ). side_of k (key s.memory x)) two
+            ∙ (ap (side_of k) fixed.second ∙ (left_of k infinity_1 (omega arith) ∙ (sym left ∙ side)));
       }
   comes search a parent side (FromSlot i b at slot turn) =
       let here : b.slot ≡ p = slot ∙ parent in
       let n = turned k b.key a.side turn in
       record {
-        goes = walks.onward search i b at [] on.path d tt (λ z. link.leaf_slot (sym leads ∙ (ap (λ (x : ℕ). child s.memory x d) (sym here) ∙ z))) (on.ends ∙ sym here);
-        turns = ap (λ (x : ℕ). side_of k (key s.memory x)) (sym here) ∙ (ap (side_of k) (walks.is_keyed i b n.0 at n.1) ∙ (n.2 ∙ side));
+        goes = walks.onward search i b at [] on.path d tt
+            (λ z. link.leaf_slot (sym leads ∙ (ap (λ (x : ℕ). child s.memory x d) (sym here) ∙ z)))
+            (on.ends ∙ sym here);
+        turns = ap (λ (x : ℕ). side_of k (key s.memory x)) (sym here)
+            ∙ (ap (side_of k) (walks.is_keyed i b n.0 at n.1) ∙ (n.2 ∙ side));
       }
 
-  pub linking_shown : s.layout.radix ≡ false → InOrder (child s.memory) (key s.memory) → list_any (may_link_at (draft_of (of s w) new) k p d leaf) ws ≡ true → ((c' : ℕ → Side → ℕ) → Exchanged (child s.memory) c' p d new → Linking (child s.memory) c' (key s.memory) p d leaf new l.far l.side)
+  pub linking_shown : s.layout.radix ≡ false → InOrder (child s.memory) (key s.memory)
+      → list_any (may_link_at (draft_of (of s w) new) k p d leaf) ws ≡ true
+      → ((c' : ℕ → Side → ℕ) → Exchanged (child s.memory) c' p d new
+      → Linking (child s.memory) c' (key s.memory) p d leaf new l.far l.side)
   linking_shown search order any c' exchanged = by found.1.key refl parts.1
     where
-      found : (i : ℕ) × (a : Arrival) × (slice_get ws i ≡ Some a) × (may_link_at (draft_of (of s w) new) k p d leaf a ≡ true)
+      found : (i : ℕ) × (a : Arrival) × (slice_get ws i ≡ Some a)
+          × (may_link_at (draft_of (of s w) new) k p d leaf a ≡ true)
       found = any_at (may_link_at (draft_of (of s w) new) k p d leaf) ws any
 
-      parts : (is_by leaf p d found.1 ≡ true) × ((found.1.ended && forks_over (draft_of (of s w) new) leaf k found.1.key) ≡ true)
-      parts = and_parts (is_by leaf p d found.1) (found.1.ended && forks_over (draft_of (of s w) new) leaf k found.1.key) found.3
+      parts : (is_by leaf p d found.1 ≡ true) × ((found.1.ended
+          && forks_over (draft_of (of s w) new) leaf k found.1.key) ≡ true)
+      parts = and_parts (is_by leaf p d found.1) (found.1.ended
+          && forks_over (draft_of (of s w) new) leaf k found.1.key) found.3
 
       where_from : (found.1.slot ≡ leaf) × (found.1.parent ≡ p) × (found.1.side ≡ d)
       where_from =
@@ -178,14 +202,20 @@ module _ (s : State) (h : ℕ → ℕ) (law : Lawful s h) (w : ℕ) (births : Bi
           let rest = and_parts (found.1.parent == p) (is_side found.1.side d) first.1 in
           (eqb-true found.1.slot leaf first.0, eqb-true found.1.parent p rest.0, is_side-true found.1.side d rest.1)
 
-      by : (o : Option ℕ) → found.1.key ≡ o → (found.1.ended && forks_over (draft_of (of s w) new) leaf k o) ≡ true → Linking (child s.memory) c' (key s.memory) p d leaf new l.far l.side
+      by : (o : Option ℕ) → found.1.key ≡ o → (found.1.ended && forks_over (draft_of (of s w) new) leaf k o) ≡ true
+          → Linking (child s.memory) c' (key s.memory) p d leaf new l.far l.side
       by None is t = absurd (true≢false (sym (and_parts found.1.ended false t).1))
       by (Some n) is t =
-          let leaf_key : key s.memory leaf ≡ n = ap (key s.memory) (sym where_from.0) ∙ walks.is_keyed found.0 found.1 n found.2 is in
-          let f = forks n leaf_key (and_parts found.1.ended (not (n == k) && is_fork_for (draft_of (of s w) new) leaf k n) t).1 in
+          let leaf_key : key s.memory leaf ≡ n = ap (key s.memory) (sym where_from.0)
+          ∙ walks.is_keyed found.0 found.1 n found.2 is in
+          let f = forks n leaf_key (and_parts found.1.ended
+          (not (n == k) && is_fork_for (draft_of (of s w) new) leaf k n) t).1 in
           let g = comes search found.1 where_from.1 where_from.2 (walks.came found.0 found.1 found.2) in
-          let far_goes : GoesBy c v (v l.far) 1 (on.path ++ d ∷ []) = goes-append c v (v l.far) 1 on.path (d ∷ []) (rw far_key g.goes) (ap (λ (y : ℕ). side_of (v l.far) (v y)) on.ends ∙ rw far_key g.turns, tt) in
-          let leaf_goes : GoesBy c v (v leaf) 1 (on.path ++ d ∷ []) = subst (λ (y : ℕ). GoesBy c v (v y) 1 (on.path ++ d ∷ [])) to_leaf (order (on.path ++ d ∷ []) (λ z. link.leaf_slot (sym to_leaf ∙ z))) in
+          let far_goes : GoesBy c v (v l.far) 1 (on.path ++ d ∷ []) = goes-append c v (v l.far) 1 on.path (d ∷ [])
+          (rw far_key g.goes) (ap (λ (y : ℕ). side_of (v l.far) (v y)) on.ends ∙ rw far_key g.turns, tt) in
+          let leaf_goes : GoesBy c v (v leaf) 1 (on.path ++ d ∷ []) = subst
+          (λ (y : ℕ). GoesBy c v (v y) 1 (on.path ++ d ∷ [])) to_leaf
+          (order (on.path ++ d ∷ []) (λ z. link.leaf_slot (sym to_leaf ∙ z))) in
           record {
             graft = grafted s h law w p d leaf new l.far l.side link c' exchanged;
             old_side = old_side f.leaf_side;
@@ -194,10 +224,13 @@ module _ (s : State) (h : ℕ → ℕ) (law : Lawful s h) (w : ℕ) (births : Bi
             far_goes = far_goes;
           }
         where
-          old_side : side_of (v leaf) (v new) ≡ l.side → (u : List Side) → follow c leaf u ≢ 0 → side_of (v (follow c leaf u)) (v new) ≡ l.side
+          old_side : side_of (v leaf) (v new) ≡ l.side → (u : List Side) → follow c leaf u ≢ 0
+              → side_of (v (follow c leaf u)) (v new) ≡ l.side
           old_side is [] some = is
-          old_side is (e ∷ u) some = absurd (some (ap (λ (y : ℕ). follow c y u) (link.is_leaf search e) ∙ follow_none c (null_below s.layout.nodes (picture s h) law.tree) u))
+          old_side is (e ∷ u) some = absurd (some (ap (λ (y : ℕ). follow c y u) (link.is_leaf search e)
+              ∙ follow_none c (null_below s.layout.nodes (picture s h) law.tree) u))
 
-          new_goes : GoesBy c v (v l.far) 1 (on.path ++ d ∷ []) → GoesBy c v (v leaf) 1 (on.path ++ d ∷ []) → (v new ≡ v l.far) ⊎ (v new ≡ v leaf) → GoesBy c v (v new) 1 (on.path ++ d ∷ [])
+          new_goes : GoesBy c v (v l.far) 1 (on.path ++ d ∷ []) → GoesBy c v (v leaf) 1 (on.path ++ d ∷ [])
+              → (v new ≡ v l.far) ⊎ (v new ≡ v leaf) → GoesBy c v (v new) 1 (on.path ++ d ∷ [])
           new_goes far_goes leaf_goes (inl i) = rw i far_goes
           new_goes far_goes leaf_goes (inr i) = rw i leaf_goes

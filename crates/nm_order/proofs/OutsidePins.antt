@@ -34,7 +34,8 @@ Law k s = k.brief.pin ≡ None → HasNoCall k s
 
 -- ---- one event
 
-after_sight : (k : Knowledge) (s : Search) (call : Option Call) (r : Reply) → Law k s → Law (learn_sight k r) (begun s call r)
+after_sight : (k : Knowledge) (s : Search) (call : Option Call) (r : Reply) → Law k s
+    → Law (learn_sight k r) (begun s call r)
 after_sight k s call (Saw e) law = λ pin. record { labelled = (law pin).labelled; idle = (law pin).idle }
 after_sight k s call (Labelled e) law = λ pin. record { labelled = refl; idle = (law pin).idle }
 after_sight k s call (Pinned e) law = λ pin. absurd (none-some e (sym pin))
@@ -43,11 +44,13 @@ after_sight k s call _ law = law
 
 -- where the epochs and the search stay
 same_brief : (k l : Knowledge) (s : Search) → l.brief ≡ k.brief → Law k s → Law l s
-same_brief k l s same law = λ pin. let had = law (sym (ap (λ (b : Brief). b.pin) same) ∙ pin) in record { labelled = ap (λ (b : Brief). b.unlabelled) same ∙ had.labelled; idle = had.idle }
+same_brief k l s same law = λ pin. let had = law (sym (ap (λ (b : Brief). b.pin) same) ∙ pin) in
+    record { labelled = ap (λ (b : Brief). b.unlabelled) same ∙ had.labelled; idle = had.idle }
 
 join_stays : (w : ℕ) (k : Knowledge) (v : ℕ) (r : Reply) → (learn w k (Join v) r).brief ≡ k.brief
 unfolding learn
-join_stays w k v (Joined ls) = cond_both (w == v) (resigned k) (inheriting k ls) (λ (l : Knowledge). l.brief ≡ k.brief) (λ _. refl) (λ _. refl)
+join_stays w k v (Joined ls) = cond_both (w == v) (resigned k) (inheriting k ls)
+    (λ (l : Knowledge). l.brief ≡ k.brief) (λ _. refl) (λ _. refl)
 join_stays w k v _ = refl
 
 -- a look without a call finds nothing for one
@@ -66,20 +69,26 @@ module _ (L : Layout) (m : Memory) (w : ℕ) (k : Knowledge) (s : Search) (law :
   after_event Leave Departed ok = λ pin. record { labelled = (passed _ _ _ ok).0; idle = refl }
   after_event (LeaveWith answer) Departed ok = λ pin. record { labelled = (passed _ _ _ ok).0; idle = refl }
   after_event Announce (Announced e) ok = λ pin. record { labelled = (law pin).labelled; idle = (law pin).idle }
-  after_event (Scan u) r ok = same_brief k (learn_scan k u r) s (ap (λ (l : Knowledge). l.brief) (scan_teaches k u r)) law
+  after_event (Scan u) r ok = same_brief k (learn_scan k u r) s
+      (ap (λ (l : Knowledge). l.brief) (scan_teaches k u r)) law
   after_event Advance (Moved e) ok = λ pin. record { labelled = (law pin).labelled; idle = (law pin).idle }
   after_event Advance (Behind e) ok = λ pin. record { labelled = (law pin).labelled; idle = (law pin).idle }
   after_event (Claim x) (Claimed y) ok = λ pin. record { labelled = (law pin).labelled; idle = (law pin).idle }
   after_event (Give x) (Returned y) ok = λ pin. record { labelled = (law pin).labelled; idle = (law pin).idle }
   after_event (Give x) (Freed n) ok = λ pin. record { labelled = (law pin).labelled; idle = (law pin).idle }
   after_event (Look x f) r ok = λ pin.
-      let had = same_brief k (learn w k (Look x f) r) s (ap (λ (l : Knowledge). l.brief) (look_teaches k x f r)) law pin in
+      let had = same_brief k (learn w k (Look x f) r) s (ap (λ (l : Knowledge). l.brief) (look_teaches k x f r)) law
+      pin in
       record { labelled = had.labelled; idle = no_walks x f r s had.idle }
   after_event (Fill x f v) Filled ok = λ pin. record { labelled = (law pin).labelled; idle = (law pin).idle }
-  after_event (Link p side leaf new) r ok = λ pin. absurd (pinned k.brief.pin _ (second _ (is_none k.brief.pin) _ _ _ ok) (alike_link w k p side leaf new r).pin pin)
-  after_event (Flag p side leaf) r ok = λ pin. absurd (pinned k.brief.pin _ (second _ (is_none k.brief.pin) _ _ _ ok) (alike_flag w k p side leaf r).pin pin)
-  after_event (Tag p side) (Was e) ok = λ pin. absurd (pinned k.brief.pin _ (second _ (is_none k.brief.pin) _ _ _ ok) (alike_tag w k p side e).pin pin)
-  after_event (Splice a side x p keep) r ok = λ pin. absurd (pinned k.brief.pin _ (second _ (is_none k.brief.pin) _ _ _ ok) (alike_splice w k a side x p keep r).pin pin)
+  after_event (Link p side leaf new) r ok = λ pin. absurd
+      (pinned k.brief.pin _ (second _ (is_none k.brief.pin) _ _ _ ok) (alike_link w k p side leaf new r).pin pin)
+  after_event (Flag p side leaf) r ok = λ pin. absurd
+      (pinned k.brief.pin _ (second _ (is_none k.brief.pin) _ _ _ ok) (alike_flag w k p side leaf r).pin pin)
+  after_event (Tag p side) (Was e) ok = λ pin. absurd
+      (pinned k.brief.pin _ (second _ (is_none k.brief.pin) _ _ _ ok) (alike_tag w k p side e).pin pin)
+  after_event (Splice a side x p keep) r ok = λ pin. absurd
+      (pinned k.brief.pin _ (second _ (is_none k.brief.pin) _ _ _ ok) (alike_splice w k a side x p keep r).pin pin)
   after_event (Swap p side leaf new) r ok =
       λ pin. absurd (pinned k.brief.pin _ (second _ (is_none k.brief.pin) _ _ _ ok)
       (alike_swap w k p side leaf new r).pin pin)
@@ -119,14 +128,20 @@ module _ (L : Layout) (enough : 5 ≤ L.nodes) (w : ℕ) where
         where
           by : PartOf w e.by entry.0 → OfLog (log ++ entry ∷ [])
           by (Own own) =
-              let ok = by_own e.before.state e.by entry.0 (allowed e.before.state e.by entry.0 (allowed_by_state e.before e.by entry.0 e.is_allowed)).event in
+              let ok = by_own e.before.state e.by entry.0
+              (allowed e.before.state e.by entry.0 (allowed_by_state e.before e.by entry.0 e.is_allowed)).event in
               next e.before.state.layout e.before.state.memory
-              (subst (λ (l : Knowledge). refusal e.before.state.layout e.before.state.memory l w entry.0 ≡ None) e.told.knows
-              (subst (λ (u : ℕ). refusal e.before.state.layout e.before.state.memory (of e.before.state u) u entry.0 ≡ None) own ok))
-          by (Resigns v is) = next L e.before.state.memory (subst (λ (x : Event). refusal L e.before.state.memory k w x ≡ None) (sym is) (join_allowed L e.before.state.memory k w v))
+              (subst (λ (l : Knowledge). refusal e.before.state.layout e.before.state.memory l w entry.0 ≡ None)
+              e.told.knows
+              (subst (λ (u : ℕ). refusal e.before.state.layout e.before.state.memory (of e.before.state u) u entry.0
+              ≡ None) own ok))
+          by (Resigns v is) = next L e.before.state.memory
+              (subst (λ (x : Event). refusal L e.before.state.memory k w x ≡ None) (sym is)
+              (join_allowed L e.before.state.memory k w v))
 
   none_yet : OfLog []
   none_yet pin = record { labelled = refl; idle = refl }
 
 pub unpinned_workers_have_no_call : UnpinnedWorkersHaveNoCall
-unpinned_workers_have_no_call L enough w log l = each_log L w (OfLog L enough w) (none_yet L enough w) (more L enough w) log l
+unpinned_workers_have_no_call L enough w log l = each_log L w (OfLog L enough w) (none_yet L enough w)
+    (more L enough w) log l

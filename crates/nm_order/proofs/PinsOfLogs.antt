@@ -19,12 +19,14 @@ use Rattle.nm_order.specs.Pinned.{pinned_by, pinned_after, PinsAreTold}
 use Rattle.nm_order.proofs.KnowledgeStays.{learned_stays, answers}
 use Rattle.nm_order.proofs.CallWalks.{others_stay, own_knows}
 
-pub pinned_join : (pin : Option ℕ) (xs ys : List Entry) → pinned_after pin (xs ++ ys) ≡ pinned_after (pinned_after pin xs) ys
+pub pinned_join : (pin : Option ℕ) (xs ys : List Entry)
+    → pinned_after pin (xs ++ ys) ≡ pinned_after (pinned_after pin xs) ys
 pinned_join pin [] ys = refl
 pinned_join pin (x ∷ xs) ys = pinned_join (pinned_by pin x) xs ys
 
 -- what one entry does to the pin that is known
-anew_pin : (w : ℕ) (k : Knowledge) (e : Event) (r : Reply) → begins_anew (e, r) ≡ true → (learn w k e r).brief.pin ≡ pinned_by k.brief.pin (e, r)
+anew_pin : (w : ℕ) (k : Knowledge) (e : Event) (r : Reply) → begins_anew (e, r) ≡ true
+    → (learn w k e r).brief.pin ≡ pinned_by k.brief.pin (e, r)
 unfolding learn
 anew_pin w k Sight (Pinned n) anew = refl
 anew_pin w k (SightFor op key) (Pinned n) anew = refl
@@ -44,11 +46,16 @@ module _ (s : State) (lawful : IsLawful s) (t : ℕ × Event) (u : ℕ) where
   own_entry (Ok r) = (t.1, r) ∷ []
   own_entry (Err x) = []
 
-  own_pin : Allowed s t.0 t.1 → (b : Bool) → begins_anew (t.1, reply_of s t.0 t.1) ≡ b → (learn t.0 (of s t.0) t.1 (reply_of s t.0 t.1)).brief.pin ≡ pinned_by (of s t.0).brief.pin (t.1, reply_of s t.0 t.1)
+  own_pin : Allowed s t.0 t.1 → (b : Bool) → begins_anew (t.1, reply_of s t.0 t.1) ≡ b
+      → (learn t.0 (of s t.0) t.1 (reply_of s t.0 t.1)).brief.pin
+      ≡ pinned_by (of s t.0).brief.pin (t.1, reply_of s t.0 t.1)
   own_pin ok true anew = anew_pin t.0 (of s t.0) t.1 (reply_of s t.0 t.1) anew
-  own_pin ok false none = (learned_stays s.memory (of s t.0) t.0 t.1 (reply_of s t.0 t.1) (answers s lawful.holder lawful.law t.0 t.1 ok) none).pin ∙ sym (same_pin (of s t.0).brief.pin t.1 (reply_of s t.0 t.1) none)
+  own_pin ok false none = (learned_stays s.memory (of s t.0) t.0 t.1 (reply_of s t.0 t.1)
+      (answers s lawful.holder lawful.law t.0 t.1 ok) none).pin
+      ∙ sym (same_pin (of s t.0).brief.pin t.1 (reply_of s t.0 t.1) none)
 
-  pub pin_step : (of (next s t) u).brief.pin ≡ pinned_after (of s u).brief.pin (cond (t.0 == u) (own_entry (outcome s t)) [])
+  pub pin_step : (of (next s t) u).brief.pin ≡ pinned_after (of s u).brief.pin
+      (cond (t.0 == u) (own_entry (outcome s t)) [])
   unfolding next outcome
   pin_step = go (refused s t.0 t.1) refl
     where
@@ -56,13 +63,20 @@ module _ (s : State) (lawful : IsLawful s) (t : ℕ × Event) (u : ℕ) where
       nothing true pin = refl
       nothing false pin = refl
 
-      go : (o : Option Refused) → refused s t.0 t.1 ≡ o → (of (unless_refused o s (applied s t.0 t.1)) u).brief.pin ≡ pinned_after (of s u).brief.pin (cond (t.0 == u) (own_entry (answered o (reply_of s t.0 t.1))) [])
+      go : (o : Option Refused) → refused s t.0 t.1 ≡ o
+          → (of (unless_refused o s (applied s t.0 t.1)) u).brief.pin
+          ≡ pinned_after (of s u).brief.pin (cond (t.0 == u) (own_entry (answered o (reply_of s t.0 t.1))) [])
       go (Some r) is = nothing (t.0 == u) (of s u).brief.pin
       go None is = elim (ℕ_discrete u t.0) [
-        | yes e ↦ subst (λ (v : ℕ). (of (applied s t.0 t.1) v).brief.pin ≡ pinned_after (of s v).brief.pin (cond (t.0 == v) ((t.1, reply_of s t.0 t.1) ∷ []) [])) (sym e)
-            (ap (λ (k : Knowledge). k.brief.pin) (own_knows s lawful.holder lawful.law t.0 t.1 ok) ∙ (own_pin ok (begins_anew (t.1, reply_of s t.0 t.1)) refl
-            ∙ ap (pinned_after (of s t.0).brief.pin) (sym (cond-true (t.0 == t.0) ((t.1, reply_of s t.0 t.1) ∷ []) [] (eq-eqb t.0 t.0 refl)))))
-        | no ne ↦ (others_stay s lawful.holder lawful.law t.0 t.1 ok u ne).pin ∙ ap (pinned_after (of s u).brief.pin) (sym (cond-false (t.0 == u) ((t.1, reply_of s t.0 t.1) ∷ []) [] (ne_eqb t.0 u (λ z. ne (sym z)))))
+        | yes e ↦ subst (λ (v : ℕ). (of (applied s t.0 t.1) v).brief.pin
+            ≡ pinned_after (of s v).brief.pin (cond (t.0 == v) ((t.1, reply_of s t.0 t.1) ∷ []) [])) (sym e)
+            (ap (λ (k : Knowledge). k.brief.pin) (own_knows s lawful.holder lawful.law t.0 t.1 ok)
+            ∙ (own_pin ok (begins_anew (t.1, reply_of s t.0 t.1)) refl
+            ∙ ap (pinned_after (of s t.0).brief.pin) (sym
+            (cond-true (t.0 == t.0) ((t.1, reply_of s t.0 t.1) ∷ []) [] (eq-eqb t.0 t.0 refl)))))
+        | no ne ↦ (others_stay s lawful.holder lawful.law t.0 t.1 ok u ne).pin
+            ∙ ap (pinned_after (of s u).brief.pin) (sym (cond-false (t.0 == u) ((t.1, reply_of s t.0 t.1) ∷ []) []
+            (ne_eqb t.0 u (λ z. ne (sym z)))))
       ]
         where
           ok : Allowed s t.0 t.1
@@ -76,17 +90,23 @@ module _ (s : State) (lawful : IsLawful s) (t : ℕ × Event) (u : ℕ) where
       go (Some r) is = lawful
       go None is = lawful_step s t.0 t.1 lawful (allowed s t.0 t.1 is)
 
-pins_from : (ts : List (ℕ × Event)) (s : State) → IsLawful s → (u : ℕ) → (of (after s ts) u).brief.pin ≡ pinned_after (of s u).brief.pin (log_of u (trace s ts))
+pins_from : (ts : List (ℕ × Event)) (s : State) → IsLawful s → (u : ℕ)
+    → (of (after s ts) u).brief.pin ≡ pinned_after (of s u).brief.pin (log_of u (trace s ts))
 unfolding after trace
 pins_from [] s lawful u = refl
 pins_from (t ∷ ts) s lawful u = pins_from ts (next s t) (lawful_then s lawful t u) u
     ∙ (ap (λ (p : Option ℕ). pinned_after p (log_of u (trace (next s t) ts))) (pin_step s lawful t u)
-    ∙ (ap (λ (l : List Entry). pinned_after (pinned_after (of s u).brief.pin (cond (t.0 == u) l [])) (log_of u (trace (next s t) ts))) (entry_is (outcome s t))
-    ∙ sym (pinned_join (of s u).brief.pin (cond (t.0 == u) (logged_by (record { worker = t.0; event = t.1; outcome = outcome s t })) []) (log_of u (trace (next s t) ts)))))
+    ∙ (ap (λ (l : List Entry). pinned_after (pinned_after (of s u).brief.pin (cond (t.0 == u) l []))
+    (log_of u (trace (next s t) ts))) (entry_is (outcome s t))
+    ∙ sym (pinned_join (of s u).brief.pin (cond (t.0 == u)
+    (logged_by (record { worker = t.0; event = t.1; outcome = outcome s t })) []) (log_of u (trace (next s t) ts)))))
   where
-    entry_is : (o : Result Reply Refused) → own_entry s lawful t u o ≡ logged_by (record { worker = t.0; event = t.1; outcome = o })
+    entry_is : (o : Result Reply Refused) → own_entry s lawful t u o
+        ≡ logged_by (record { worker = t.0; event = t.1; outcome = o })
     entry_is (Ok r) = refl
     entry_is (Err x) = refl
 
 pub pins_are_told : PinsAreTold
-pins_are_told L enough turns w = pins_from turns (start L) (lawful_start L enough) w ∙ ap (λ (p : Option ℕ). pinned_after p (log_of w (trace (start L) turns))) (ap (λ (k : Knowledge). k.brief.pin) (all_new L w))
+pins_are_told L enough turns w = pins_from turns (start L) (lawful_start L enough) w
+    ∙ ap (λ (p : Option ℕ). pinned_after p (log_of w (trace (start L) turns)))
+    (ap (λ (k : Knowledge). k.brief.pin) (all_new L w))

@@ -43,8 +43,11 @@ use Rattle.nm_order.proofs.RadixTrees.{RadixLaw, Parting, Placed, which, radix_s
 
 -- ---- a link's slots
 
-module _ (s : State) (h : ℕ → ℕ) (law : Lawful s h) (w : ℕ) (fixed : FixedKeys s.memory) (p : ℕ) (d : Side) (leaf new far : ℕ) (dl : Side) (link : IsLink s.layout.radix s.layout.nodes (picture s h) w p d leaf new far dl) where
-  pub placed : (c' : Children) → Exchanged (child s.memory) c' p d new → Placed (child s.memory) c' (key s.memory) p d leaf new far dl
+module _ (s : State) (h : ℕ → ℕ) (law : Lawful s h) (w : ℕ) (fixed : FixedKeys s.memory) (p : ℕ) (d : Side)
+    (leaf new far : ℕ) (dl : Side) (link : IsLink s.layout.radix s.layout.nodes (picture s h) w p d leaf new far
+    dl) where
+  pub placed : (c' : Children) → Exchanged (child s.memory) c' p d new
+      → Placed (child s.memory) c' (key s.memory) p d leaf new far dl
   placed c' exchanged = record {
     graft = grafted s h law w p d leaf new far dl link c' exchanged;
     root_left = law.tree.root_left;
@@ -55,8 +58,12 @@ module _ (s : State) (h : ℕ → ℕ) (law : Lawful s h) (w : ℕ) (fixed : Fix
 
 -- ---- what a link that is in order has shown
 
-module _ (s : State) (h : ℕ → ℕ) (law : Lawful s h) (w : ℕ) (births : BirthsStand s w) (k : ℕ) (small : IsKey k) (fixed : FixedKeys s.memory) (ws : List Arrival) (walks : WalkLaw s.layout.radix (child s.memory) (key s.memory) (knows (of s w)) k ws)
-    (p : ℕ) (d : Side) (leaf new : ℕ) (l : Linkable (of s w) new leaf) (link : IsLink s.layout.radix s.layout.nodes (picture s h) w p d leaf new l.far l.side) (is_far_key : is_number (new_leaf (of s w) leaf new).key k ≡ true) where
+module _ (s : State) (h : ℕ → ℕ) (law : Lawful s h) (w : ℕ) (births : BirthsStand s w) (k : ℕ) (small : IsKey k)
+    (fixed : FixedKeys s.memory) (ws : List Arrival)
+    (walks : WalkLaw s.layout.radix (child s.memory) (key s.memory) (knows (of s w)) k ws)
+    (p : ℕ) (d : Side) (leaf new : ℕ) (l : Linkable (of s w) new leaf)
+    (link : IsLink s.layout.radix s.layout.nodes (picture s h) w p d leaf new l.far l.side)
+    (is_far_key : is_number (new_leaf (of s w) leaf new).key k ≡ true) where
   abbrev v : Keys
   v = key s.memory
 
@@ -74,29 +81,39 @@ module _ (s : State) (h : ℕ → ℕ) (law : Lawful s h) (w : ℕ) (births : Bi
 
   -- the slot, where it is known as a leaf
   leaf_null : knows_leaf (of s w) leaf ≡ true → (f : Side) → child s.memory leaf f ≡ 0
-  leaf_null is = leaf_known s.layout.nodes s.memory (of s) h w leaf law.tree (subst (λ (y : ℕ). IsLive (picture s h) y) to_leaf (reached_live s.layout.nodes (picture s h) law.tree (on.path ++ d ∷ []) (λ z. link.leaf_slot (sym to_leaf ∙ z)))) is
+  leaf_null is = leaf_known s.layout.nodes s.memory (of s) h w leaf law.tree
+      (subst (λ (y : ℕ). IsLive (picture s h) y) to_leaf
+      (reached_live s.layout.nodes (picture s h) law.tree (on.path ++ d ∷ [])
+      (λ z. link.leaf_slot (sym to_leaf ∙ z)))) is
     where
       to_leaf : follow (child s.memory) 1 (on.path ++ d ∷ []) ≡ leaf
       to_leaf = follow-append (child s.memory) 1 on.path (d ∷ []) ∙ (ap (λ (y : ℕ). child s.memory y d) on.ends ∙ leads)
 
   -- where a walk for the key goes on from the parent within its range, or from the root's edge
-  place : (is_first p d || list_any (narrows k p d) ws) ≡ true → ((p ≡ 2) × (d ≡ Left)) ⊎ ((6 ≤ p) × ((covers (v p) (v l.far) ≡ true) × (side_of (v l.far) (v p) ≡ d)))
+  place : (is_first p d || list_any (narrows k p d) ws) ≡ true
+      → ((p ≡ 2) × (d ≡ Left)) ⊎ ((6 ≤ p) × ((covers (v p) (v l.far) ≡ true) × (side_of (v l.far) (v p) ≡ d)))
   place shown = by (or_cases (is_first p d) (list_any (narrows k p d) ws) shown)
     where
-      below_root : (n : ℕ) → v p ≡ n → covers n k ≡ true → side_of k n ≡ d → (p ≡ 0) ⊎ ((p ≡ 1) ⊎ ((p ≡ 2) ⊎ (((3 ≤ p) × (p ≤ 5)) ⊎ (6 ≤ p)))) → ((p ≡ 2) × (d ≡ Left)) ⊎ ((6 ≤ p) × ((covers (v p) (v l.far) ≡ true) × (side_of (v l.far) (v p) ≡ d)))
+      below_root : (n : ℕ) → v p ≡ n → covers n k ≡ true → side_of k n ≡ d
+          → (p ≡ 0) ⊎ ((p ≡ 1) ⊎ ((p ≡ 2) ⊎ (((3 ≤ p) × (p ≤ 5)) ⊎ (6 ≤ p))))
+          → ((p ≡ 2) × (d ≡ Left)) ⊎ ((6 ≤ p) × ((covers (v p) (v l.far) ≡ true) × (side_of (v l.far) (v p) ≡ d)))
       below_root n is has side (inl z) = absurd (link.is_slot z)
       below_root n is has side (inr (inl one)) =
           let root : infinity_2 ≡ n = sym fixed.root ∙ (ap v (sym one) ∙ is) in
-          let half : k / 2 ≡ infinity_2 / 2 = eqb-true (k / 2) (infinity_2 / 2) (subst (λ (y : ℕ). covers y k ≡ true) (sym root) has) in
+          let half : k / 2 ≡ infinity_2 / 2 = eqb-true (k / 2) (infinity_2 / 2)
+          (subst (λ (y : ℕ). covers y k ≡ true) (sym root) has) in
           absurd (omega (arith, half, small))
       below_root n is has side (inr (inr (inl two))) =
           let second : infinity_1 ≡ n = sym fixed.second ∙ (ap v (sym two) ∙ is) in
           inl (two, sym side ∙ (ap (side_of k) (sym second) ∙ left_of k infinity_1 (omega (arith, small))))
-      below_root n is has side (inr (inr (inr (inl range)))) = absurd (link.leaf_slot (sym leads ∙ law.tree.sentinels p d range.0 range.1))
+      below_root n is has side (inr (inr (inr (inl range)))) = absurd
+          (link.leaf_slot (sym leads ∙ law.tree.sentinels p d range.0 range.1))
       below_root n is has side (inr (inr (inr (inr high)))) = inr (high, (rw (far_is, is) has, rw (far_is, is) side))
 
-      by : (is_first p d ≡ true) ⊎ (list_any (narrows k p d) ws ≡ true) → ((p ≡ 2) × (d ≡ Left)) ⊎ ((6 ≤ p) × ((covers (v p) (v l.far) ≡ true) × (side_of (v l.far) (v p) ≡ d)))
-      by (inl root) = let two = and_parts (p == 2) (is_side d Left) root in inl (eqb-true p 2 two.0, is_side-true d Left two.1)
+      by : (is_first p d ≡ true) ⊎ (list_any (narrows k p d) ws ≡ true)
+          → ((p ≡ 2) × (d ≡ Left)) ⊎ ((6 ≤ p) × ((covers (v p) (v l.far) ≡ true) × (side_of (v l.far) (v p) ≡ d)))
+      by (inl root) = let two = and_parts (p == 2) (is_side d Left) root in
+          inl (eqb-true p 2 two.0, is_side-true d Left two.1)
       by (inr any) = not-true b.1.key refl two.1
         where
           b : (i : ℕ) × (a : Arrival) × (slice_get ws i ≡ Some a) × (narrows k p d a ≡ true)
@@ -108,39 +125,49 @@ module _ (s : State) (h : ℕ → ℕ) (law : Lawful s h) (w : ℕ) (births : Bi
           at : (b.1.slot ≡ p) × (turns k b.1.key d ≡ true)
           at = let parts = and_parts (b.1.slot == p) (turns k b.1.key d) two.0 in (eqb-true b.1.slot p parts.0, parts.1)
 
-          not-true : (o : Option ℕ) → b.1.key ≡ o → is_covered k o ≡ true → ((p ≡ 2) × (d ≡ Left)) ⊎ ((6 ≤ p) × ((covers (v p) (v l.far) ≡ true) × (side_of (v l.far) (v p) ≡ d)))
+          not-true : (o : Option ℕ) → b.1.key ≡ o → is_covered k o ≡ true
+              → ((p ≡ 2) × (d ≡ Left)) ⊎ ((6 ≤ p) × ((covers (v p) (v l.far) ≡ true) × (side_of (v l.far) (v p) ≡ d)))
           not-true None is t = absurd (true≢false (sym t))
           not-true (Some n) is t =
               let side : side_of k n ≡ d = is_side-true (side_of k n) d (ap (λ o. turns k o d) (sym is) ∙ at.1) in
               below_root n (ap v (sym at.0) ∙ walks.is_keyed b.0 b.1 n b.2 is) t side (which p)
 
-  pub parting : ((is_first p d || list_any (narrows k p d) ws) && list_any (may_link_between (draft_of (of s w) new) (knows_leaf (of s w) leaf) k p d leaf) ws) ≡ true → Parting (child s.memory) (key s.memory) p d leaf new l.far l.side
+  pub parting : ((is_first p d || list_any (narrows k p d) ws)
+      && list_any (may_link_between (draft_of (of s w) new) (knows_leaf (of s w) leaf) k p d leaf) ws) ≡ true
+      → Parting (child s.memory) (key s.memory) p d leaf new l.far l.side
   parting shown = by found.1.key refl both.1
     where
       dd : Draft
       dd = draft_of (of s w) new
 
-      halves : ((is_first p d || list_any (narrows k p d) ws) ≡ true) × (list_any (may_link_between (draft_of (of s w) new) (knows_leaf (of s w) leaf) k p d leaf) ws ≡ true)
+      halves : ((is_first p d || list_any (narrows k p d) ws) ≡ true)
+          × (list_any (may_link_between (draft_of (of s w) new) (knows_leaf (of s w) leaf) k p d leaf) ws ≡ true)
       halves = and_parts (is_first p d || list_any (narrows k p d) ws) _ shown
 
-      found : (i : ℕ) × (a : Arrival) × (slice_get ws i ≡ Some a) × (may_link_between (draft_of (of s w) new) (knows_leaf (of s w) leaf) k p d leaf a ≡ true)
+      found : (i : ℕ) × (a : Arrival) × (slice_get ws i ≡ Some a)
+          × (may_link_between (draft_of (of s w) new) (knows_leaf (of s w) leaf) k p d leaf a ≡ true)
       found = any_at (may_link_between (draft_of (of s w) new) (knows_leaf (of s w) leaf) k p d leaf) ws halves.1
 
-      both : (is_by leaf p d found.1 ≡ true) × (parts_from (draft_of (of s w) new) leaf k (knows_leaf (of s w) leaf) found.1.key ≡ true)
+      both : (is_by leaf p d found.1 ≡ true) × (parts_from (draft_of (of s w) new) leaf k (knows_leaf (of s w) leaf)
+          found.1.key ≡ true)
       both = and_parts (is_by leaf p d found.1) _ found.3
 
       slot : found.1.slot ≡ leaf
-      slot = eqb-true found.1.slot leaf (and_parts (found.1.slot == leaf) ((found.1.parent == p) && is_side found.1.side d) both.0).0
+      slot = eqb-true found.1.slot leaf (and_parts (found.1.slot == leaf)
+          ((found.1.parent == p) && is_side found.1.side d) both.0).0
 
-      by : (o : Option ℕ) → found.1.key ≡ o → parts_from (draft_of (of s w) new) leaf k (knows_leaf (of s w) leaf) o ≡ true → Parting (child s.memory) (key s.memory) p d leaf new l.far l.side
+      by : (o : Option ℕ) → found.1.key ≡ o → parts_from (draft_of (of s w) new) leaf k (knows_leaf (of s w) leaf) o
+          ≡ true → Parting (child s.memory) (key s.memory) p d leaf new l.far l.side
       by None is t = absurd (true≢false (sym t))
       by (Some r) is t = on (draft_of (of s w) new).key refl forks.1
         where
           leaf_is : key s.memory leaf ≡ r
           leaf_is = ap v (sym slot) ∙ walks.is_keyed found.0 found.1 r found.2 is
 
-          forks : ((not (r == k) && (knows_leaf (of s w) leaf || not (covers r k))) ≡ true) × (parts (draft_of (of s w) new) leaf k r (draft_of (of s w) new).key ≡ true)
-          forks = and_parts (not (r == k) && (knows_leaf (of s w) leaf || not (covers r k))) (parts (draft_of (of s w) new) leaf k r (draft_of (of s w) new).key) t
+          forks : ((not (r == k) && (knows_leaf (of s w) leaf || not (covers r k))) ≡ true)
+              × (parts (draft_of (of s w) new) leaf k r (draft_of (of s w) new).key ≡ true)
+          forks = and_parts (not (r == k) && (knows_leaf (of s w) leaf || not (covers r k)))
+              (parts (draft_of (of s w) new) leaf k r (draft_of (of s w) new).key) t
 
           none_in : not (covers r k) ≡ true → covers r k ≡ false
           none_in h = not-true (covers r k) h
@@ -154,7 +181,8 @@ module _ (s : State) (h : ℕ → ℕ) (law : Lawful s h) (w : ℕ) (births : Bi
             ]
           ]
 
-          on : (o : Option ℕ) → (draft_of (of s w) new).key ≡ o → parts (draft_of (of s w) new) leaf k r o ≡ true → Parting (child s.memory) (key s.memory) p d leaf new l.far l.side
+          on : (o : Option ℕ) → (draft_of (of s w) new).key ≡ o → parts (draft_of (of s w) new) leaf k r o ≡ true
+              → Parting (child s.memory) (key s.memory) p d leaf new l.far l.side
           on None at t = absurd (true≢false (sym t))
           on (Some R) at t = not-true (nat_lt k R) refl (and_parts (covers R k && covers R r) _ t).1
             where
@@ -162,9 +190,13 @@ module _ (s : State) (h : ℕ → ℕ) (law : Lawful s h) (w : ℕ) (births : Bi
               new_is = births.key new R at
 
               ranges : (covers R k ≡ true) × (covers R r ≡ true)
-              ranges = and_parts (covers R k) (covers R r) (and_parts (covers R k && covers R r) (cond (nat_lt k R) (nat_le R r && is_number (draft_of (of s w) new).right leaf) (nat_lt r R && is_number (draft_of (of s w) new).left leaf)) t).0
+              ranges = and_parts (covers R k) (covers R r)
+                  (and_parts (covers R k && covers R r) (cond (nat_lt k R)
+                  (nat_le R r && is_number (draft_of (of s w) new).right leaf)
+                  (nat_lt r R && is_number (draft_of (of s w) new).left leaf)) t).0
 
-              made : side_of r R ≡ l.side → side_of k R ≡ other l.side → Parting (child s.memory) (key s.memory) p d leaf new l.far l.side
+              made : side_of r R ≡ l.side → side_of k R ≡ other l.side
+                  → Parting (child s.memory) (key s.memory) p d leaf new l.far l.side
               made leaf_side far_side = record {
                 place = place halves.0;
                 covers_far = rw (new_is, far_is) ranges.0;
@@ -177,27 +209,40 @@ module _ (s : State) (h : ℕ → ℕ) (law : Lawful s h) (w : ℕ) (births : Bi
                 high_far = (law.tree.privates w l.far link.far_own).0;
               }
 
-              not-true : (b : Bool) → nat_lt k R ≡ b → cond b (nat_le R r && is_number (draft_of (of s w) new).right leaf) (nat_lt r R && is_number (draft_of (of s w) new).left leaf) ≡ true → Parting (child s.memory) (key s.memory) p d leaf new l.far l.side
+              not-true : (b : Bool) → nat_lt k R ≡ b → cond b
+                  (nat_le R r && is_number (draft_of (of s w) new).right leaf)
+                  (nat_lt r R && is_number (draft_of (of s w) new).left leaf) ≡ true
+                  → Parting (child s.memory) (key s.memory) p d leaf new l.far l.side
               not-true true less t =
                   let two = and_parts (nat_le R r) (is_number (draft_of (of s w) new).right leaf) t in
-                  let side : l.side ≡ Right = side_is Right (law.tree.drafts w new Right leaf (number_is (draft_of (of s w) new).right leaf two.1)).1 in
-                  made (right_of r R (λ lt. let more = leb-true R r two.0 in omega (arith, lt, more)) ∙ sym side) (left_of k R (ltb-true k R less) ∙ ap other (sym side))
+                  let side : l.side ≡ Right = side_is Right
+                  (law.tree.drafts w new Right leaf (number_is (draft_of (of s w) new).right leaf two.1)).1 in
+                  made (right_of r R (λ lt. let more = leb-true R r two.0 in omega (arith, lt, more)) ∙ sym side)
+                  (left_of k R (ltb-true k R less) ∙ ap other (sym side))
               not-true false more t =
                   let two = and_parts (nat_lt r R) (is_number (draft_of (of s w) new).left leaf) t in
-                  let side : l.side ≡ Left = side_is Left (law.tree.drafts w new Left leaf (number_is (draft_of (of s w) new).left leaf two.1)).1 in
-                  made (left_of r R (ltb-true r R two.0) ∙ sym side) (right_of k R (λ lt. let past = ltb-false k R more in omega (arith, lt, past)) ∙ ap other (sym side))
+                  let side : l.side ≡ Left = side_is Left (law.tree.drafts w new Left leaf
+                  (number_is (draft_of (of s w) new).left leaf two.1)).1 in
+                  made (left_of r R (ltb-true r R two.0) ∙ sym side)
+                  (right_of k R (λ lt. let past = ltb-false k R more in omega (arith, lt, past))
+                  ∙ ap other (sym side))
 
-  pub radix_linking : InOrder (child s.memory) (key s.memory) → RadixLaw (child s.memory) (key s.memory) → ((is_first p d || list_any (narrows k p d) ws) && list_any (may_link_between (draft_of (of s w) new) (knows_leaf (of s w) leaf) k p d leaf) ws) ≡ true
-      → (c' : Children) → Exchanged (child s.memory) c' p d new → Linking (child s.memory) c' (key s.memory) p d leaf new l.far l.side
+  pub radix_linking : InOrder (child s.memory) (key s.memory) → RadixLaw (child s.memory) (key s.memory)
+      → ((is_first p d || list_any (narrows k p d) ws)
+      && list_any (may_link_between (draft_of (of s w) new) (knows_leaf (of s w) leaf) k p d leaf) ws) ≡ true
+      → (c' : Children) → Exchanged (child s.memory) c' p d new
+      → Linking (child s.memory) c' (key s.memory) p d leaf new l.far l.side
   radix_linking order nested shown c' exchanged =
-      radix_links (child s.memory) c' (key s.memory) p d leaf new l.far l.side (placed s h law w fixed p d leaf new l.far l.side link c' exchanged) (parting shown) nested order
+      radix_links (child s.memory) c' (key s.memory) p d leaf new l.far l.side
+      (placed s h law w fixed p d leaf new l.far l.side link c' exchanged) (parting shown) nested order
 
 -- ---- one event
 
 module _ (s : State) (h : ℕ → ℕ) (law : Lawful s h) (w : ℕ) where
   -- a link asks for the parting of its keys
   abbrev pub AsksPart : Event → Type 0
-  AsksPart e = (p : ℕ) (d : Side) (leaf new : ℕ) → e ≡ Link p d leaf new → (l : Linkable (of s w) new leaf) → IsLink s.layout.radix s.layout.nodes (picture s h) w p d leaf new l.far l.side
+  AsksPart e = (p : ℕ) (d : Side) (leaf new : ℕ) → e ≡ Link p d leaf new → (l : Linkable (of s w) new leaf)
+      → IsLink s.layout.radix s.layout.nodes (picture s h) w p d leaf new l.far l.side
       → Parting (child s.memory) (key s.memory) p d leaf new l.far l.side
 
   pub radix_outlasts : (e : Event) (m : Memory) → FixedKeys s.memory → InOrder (child s.memory) (key s.memory)

@@ -14,22 +14,27 @@ use Rattle.nm_order.proofs.StaleRuns.{any_walk_is_short, any_walk_passes_routers
 pub each_range_nests : OfEachOrdered RangesNest
 each_range_nests L enough turns keys radix x up r =
     let o = each_ordered L enough turns keys in
-    subst (IsNested (child (after_in (ordered L) turns).state.memory) (key (after_in (ordered L) turns).state.memory)) r.ends ((o.law.nested radix).nests r.path (rw r.ends up))
+    subst (IsNested (child (after_in (ordered L) turns).state.memory)
+    (key (after_in (ordered L) turns).state.memory)) r.ends ((o.law.nested radix).nests r.path (rw r.ends up))
 
 pub each_path_is_short : OfEachOrdered PathsAreShort
 each_path_is_short L enough turns keys radix path there =
     let o = each_ordered L enough turns keys in
     let l = law_of_state L enough (after_in (ordered L) turns) o in
-    path_short (child (after_in (ordered L) turns).state.memory) (key (after_in (ordered L) turns).state.memory) (rooted (after_in (ordered L) turns).state l.0 l.1 o.law.fixed o.law.order (o.law.nested radix)) path there
+    path_short (child (after_in (ordered L) turns).state.memory) (key (after_in (ordered L) turns).state.memory)
+    (rooted (after_in (ordered L) turns).state l.0 l.1 o.law.fixed o.law.order (o.law.nested radix)) path there
 
 -- ---- by the log of one worker
 
 pub walks_are_short : OfEachRadixLog WalksAreShort
-walks_are_short L enough radix w log l = subst (λ (log : List Entry). WalksAreShort (since_pin [] log)) l.is_part (λ k slot parent side small walk. (
+walks_are_short L enough radix w log l = subst (λ (log : List Entry). WalksAreShort (since_pin [] log)) l.is_part
+    (λ k slot parent side small walk. (
     let same = comes_in_log w (trace_in (ordered L) l.turns) k slot parent side walk in
-    subst (λ (looks : List Entry). length looks ≤ 129) same.1 (any_walk_is_short L enough l.turns l.keys radix w k slot parent side small same.0)
+    subst (λ (looks : List Entry). length looks ≤ 129) same.1
+    (any_walk_is_short L enough l.turns l.keys radix w k slot parent side small same.0)
     ))
 
 pub walks_pass_routers : OfEachRadixLog WalksPassRouters
 walks_pass_routers L enough radix w log l = subst (λ (log : List Entry). WalksPassRouters (since_pin [] log)) l.is_part
-    (λ k slot parent side v small walk. any_walk_passes_routers L enough l.turns l.keys radix w k slot parent side v small (passes_in_log w (trace_in (ordered L) l.turns) k slot parent side v walk))
+    (λ k slot parent side v small walk. any_walk_passes_routers L enough l.turns l.keys radix w k slot parent side v
+    small (passes_in_log w (trace_in (ordered L) l.turns) k slot parent side v walk))

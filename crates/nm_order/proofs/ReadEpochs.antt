@@ -33,7 +33,8 @@ sight_reads k (Pinned x) e is = is
 sight_reads k (Missed x) e is = is
 sight_reads k _ e is = absurd (none-some e is)
 
-reads : (w : ℕ) (k : Knowledge) (event : Event) (r : Reply) (e : ℕ) → epoch_read event r ≡ Some e → (learn w k event r).brief.seen ≡ Some e
+reads : (w : ℕ) (k : Knowledge) (event : Event) (r : Reply) (e : ℕ) → epoch_read event r ≡ Some e
+    → (learn w k event r).brief.seen ≡ Some e
 unfolding learn
 reads w k Sight r e is = sight_reads k r e is
 reads w k (SightFor op key) r e is = sight_reads k r e is
@@ -48,7 +49,8 @@ sight_stays k (Pinned x) is = absurd (none-some x (sym is))
 sight_stays k (Missed x) is = absurd (none-some x (sym is))
 sight_stays k _ is = refl
 
-stays : (w : ℕ) (k : Knowledge) (event : Event) (r : Reply) → epoch_read event r ≡ None → (learn w k event r).brief.seen ≡ k.brief.seen
+stays : (w : ℕ) (k : Knowledge) (event : Event) (r : Reply) → epoch_read event r ≡ None
+    → (learn w k event r).brief.seen ≡ k.brief.seen
 unfolding learn
 stays w k Sight r is = sight_stays k r is
 stays w k (SightFor op key) r is = sight_stays k r is
@@ -78,15 +80,22 @@ confirmed_finds None None n = refl
 confirmed_finds None (Some a) n = cond_both (a == n) _ _ (λ r. sight_epoch r ≡ Some n) (λ _. refl) (λ _. refl)
 
 sight_finds : (k : Knowledge) (n : ℕ) → sight_epoch (reply_sight k n) ≡ Some n
-sight_finds k n = cond_both k.brief.unlabelled _ _ (λ r. sight_epoch r ≡ Some n) (λ _. refl) (λ _. confirmed_finds k.brief.pin k.brief.announcement n)
+sight_finds k n = cond_both k.brief.unlabelled _ _ (λ r. sight_epoch r ≡ Some n) (λ _. refl)
+    (λ _. confirmed_finds k.brief.pin k.brief.announcement n)
 
-not_below : (s : State) (w : ℕ) (event : Event) (e : ℕ) → epoch_read event (reply_of s w event) ≡ Some e → s.memory.epoch ≤ e
+not_below : (s : State) (w : ℕ) (event : Event) (e : ℕ) → epoch_read event (reply_of s w event) ≡ Some e
+    → s.memory.epoch ≤ e
 unfolding reply
-not_below s w Sight e is = let same : s.memory.epoch ≡ e = same_Some s.memory.epoch e (sym (sight_finds (of s w) s.memory.epoch) ∙ is) in omega (arith, same)
-not_below s w (SightFor op key) e is = let same : s.memory.epoch ≡ e = same_Some s.memory.epoch e (sym (sight_finds (of s w) s.memory.epoch) ∙ is) in omega (arith, same)
+not_below s w Sight e is =
+    let same : s.memory.epoch ≡ e = same_Some s.memory.epoch e (sym (sight_finds (of s w) s.memory.epoch) ∙ is) in
+    omega (arith, same)
+not_below s w (SightFor op key) e is =
+    let same : s.memory.epoch ≡ e = same_Some s.memory.epoch e (sym (sight_finds (of s w) s.memory.epoch) ∙ is) in
+    omega (arith, same)
 not_below s w Advance e is = go (is_number (of s w).brief.seen s.memory.epoch) is
   where
-    go : (b : Bool) → epoch_read Advance (cond b (Moved (s.memory.epoch + 1)) (Behind s.memory.epoch)) ≡ Some e → s.memory.epoch ≤ e
+    go : (b : Bool) → epoch_read Advance (cond b (Moved (s.memory.epoch + 1)) (Behind s.memory.epoch)) ≡ Some e
+        → s.memory.epoch ≤ e
     go true is = let same : s.memory.epoch + 1 ≡ e = same_Some (s.memory.epoch + 1) e is in omega (arith, same)
     go false is = let same : s.memory.epoch ≡ e = same_Some s.memory.epoch e is in omega (arith, same)
 not_below s w _ e is = absurd (none-some e is)
@@ -103,14 +112,21 @@ module _ (L : Layout) (enough : 5 ≤ L.nodes) (w : ℕ) where
   more : (log : List Entry) (entry : Entry) → IsLogOf L w (log ++ entry ∷ []) → Law log → Law (log ++ entry ∷ [])
   more log entry l law epoch read = elim (Contains-push_cases log entry read.entry read.among) [
     | inr here ↦ last (subst (λ (e : Entry). epoch_read e.0 e.1 ≡ Some epoch) (sym here) read.tells)
-    | inl before ↦ earlier (law epoch (record { entry = read.entry; among = before; tells = read.tells })) (epoch_read entry.0 entry.1) refl
+    | inl before ↦ earlier (law epoch (record { entry = read.entry; among = before; tells = read.tells }))
+        (epoch_read entry.0 entry.1) refl
   ]
     where
       becomes : known_by L w (log ++ entry ∷ []) ≡ learn w (known_by L w log) entry.0 entry.1
       becomes = known_more w _ log entry
 
-      last : epoch_read entry.0 entry.1 ≡ Some epoch → ReadLast (log ++ entry ∷ []) (known_by L w (log ++ entry ∷ [])).brief.seen epoch
-      last tells = record { last = epoch; is_seen = ap (λ (k : Knowledge). k.brief.seen) becomes ∙ reads w (known_by L w log) entry.0 entry.1 epoch tells; above = omega arith }
+      last : epoch_read entry.0 entry.1 ≡ Some epoch
+          → ReadLast (log ++ entry ∷ []) (known_by L w (log ++ entry ∷ [])).brief.seen epoch
+      last tells = record {
+        last = epoch;
+        is_seen = ap (λ (k : Knowledge). k.brief.seen) becomes
+            ∙ reads w (known_by L w log) entry.0 entry.1 epoch tells;
+        above = omega arith;
+      }
 
       above : (n : ℕ) → epoch_read entry.0 entry.1 ≡ Some n → (m : ℕ) → (known_by L w log).brief.seen ≡ Some m → m ≤ n
       above n tells m is = go (last_entry L enough w log entry l)
@@ -126,10 +142,12 @@ module _ (L : Layout) (enough : 5 ≤ L.nodes) (w : ℕ) where
                   omega (arith, low, high)
               by (Resigns v is) = absurd (none-some n (ap (λ (x : Event). epoch_read x entry.1) (sym is) ∙ tells))
 
-      earlier : ReadLast log (known_by L w log).brief.seen epoch → (o : Option ℕ) → epoch_read entry.0 entry.1 ≡ o → ReadLast (log ++ entry ∷ []) (known_by L w (log ++ entry ∷ [])).brief.seen epoch
+      earlier : ReadLast log (known_by L w log).brief.seen epoch → (o : Option ℕ) → epoch_read entry.0 entry.1 ≡ o
+          → ReadLast (log ++ entry ∷ []) (known_by L w (log ++ entry ∷ [])).brief.seen epoch
       earlier was None none = record {
         last = was.last;
-        is_seen = ap (λ (k : Knowledge). k.brief.seen) becomes ∙ (stays w (known_by L w log) entry.0 entry.1 none ∙ was.is_seen);
+        is_seen = ap (λ (k : Knowledge). k.brief.seen) becomes
+            ∙ (stays w (known_by L w log) entry.0 entry.1 none ∙ was.is_seen);
         above = was.above;
       }
       earlier was (Some n) tells = record {

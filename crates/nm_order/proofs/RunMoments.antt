@@ -17,26 +17,37 @@ abbrev pub entries : ℕ → Configuration → ℕ × Event → List Entry
 entries u c t = cond (t.0 == u) (logged_by (record { worker = t.0; event = t.1; outcome = outcome_in c t })) []
 
 -- a turn that adds neither a pin nor a leave, and then others
-pub stands_behind : (u : ℕ) (c : Configuration) (t : ℕ × Event) (ts : List (ℕ × Event)) → list_any begins_anew (entries u c t) ≡ false → PinStands u (trace_in (next_in c t) ts) → PinStands u (trace_in c (t ∷ ts))
+pub stands_behind : (u : ℕ) (c : Configuration) (t : ℕ × Event) (ts : List (ℕ × Event))
+    → list_any begins_anew (entries u c t) ≡ false → PinStands u (trace_in (next_in c t) ts)
+    → PinStands u (trace_in c (t ∷ ts))
 unfolding trace_in
-stands_behind u c t ts first rest = list_any-append begins_anew (entries u c t) (log_of u (trace_in (next_in c t) ts)) ∙ (ap (λ (b : Bool). b || list_any begins_anew (log_of u (trace_in (next_in c t) ts))) first ∙ rest)
+stands_behind u c t ts first rest = list_any-append begins_anew (entries u c t)
+    (log_of u (trace_in (next_in c t) ts)) ∙ (ap (λ (b : Bool). b
+    || list_any begins_anew (log_of u (trace_in (next_in c t) ts))) first ∙ rest)
 
 -- a pin that stands in a run stands with a turn more, which adds neither a pin nor a leave
-pub stands_longer : (u : ℕ) (c d : Configuration) (ts : List (ℕ × Event)) (t : ℕ × Event) → after_in c ts ≡ d → PinStands u (trace_in c ts) → list_any begins_anew (entries u d t) ≡ false → PinStands u (trace_in c (ts ++ t ∷ []))
+pub stands_longer : (u : ℕ) (c d : Configuration) (ts : List (ℕ × Event)) (t : ℕ × Event) → after_in c ts ≡ d
+    → PinStands u (trace_in c ts) → list_any begins_anew (entries u d t) ≡ false
+    → PinStands u (trace_in c (ts ++ t ∷ []))
 unfolding trace_in
 stands_longer u c d ts t leads stands none =
     ap (λ (l : List Turn). list_any begins_anew (log_of u l)) (trace_in-append c ts (t ∷ []))
     ∙ (ap (list_any begins_anew) (log-append u (trace_in c ts) (trace_in (after_in c ts) (t ∷ [])))
     ∙ (list_any-append begins_anew (log_of u (trace_in c ts)) (log_of u (trace_in (after_in c ts) (t ∷ [])))
     ∙ (ap (λ (b : Bool). b || list_any begins_anew (log_of u (trace_in (after_in c ts) (t ∷ [])))) stands
-    ∙ (ap (λ (x : Configuration). list_any begins_anew (log_of u (trace_in x (t ∷ [])))) leads ∙ stands_behind u d t [] none refl))))
+    ∙ (ap (λ (x : Configuration). list_any begins_anew (log_of u (trace_in x (t ∷ [])))) leads
+    ∙ stands_behind u d t [] none refl))))
 
-pub refused_entries : (u : ℕ) (c : Configuration) (t : ℕ × Event) (x : Refused) → outcome_in c t ≡ Err x → entries u c t ≡ []
-refused_entries u c t x is = ap (λ (o : Result Reply Refused). cond (t.0 == u) (logged_by (record { worker = t.0; event = t.1; outcome = o })) []) is ∙ by (t.0 == u)
+pub refused_entries : (u : ℕ) (c : Configuration) (t : ℕ × Event) (x : Refused) → outcome_in c t ≡ Err x
+    → entries u c t ≡ []
+refused_entries u c t x is = ap (λ (o : Result Reply Refused). cond (t.0 == u)
+    (logged_by (record { worker = t.0; event = t.1; outcome = o })) []) is ∙ by (t.0 == u)
   where
     by : (b : Bool) → ◌≡◌ {A = List Entry} (cond b [] []) []
     by true = refl
     by false = refl
 
-pub allowed_entries : (u : ℕ) (c : Configuration) (t : ℕ × Event) (r : Reply) → outcome_in c t ≡ Ok r → entries u c t ≡ cond (t.0 == u) ((t.1, r) ∷ []) []
-allowed_entries u c t r is = ap (λ (o : Result Reply Refused). cond (t.0 == u) (logged_by (record { worker = t.0; event = t.1; outcome = o })) []) is
+pub allowed_entries : (u : ℕ) (c : Configuration) (t : ℕ × Event) (r : Reply) → outcome_in c t ≡ Ok r
+    → entries u c t ≡ cond (t.0 == u) ((t.1, r) ∷ []) []
+allowed_entries u c t r is = ap (λ (o : Result Reply Refused). cond (t.0 == u)
+    (logged_by (record { worker = t.0; event = t.1; outcome = o })) []) is

@@ -42,7 +42,8 @@ reply_is c t r is = go (refused_in c t.0 t.1) refl
     go (Some x) why = absurd (differ x (sym (refused_outcome c t x why) ∙ is))
     go None why = same (reply_of c.state t.0 t.1) (sym (allowed_outcome c t why) ∙ is)
 
-module _ (L : Layout) (enough : 5 ≤ L.nodes) (turns : List (ℕ × Event)) (keys : All (λ t. HasKey t.1) turns) (w : ℕ) (op : Op) (k : ℕ) (called : IsCalled (after_in (ordered L) turns) w op k) where
+module _ (L : Layout) (enough : 5 ≤ L.nodes) (turns : List (ℕ × Event)) (keys : All (λ t. HasKey t.1) turns) (w : ℕ)
+    (op : Op) (k : ℕ) (called : IsCalled (after_in (ordered L) turns) w op k) where
   o : IsOrdered L (after_in (ordered L) turns)
   o = each_ordered L enough turns keys
 
@@ -50,33 +51,50 @@ module _ (L : Layout) (enough : 5 ≤ L.nodes) (turns : List (ℕ × Event)) (ke
   of_worker : w < L.workers
   of_worker = elim (cases_lt w (length called.searches)) [
     | inl below ↦ subst (λ (n : ℕ). w < n) sized below
-    | inr past ↦ absurd (none-some (record { op = op; key = k }) (sym (ap (λ (S : Search). S.call) (get_or_past called.searches w idle past)) ∙ called.is_call))
+    | inr past ↦ absurd (none-some (record { op = op; key = k })
+        (sym (ap (λ (S : Search). S.call) (get_or_past called.searches w idle past)) ∙ called.is_call))
   ]
     where
       sized : length called.searches ≡ L.workers
-      sized = ap length (same_Some called.searches o.searches (sym called.are ∙ o.are)) ∙ (o.law.sized ∙ (ap (λ (s : State). s.layout.workers) o.leads ∙ ap (λ (l : Layout). l.workers) (layout_after L o.events)))
+      sized = ap length (same_Some called.searches o.searches (sym called.are ∙ o.are))
+          ∙ (o.law.sized ∙ (ap (λ (s : State). s.layout.workers) o.leads
+          ∙ ap (λ (l : Layout). l.workers) (layout_after L o.events)))
 
   -- an arrival is that of a walk since the pin
-  pub walk_of : (i : ℕ) (a : Arrival) → slice_get (own_search (after_in (ordered L) turns) w).walks i ≡ Some a → IsOfWalk k (since_pin [] (log_of w (trace_in (ordered L) turns))) a
-  walk_of i a at = subst (IsOfWalk k (since_pin [] (log_of w (trace_in (ordered L) turns)))) (get_or_from_slice_get (search_after idle (log_of w (trace_in (ordered L) turns))).walks i a a there)
-      (arrivals_are_walks (log_of w (trace_in (ordered L) turns)) (record { op = op; key = k }) (sym (ap (λ (S : Search). S.call) told) ∙ is_own_call (after_in (ordered L) turns) w op k called)
+  pub walk_of : (i : ℕ) (a : Arrival) → slice_get (own_search (after_in (ordered L) turns) w).walks i ≡ Some a
+      → IsOfWalk k (since_pin [] (log_of w (trace_in (ordered L) turns))) a
+  walk_of i a at = subst (IsOfWalk k (since_pin [] (log_of w (trace_in (ordered L) turns))))
+      (get_or_from_slice_get (search_after idle (log_of w (trace_in (ordered L) turns))).walks i a a there)
+      (arrivals_are_walks (log_of w (trace_in (ordered L) turns)) (record { op = op; key = k })
+      (sym (ap (λ (S : Search). S.call) told) ∙ is_own_call (after_in (ordered L) turns) w op k called)
       i a (slice_get_within (search_after idle (log_of w (trace_in (ordered L) turns))).walks i a there))
     where
       told : own_search (after_in (ordered L) turns) w ≡ search_after idle (log_of w (trace_in (ordered L) turns))
-      told = ap (λ (l : Option (List Search)). search_of (unwrap_or l []) w) called.are ∙ is_known L enough w of_worker turns called.searches called.are
+      told = ap (λ (l : Option (List Search)). search_of (unwrap_or l []) w) called.are
+          ∙ is_known L enough w of_worker turns called.searches called.are
 
       there : slice_get (search_after idle (log_of w (trace_in (ordered L) turns))).walks i ≡ Some a
       there = ap (λ (S : Search). slice_get S.walks i) (sym told) ∙ at
 
   -- it is for a key of the set
   pub of_key : IsKey k
-  of_key = (call_walks (after_in (ordered L) turns).state.layout.radix (after_in (ordered L) turns).state.memory (knows (of (after_in (ordered L) turns).state w)) (search_of o.searches w).call (search_of o.searches w).walks (record { op = op; key = k })
-      (ap (λ (ss : List Search). (search_of ss w).call) (same_Some o.searches called.searches (sym o.are ∙ called.are)) ∙ called.is_call) (o.law.walks w)).0
+  of_key = (call_walks (after_in (ordered L) turns).state.layout.radix (after_in (ordered L) turns).state.memory
+      (knows (of (after_in (ordered L) turns).state w)) (search_of o.searches w).call (search_of o.searches w).walks
+      (record { op = op; key = k })
+      (ap (λ (ss : List Search). (search_of ss w).call)
+      (same_Some o.searches called.searches (sym o.are ∙ called.are)) ∙ called.is_call) (o.law.walks w)).0
 
   -- and it was under the pin at each moment since then
-  pub called_then : (before since : List (ℕ × Event)) → turns ≡ before ++ since → PinStands w (trace_in (after_in (ordered L) before) since) → IsCalled (after_in (ordered L) before) w op k
+  pub called_then : (before since : List (ℕ × Event)) → turns ≡ before ++ since
+      → PinStands w (trace_in (after_in (ordered L) before) since) → IsCalled (after_in (ordered L) before) w op k
   called_then before since is_run stands =
-      record { searches = then.searches; are = then.are; is_call = ap (λ (l : Option (List Search)). (search_of (unwrap_or l []) w).call) (sym then.are) ∙ (sym stayed ∙ is_own_call (after_in (ordered L) turns) w op k called) }
+      record {
+        searches = then.searches;
+        are = then.are;
+        is_call = ap
+            (λ (l : Option (List Search)). (search_of (unwrap_or l []) w).call) (sym then.are)
+            ∙ (sym stayed ∙ is_own_call (after_in (ordered L) turns) w op k called);
+      }
     where
       all : All (λ t. HasKey t.1) (before ++ since)
       all = subst (All (λ t. HasKey t.1)) is_run keys
@@ -85,5 +103,7 @@ module _ (L : Layout) (enough : 5 ≤ L.nodes) (turns : List (ℕ × Event)) (ke
       then = each_ordered L enough before (all_before (λ t. HasKey t.1) before since all)
 
       stayed : (own_search (after_in (ordered L) turns) w).call ≡ (own_search (after_in (ordered L) before) w).call
-      stayed = ap (λ (ts : List (ℕ × Event)). (own_search (after_in (ordered L) ts) w).call) is_run ∙ (ap (λ (c : Configuration). (own_search c w).call) (after_in-append (ordered L) before since)
-          ∙ call_stays L enough w since (all_behind (λ t. HasKey t.1) before since all) (after_in (ordered L) before) then stands)
+      stayed = ap (λ (ts : List (ℕ × Event)). (own_search (after_in (ordered L) ts) w).call) is_run
+          ∙ (ap (λ (c : Configuration). (own_search c w).call) (after_in-append (ordered L) before since)
+          ∙ call_stays L enough w since (all_behind (λ t. HasKey t.1) before since all) (after_in (ordered L) before)
+          then stands)

@@ -22,13 +22,17 @@ abbrev pub StillKnown : Knowledge → Knowledge → Type 0
 StillKnown k l = (x : ℕ) → knows k x ≡ true → knows l x ≡ true
 
 pub still_read : (k : Knowledge) (p : ℕ) (d : Side) (e : Edge) → StillKnown k (read_edge k p d e)
-still_read k p d e x h = has_put_there (met k.known e.slot) p (with_read (seen_of k p) d e) x (inr (has_met_there k.known e.slot x h))
+still_read k p d e x h = has_put_there (met k.known e.slot) p (with_read (seen_of k p) d e) x
+    (inr (has_met_there k.known e.slot x h))
 
 -- a search goes on, or it ends, or a call begins; and it may have looked at a field
 pub data SearchStep (s : Search) (w : ℕ) (k : Knowledge) (e : Event) (r : Reply) : Type 0 where
-  Same : (searched s e r).call ≡ s.call → (searched s e r).walks ≡ s.walks → StillKnown k (learn w k e r) → SearchStep s w k e r
-  Looked : (x : ℕ) (f : Field) → e ≡ Look x f → searched s e r ≡ look_for s s.call x f r → StillKnown k (learn w k e r) → SearchStep s w k e r
-  Begun : (op : Op) (key : ℕ) → e ≡ SightFor op key → (searched s e r).call ≡ Some (record { op = op; key = key }) → (searched s e r).walks ≡ [] → SearchStep s w k e r
+  Same : (searched s e r).call ≡ s.call → (searched s e r).walks ≡ s.walks → StillKnown k (learn w k e r)
+      → SearchStep s w k e r
+  Looked : (x : ℕ) (f : Field) → e ≡ Look x f → searched s e r ≡ look_for s s.call x f r
+      → StillKnown k (learn w k e r) → SearchStep s w k e r
+  Begun : (op : Op) (key : ℕ) → e ≡ SightFor op key → (searched s e r).call ≡ Some (record { op = op; key = key })
+      → (searched s e r).walks ≡ [] → SearchStep s w k e r
   Over : (searched s e r).call ≡ None → SearchStep s w k e r
 
 sight_step : (s : Search) (w : ℕ) (k : Knowledge) (r : Reply) → SearchStep s w k Sight r
@@ -73,7 +77,8 @@ known_still k s _ _ x h = h
 
 look_step : (s : Search) (w : ℕ) (k : Knowledge) (y : ℕ) (f : Field) (r : Reply) → SearchStep s w k (Look y f) r
 unfolding learn searched
-look_step s w k y f r = Looked y f refl refl (cond_both (is_private k y) (look_private k y f r) (look_known k y f r) (StillKnown k) (λ _. private_still k y f r) (λ _. known_still k y f r))
+look_step s w k y f r = Looked y f refl refl (cond_both (is_private k y) (look_private k y f r) (look_known k y f r)
+    (StillKnown k) (λ _. private_still k y f r) (λ _. known_still k y f r))
 
 pub search_step : (s : Search) (w : ℕ) (k : Knowledge) (e : Event) (r : Reply) → SearchStep s w k e r
 unfolding learn searched
@@ -99,5 +104,6 @@ search_step s w k (Splice a d y p keep) (Cut ns) = Same refl refl (λ x h. h)
 search_step s w k (Splice a d y p keep) (Lost e) = Same refl refl (still_read k a d e)
 search_step s w k (Swap p d leaf new) (Cut ns) = Same refl refl (λ x h. has_met_there k.known new x h)
 search_step s w k (Swap p d leaf new) (Lost e) = Same refl refl (still_read k p d e)
-search_step s w k (Join v) (Joined ls) = Same refl refl (cond_both (eqb w v) (resigned k) (inheriting k ls) (StillKnown k) (λ _ x h. h) (λ _ x h. h))
+search_step s w k (Join v) (Joined ls) = Same refl refl
+    (cond_both (eqb w v) (resigned k) (inheriting k ls) (StillKnown k) (λ _ x h. h) (λ _ x h. h))
 search_step s w k e r = Same refl refl (λ x h. h)

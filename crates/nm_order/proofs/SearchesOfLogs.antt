@@ -55,16 +55,20 @@ kept true k ws e is = sym is
 kept false k ws e is = refl
 
 -- an entry that is no look and no flag
-adds_nothing : (s t : Search) (call : Call) (e : Entry) → t.call ≡ Some call → t.walks ≡ s.walks → t.later ≡ s.later → t.flagged ≡ s.flagged → ((ws : List Arrival) → walked_by call.key ws e ≡ ws) → is_won_flag e ≡ false → Adds s t call e
+adds_nothing : (s t : Search) (call : Call) (e : Entry) → t.call ≡ Some call → t.walks ≡ s.walks → t.later ≡ s.later
+    → t.flagged ≡ s.flagged → ((ws : List Arrival) → walked_by call.key ws e ≡ ws) → is_won_flag e ≡ false
+    → Adds s t call e
 adds_nothing s t call e same walks later flagged quiet unflagged = record {
   same = same;
   walks = walks ∙ sym (quiet s.walks);
   later = later ∙ kept (is_some s.flagged) call.key s.later e (quiet s.later);
-  flagged = ap is_some flagged ∙ (or_not (is_some s.flagged) ∙ ap (λ (b : Bool). is_some s.flagged || b) (sym unflagged));
+  flagged = ap is_some flagged ∙ (or_not (is_some s.flagged)
+      ∙ ap (λ (b : Bool). is_some s.flagged || b) (sym unflagged));
 }
 
 -- a look
-adds_look : (s : Search) (call : Call) (slot : ℕ) (f : Field) (r : Reply) (o : Option Call) → s.call ≡ o → o ≡ Some call → Adds s (look_for s o slot f r) call (Look slot f, r)
+adds_look : (s : Search) (call : Call) (slot : ℕ) (f : Field) (r : Reply) (o : Option Call) → s.call ≡ o
+    → o ≡ Some call → Adds s (look_for s o slot f r) call (Look slot f, r)
 adds_look s call slot f r None is some = absurd (none-some call some)
 adds_look s call slot f r (Some c) is some = record {
   same = is ∙ some;
@@ -73,12 +77,14 @@ adds_look s call slot f r (Some c) is some = record {
   flagged = or_not (is_some s.flagged);
 }
   where
-    by : (o : Option NodeId) → later_walked o call.key s.later slot f r ≡ later_by (is_some o) call.key s.later (Look slot f, r)
+    by : (o : Option NodeId) → later_walked o call.key s.later slot f r
+        ≡ later_by (is_some o) call.key s.later (Look slot f, r)
     by None = refl
     by (Some n) = refl
 
 -- any entry under the pin
-pub adds : (s : Search) (call : Call) (e : Event) (r : Reply) → begins_anew (e, r) ≡ false → s.call ≡ Some call → Adds s (searched s e r) call (e, r)
+pub adds : (s : Search) (call : Call) (e : Event) (r : Reply) → begins_anew (e, r) ≡ false → s.call ≡ Some call
+    → Adds s (searched s e r) call (e, r)
 unfolding searched
 adds s call Sight (Pinned n) stands is = absurd (true≢false stands)
 adds s call (SightFor op key) (Pinned n) stands is = absurd (true≢false stands)
@@ -91,8 +97,10 @@ adds s call (Flag p side leaf) (Flagged n) stands is = record {
   later = kept (is_some s.flagged) call.key s.later (Flag p side leaf, Flagged n) refl;
   flagged = or_so (is_some s.flagged);
 }
-adds s call (Link p side leaf new) (Linked n) stands is = adds_nothing s _ call (Link p side leaf new, Linked n) is refl refl refl (λ ws. refl) refl
-adds s call (Splice a side x p keep) (Cut ns) stands is = adds_nothing s _ call (Splice a side x p keep, Cut ns) is refl refl refl (λ ws. refl) refl
+adds s call (Link p side leaf new) (Linked n) stands is = adds_nothing s _ call (Link p side leaf new, Linked n) is
+    refl refl refl (λ ws. refl) refl
+adds s call (Splice a side x p keep) (Cut ns) stands is = adds_nothing s _ call (Splice a side x p keep, Cut ns) is
+    refl refl refl (λ ws. refl) refl
 adds s call (Swap p side leaf new) (Cut ns) stands is =
     adds_nothing s _ call (Swap p side leaf new, Cut ns) is refl refl refl (λ ws. refl) refl
 adds s call e r stands is = adds_nothing s _ call (e, r) is refl refl refl (λ ws. refl) refl
@@ -104,7 +112,13 @@ pub record IsNew (s : Search) : Type 0 where
   pub flagged : s.flagged ≡ None
 
 pub begun_anew : (s : Search) (e : Event) (r : Reply) → begins_anew (e, r) ≡ true → IsNew (searched s e r)
-begun_anew s e r anew = let is = begun_is s e r anew in record { walks = ap (λ (t : Search). t.walks) is; later = ap (λ (t : Search). t.later) is; flagged = ap (λ (t : Search). t.flagged) is }
+begun_anew s e r anew = let is = begun_is s e r anew in
+    record {
+      walks = ap (λ (t : Search). t.walks) is;
+      later = ap (λ (t : Search). t.later) is;
+      flagged = ap
+          (λ (t : Search). t.flagged) is;
+    }
 
 -- ---- the part behind the flag
 
@@ -112,7 +126,8 @@ abbrev pub has_flag : List Entry → Bool
 has_flag es = list_any is_won_flag es
 
 -- it grows with the log once a flag is won
-pub since_flag_more : (es : List Entry) (e : Entry) → since_flag (es ++ e ∷ []) ≡ cond (has_flag es) (since_flag es ++ e ∷ []) []
+pub since_flag_more : (es : List Entry) (e : Entry)
+    → since_flag (es ++ e ∷ []) ≡ cond (has_flag es) (since_flag es ++ e ∷ []) []
 since_flag_more [] e = by (is_won_flag e)
   where
     by : (b : Bool) → cond b [] (since_flag []) ≡ []
@@ -120,7 +135,9 @@ since_flag_more [] e = by (is_won_flag e)
     by false = refl
 since_flag_more (x ∷ es) e = by (is_won_flag x) (since_flag_more es e)
   where
-    by : (b : Bool) → since_flag (es ++ e ∷ []) ≡ cond (has_flag es) (since_flag es ++ e ∷ []) [] → cond b (es ++ e ∷ []) (since_flag (es ++ e ∷ [])) ≡ cond (b || has_flag es) (cond b es (since_flag es) ++ e ∷ []) []
+    by : (b : Bool) → since_flag (es ++ e ∷ []) ≡ cond (has_flag es) (since_flag es ++ e ∷ []) []
+        → cond b (es ++ e ∷ []) (since_flag (es ++ e ∷ []))
+        ≡ cond (b || has_flag es) (cond b es (since_flag es) ++ e ∷ []) []
     by true rest = refl
     by false rest = rest
 
@@ -128,14 +145,16 @@ pub no_flag : (es : List Entry) → has_flag es ≡ false → since_flag es ≡ 
 no_flag [] none = refl
 no_flag (e ∷ es) none = by (is_won_flag e) none (no_flag es)
   where
-    by : (b : Bool) → (b || has_flag es) ≡ false → (has_flag es ≡ false → since_flag es ≡ []) → cond b es (since_flag es) ≡ []
+    by : (b : Bool) → (b || has_flag es) ≡ false → (has_flag es ≡ false → since_flag es ≡ [])
+        → cond b es (since_flag es) ≡ []
     by true none rest = absurd (true≢false none)
     by false none rest = rest none
 
 -- it is a part of the log
 pub part_since_flag : (es : List Entry) → IsPart (since_flag es) es
 part_since_flag [] = nothing
-part_since_flag (e ∷ es) = skips (cond_both (is_won_flag e) es (since_flag es) (λ xs. IsPart xs es) (λ _. part_itself es) (λ _. part_since_flag es))
+part_since_flag (e ∷ es) = skips (cond_both (is_won_flag e) es (since_flag es) (λ xs. IsPart xs es)
+    (λ _. part_itself es) (λ _. part_since_flag es))
 
 -- ---- parts of a log in which no pin is confirmed or left
 
@@ -153,19 +172,25 @@ stays_before (e ∷ es) more stays = (stays.0, stays_before es more stays.1)
 
 pub stays_since_flag : (es : List Entry) → Stays es → Stays (since_flag es)
 stays_since_flag [] stays = tt
-stays_since_flag (e ∷ es) stays = cond_both (is_won_flag e) es (since_flag es) Stays (λ _. stays.1) (λ _. stays_since_flag es stays.1)
+stays_since_flag (e ∷ es) stays = cond_both (is_won_flag e) es (since_flag es) Stays (λ _. stays.1)
+    (λ _. stays_since_flag es stays.1)
 
 pub stays_since_pin : (es so_far : List Entry) → Stays so_far → Stays (since_pin so_far es)
 stays_since_pin [] so_far stays = stays
-stays_since_pin (e ∷ es) so_far stays = stays_since_pin es _ (cond_both (begins_anew e) [] (so_far ++ e ∷ []) Stays (λ _. tt) (λ is. stays_more so_far e stays is))
+stays_since_pin (e ∷ es) so_far stays = stays_since_pin es _
+    (cond_both (begins_anew e) [] (so_far ++ e ∷ []) Stays (λ _. tt) (λ is. stays_more so_far e stays is))
 
 all_since_pin : (es so_far : List Entry) → Stays es → since_pin so_far es ≡ so_far ++ es
 all_since_pin [] so_far stays = sym (append-nil so_far)
-all_since_pin (e ∷ es) so_far stays = ap (λ (xs : List Entry). since_pin xs es) (cond-false (begins_anew e) [] (so_far ++ e ∷ []) stays.0) ∙ (all_since_pin es (so_far ++ e ∷ []) stays.1 ∙ append_assoc so_far (e ∷ []) es)
+all_since_pin (e ∷ es) so_far stays = ap (λ (xs : List Entry). since_pin xs es)
+    (cond-false (begins_anew e) [] (so_far ++ e ∷ []) stays.0)
+    ∙ (all_since_pin es (so_far ++ e ∷ []) stays.1 ∙ append_assoc so_far (e ∷ []) es)
 
-call_stays : (es : List Entry) (s : Search) (call : Call) → Stays es → s.call ≡ Some call → (search_after s es).call ≡ Some call
+call_stays : (es : List Entry) (s : Search) (call : Call) → Stays es → s.call ≡ Some call
+    → (search_after s es).call ≡ Some call
 call_stays [] s call stays is = is
-call_stays (e ∷ es) s call stays is = call_stays es (searched s e.0 e.1) call stays.1 (adds s call e.0 e.1 stays.0 is).same
+call_stays (e ∷ es) s call stays is = call_stays es (searched s e.0 e.1) call stays.1
+    (adds s call e.0 e.1 stays.0 is).same
 
 -- ---- a whole log
 
@@ -179,15 +204,21 @@ pub record Knows (s : Search) (log : List Entry) (call : Call) : Type 0 where
 abbrev KnowsCall : Search → List Entry → Type 0
 KnowsCall s log = (call : Call) → s.call ≡ Some call → Knows s log call
 
-knows_more : (s : Search) (log : List Entry) (e : Entry) → KnowsCall s log → KnowsCall (searched s e.0 e.1) (cond (begins_anew e) [] (log ++ e ∷ []))
+knows_more : (s : Search) (log : List Entry) (e : Entry) → KnowsCall s log
+    → KnowsCall (searched s e.0 e.1) (cond (begins_anew e) [] (log ++ e ∷ []))
 knows_more s log e knows call is = by (begins_anew e) refl
   where
     by : (b : Bool) → begins_anew e ≡ b → Knows (searched s e.0 e.1) (cond b [] (log ++ e ∷ [])) call
-    by true anew = let new = begun_anew s e.0 e.1 anew in record { walks = new.walks; later = new.later; flagged = ap is_some new.flagged }
+    by true anew = let new = begun_anew s e.0 e.1 anew in
+        record { walks = new.walks; later = new.later; flagged = ap is_some new.flagged }
     by false stands = record {
-      walks = a.walks ∙ (ap (λ (ws : List Arrival). walked_by call.key ws e) k.walks ∙ sym (walks_more call.key [] log e));
-      later = a.later ∙ ((λ i. later_by (k.flagged i) call.key (k.later i) e) ∙ (behind (has_flag log) refl ∙ sym (ap (walks_after call.key []) (since_flag_more log e))));
-      flagged = a.flagged ∙ (ap (λ (b : Bool). b || is_won_flag e) k.flagged ∙ (ap (λ (b : Bool). has_flag log || b) (or_not (is_won_flag e)) ∙ sym (list_any-append is_won_flag log (e ∷ []))));
+      walks = a.walks ∙ (ap (λ (ws : List Arrival). walked_by call.key ws e) k.walks
+          ∙ sym (walks_more call.key [] log e));
+      later = a.later ∙ ((λ i. later_by (k.flagged i) call.key (k.later i) e)
+          ∙ (behind (has_flag log) refl ∙ sym (ap (walks_after call.key []) (since_flag_more log e))));
+      flagged = a.flagged ∙ (ap (λ (b : Bool). b || is_won_flag e) k.flagged
+          ∙ (ap (λ (b : Bool). has_flag log || b) (or_not (is_won_flag e))
+          ∙ sym (list_any-append is_won_flag log (e ∷ []))));
     }
       where
         called : s.call ≡ Some call
@@ -199,15 +230,19 @@ knows_more s log e knows call is = by (begins_anew e) refl
         k : Knows s log call
         k = knows call called
 
-        behind : (b : Bool) → has_flag log ≡ b → later_by b call.key (walks_after call.key [] (since_flag log)) e ≡ walks_after call.key [] (cond b (since_flag log ++ e ∷ []) [])
+        behind : (b : Bool) → has_flag log ≡ b → later_by b call.key (walks_after call.key [] (since_flag log)) e
+            ≡ walks_after call.key [] (cond b (since_flag log ++ e ∷ []) [])
         behind true has = sym (walks_more call.key [] (since_flag log) e)
         behind false none = ap (walks_after call.key []) (no_flag log none)
 
-knows_all : (es : List Entry) (s : Search) (log : List Entry) → KnowsCall s log → KnowsCall (search_after s es) (since_pin log es)
+knows_all : (es : List Entry) (s : Search) (log : List Entry) → KnowsCall s log
+    → KnowsCall (search_after s es) (since_pin log es)
 knows_all [] s log knows = knows
-knows_all (e ∷ es) s log knows = knows_all es (searched s e.0 e.1) (cond (begins_anew e) [] (log ++ e ∷ [])) (knows_more s log e knows)
+knows_all (e ∷ es) s log knows = knows_all es (searched s e.0 e.1) (cond (begins_anew e) [] (log ++ e ∷ []))
+    (knows_more s log e knows)
 
-pub knows_log : (es : List Entry) (call : Call) → (search_after idle es).call ≡ Some call → Knows (search_after idle es) (since_pin [] es) call
+pub knows_log : (es : List Entry) (call : Call) → (search_after idle es).call ≡ Some call
+    → Knows (search_after idle es) (since_pin [] es) call
 knows_log es = knows_all es idle [] (λ call is. absurd (none-some call is))
 
 -- each arrival of a part of a log is one of a walk of it
@@ -218,4 +253,6 @@ sound k part stays =
     let log : List Entry = (SightFor Has k, Pinned 0) ∷ part in
     let called = call_stays part (searched idle (SightFor Has k) (Pinned 0)) call stays refl in
     let all : All (IsOfWalk k (since_pin [] log)) (search_after idle log).walks = arrivals_are_walks log call called in
-    subst (λ (ws : List Arrival). All (IsOfWalk k part) ws) ((knows_log log call called).walks ∙ ap (walks_after k []) (all_since_pin part [] stays)) (subst (λ (es : List Entry). All (IsOfWalk k es) (search_after idle log).walks) (all_since_pin part [] stays) all)
+    subst (λ (ws : List Arrival). All (IsOfWalk k part) ws)
+    ((knows_log log call called).walks ∙ ap (walks_after k []) (all_since_pin part [] stays))
+    (subst (λ (es : List Entry). All (IsOfWalk k es) (search_after idle log).walks) (all_since_pin part [] stays) all)

@@ -39,9 +39,12 @@ use Rattle.nm_order.proofs.CutTurns.{CutOrNot, cut_or_not, cut_shows, splice_of,
 use Rattle.nm_order.proofs.CutTurns.CutOrNot.{StaysReached, IsCutNow}
 
 -- an exchange at an unmarked edge is won
-link_won : (s : State) (w p : ℕ) (d : Side) (leaf new : ℕ) → edge s.memory p d ≡ to leaf → reply_of s w (Link p d leaf new) ≡ Linked (node_linked (of s w) new)
+link_won : (s : State) (w p : ℕ) (d : Side) (leaf new : ℕ) → edge s.memory p d ≡ to leaf
+    → reply_of s w (Link p d leaf new) ≡ Linked (node_linked (of s w) new)
 unfolding reply
-link_won s w p d leaf new is = ap (λ (b : Bool). cond b (Linked (node_linked (of s w) new)) (Lost (edge s.memory p d))) (ap (λ (e : Edge). is_to e leaf) is ∙ and_from (leaf == leaf) true (eq-eqb leaf leaf refl) refl)
+link_won s w p d leaf new is = ap (λ (b : Bool). cond b (Linked (node_linked (of s w) new))
+    (Lost (edge s.memory p d))) (ap (λ (e : Edge). is_to e leaf) is
+    ∙ and_from (leaf == leaf) true (eq-eqb leaf leaf refl) refl)
 
 swap_won : (s : State) (w p : ℕ) (d : Side) (leaf new : ℕ) → edge s.memory p d ≡ to leaf
     → reply_of s w (Swap p d leaf new) ≡ Cut (named s.memory leaf ∷ [])
@@ -70,7 +73,8 @@ splice_swaps_none e r h = absurd (true≢false (sym h))
 module _ (s : State) (h : ℕ → ℕ) (law : Lawful s h) (w : ℕ) (e : Event) (ok : Allowed s w e) where
   -- what is reached is not private, so this lasts of it
   pub reached_lasts : (x : ℕ) → Reached s.memory x → lasting (applied s w e).memory x ≡ lasting s.memory x
-  reached_lasts x r = ap (λ (m : Memory). lasting m x) (memory_is s h law w e ok) ∙ lasting_stays s h law w e ok x (λ own. off_root s h law w x own r.path r.ends)
+  reached_lasts x r = ap (λ (m : Memory). lasting m x) (memory_is s h law w e ok)
+      ∙ lasting_stays s h law w e ok x (λ own. off_root s h law w x own r.path r.ends)
 
   -- but for a link or a swap that is won, what is reached then was reached before
   pub was_reached : is_won_link (e, reply_of s w e) ≡ false → is_won_swap e (reply_of s w e) ≡ false → (x : ℕ)
@@ -84,29 +88,47 @@ module _ (s : State) (h : ℕ → ℕ) (law : Lawful s h) (w : ℕ) (e : Event) 
       end = ap (λ (m : Memory). follow (child m) 1 r.path) (sym (memory_is s h law w e ok)) ∙ r.ends
 
       by : TreeChange s h w e (write s.memory (of s w) w e) → Reached s.memory x
-      by (Kept children keys) = record { path = r.path; ends = sym (same_follow (child s.memory) (child (write s.memory (of s w) w e)) children 1 r.path) ∙ end; is_slot = r.is_slot }
-      by (Filled y own apart) = record { path = r.path; ends = sym (apart_follow (child s.memory) (child (write s.memory (of s w) w e)) (key s.memory) (key (write s.memory (of s w) w e)) y apart 1 (off_root s h law w y own) r.path) ∙ end; is_slot = r.is_slot }
-      by (NewLink p d leaf new is unmarked l link exchanged keys) = absurd (true≢false (sym (ap (λ (f : Event). is_won_link (f, reply_of s w f)) is ∙ ap (λ (q : Reply). is_won_link (Link p d leaf new, q)) (link_won s w p d leaf new unmarked)) ∙ plain))
+      by (Kept children keys) = record {
+        path = r.path;
+        ends = sym
+            (same_follow (child s.memory) (child (write s.memory (of s w) w e)) children 1 r.path)
+            ∙ end;
+        is_slot = r.is_slot;
+      }
+      by (Filled y own apart) = record {
+        path = r.path;
+        ends = sym
+            (apart_follow (child s.memory) (child (write s.memory (of s w) w e)) (key s.memory)
+            (key (write s.memory (of s w) w e)) y apart 1 (off_root s h law w y own) r.path) ∙ end;
+        is_slot = r.is_slot;
+      }
+      by (NewLink p d leaf new is unmarked l link exchanged keys) = absurd
+          (true≢false (sym (ap (λ (f : Event). is_won_link (f, reply_of s w f)) is
+          ∙ ap (λ (q : Reply). is_won_link (Link p d leaf new, q)) (link_won s w p d leaf new unmarked)) ∙ plain))
       by (Swapped p d leaf new n is swap exchanged keys) =
           absurd (true≢false (sym (ap (λ (f : Event). is_won_swap f (reply_of s w f)) is
           ∙ ap (λ (q : Reply). is_won_swap (Swap p d leaf new) q) (swap_won s w p d leaf new swap.unmarked))
           ∙ unswapped))
       by (Spliced a d way g some target keys high) = record {
-        path = old_path (child s.memory) (child (write s.memory (of s w) w e)) a d way g (rest_after (child s.memory) a d 1 r.path) r.path;
+        path = old_path (child s.memory) (child (write s.memory (of s w) w e)) a d way g
+            (rest_after (child s.memory) a d 1 r.path) r.path;
         ends = sym (led (child s.memory) (child (write s.memory (of s w) w e)) a d way g r.path) ∙ end;
         is_slot = r.is_slot;
       }
 
-module _ (L : Layout) (enough : 5 ≤ L.nodes) (c : Configuration) (t : ℕ × Event) (has : HasKey t.1) (o : IsOrdered L c) where
+module _ (L : Layout) (enough : 5 ≤ L.nodes) (c : Configuration) (t : ℕ × Event) (has : HasKey t.1)
+    (o : IsOrdered L c) where
   -- what a turn leaves of a reached slot
   pub turn_lasts : (x : ℕ) → Reached c.state.memory x → lasting (next_in c t).state.memory x ≡ lasting c.state.memory x
   unfolding refused_in applied_in
   turn_lasts x r = go (refused_in c t.0 t.1) refl
     where
-      go : (q : Option Refused) → refused_in c t.0 t.1 ≡ q → lasting (next_in c t).state.memory x ≡ lasting c.state.memory x
+      go : (q : Option Refused) → refused_in c t.0 t.1 ≡ q
+          → lasting (next_in c t).state.memory x ≡ lasting c.state.memory x
       go (Some q) why = ap (λ (d : Configuration). lasting d.state.memory x) (refused_next c t q why)
       go None why = ap (λ (d : Configuration). lasting d.state.memory x) (allowed_next c t why)
-          ∙ reached_lasts c.state (law_of_state L enough c o).0 (law_of_state L enough c o).1 t.0 t.1 (allowed c.state t.0 t.1 (neither (refused c.state t.0 t.1) (disorder_in c t.0 t.1) why).0) x r
+          ∙ reached_lasts c.state (law_of_state L enough c o).0 (law_of_state L enough c o).1 t.0 t.1
+          (allowed c.state t.0 t.1 (neither (refused c.state t.0 t.1) (disorder_in c t.0 t.1) why).0) x r
 
   -- but for a link that is won
   abbrev pub WinsNoLink : Type 0
@@ -123,13 +145,15 @@ module _ (L : Layout) (enough : 5 ≤ L.nodes) (c : Configuration) (t : ℕ × E
     where
       go : (q : Option Refused) → refused_in c t.0 t.1 ≡ q → Reached c.state.memory x
       go (Some q) why = subst (λ (d : Configuration). Reached d.state.memory x) (refused_next c t q why) r
-      go None why = was_reached c.state (law_of_state L enough c o).0 (law_of_state L enough c o).1 t.0 t.1 (allowed c.state t.0 t.1 (neither (refused c.state t.0 t.1) (disorder_in c t.0 t.1) why).0)
+      go None why = was_reached c.state (law_of_state L enough c o).0 (law_of_state L enough c o).1 t.0 t.1
+          (allowed c.state t.0 t.1 (neither (refused c.state t.0 t.1) (disorder_in c t.0 t.1) why).0)
           (plain (reply_of c.state t.0 t.1) (allowed_outcome c t why))
           (unswapped (reply_of c.state t.0 t.1) (allowed_outcome c t why)) x
           (subst (λ (d : Configuration). Reached d.state.memory x) (allowed_next c t why) r)
 
   -- a leaf that is reached before and after
-  same_leaf : (x : ℕ) → Reached c.state.memory x → is_leaf (node (next_in c t).state.memory x) ≡ is_leaf (node c.state.memory x)
+  same_leaf : (x : ℕ) → Reached c.state.memory x → is_leaf (node (next_in c t).state.memory x)
+      ≡ is_leaf (node c.state.memory x)
   same_leaf x r = ap (λ (l : Lasting). l.leaf) (turn_lasts x r)
 
   same_key : (x : ℕ) → Reached c.state.memory x → key (next_in c t).state.memory x ≡ key c.state.memory x
@@ -142,7 +166,8 @@ module _ (L : Layout) (enough : 5 ≤ L.nodes) (c : Configuration) (t : ℕ × E
       uncut cut.0 (told ∙ ap (λ (y : Reply). Ok y) cut.1))
 
   -- a turn that wins no link and cuts nothing leaves the set as it is
-  pub set_stays : WinsNoLink → ((ns : List NodeId) → outcome_in c t ≡ Ok (Cut ns) → ⊥) → (k : ℕ) → InSet (next_in c t).state.memory k ↔ InSet c.state.memory k
+  pub set_stays : WinsNoLink → ((ns : List NodeId) → outcome_in c t ≡ Ok (Cut ns) → ⊥) → (k : ℕ)
+      → InSet (next_in c t).state.memory k ↔ InSet c.state.memory k
   set_stays plain uncut k = (
     (λ s. let was = turn_was_reached plain (uncut_swaps_none uncut) s.slot s.reached in
         record {
@@ -152,12 +177,19 @@ module _ (L : Layout) (enough : 5 ≤ L.nodes) (c : Configuration) (t : ℕ × E
               ∙ s.leaf;
           has_key = sym (same_key s.slot was) ∙ s.has_key;
         }),
-    (λ s. record { slot = s.slot; reached = uncut_stays L enough c t o uncut s.slot s.reached; leaf = same_leaf s.slot s.reached ∙ s.leaf; has_key = same_key s.slot s.reached ∙ s.has_key }),
+    (λ s. record {
+      slot = s.slot;
+      reached = uncut_stays L enough c t o uncut s.slot s.reached;
+      leaf = same_leaf
+          s.slot s.reached ∙ s.leaf;
+      has_key = same_key s.slot s.reached ∙ s.has_key;
+    }),
   )
 
   -- a turn that answers a cut wins no link
   pub cut_links_none : (ns : List NodeId) → outcome_in c t ≡ Ok (Cut ns) → WinsNoLink
-  cut_links_none ns is q told = subst (λ (r : Reply). is_won_link (t.1, r) ≡ false) (same_reply (Cut ns) q (sym is ∙ told)) (none t.1)
+  cut_links_none ns is q told = subst (λ (r : Reply). is_won_link (t.1, r) ≡ false)
+      (same_reply (Cut ns) q (sym is ∙ told)) (none t.1)
     where
       none : (e : Event) → is_won_link (e, Cut ns) ≡ false
       none (Link p d leaf new) = refl
@@ -190,14 +222,30 @@ module _ (L : Layout) (enough : 5 ≤ L.nodes) (c : Configuration) (t : ℕ × E
           has_key = sym (same_key s.slot was) ∙ s.has_key
 
           none : IsKeyOf c.state.memory ns k → ⊥
-          none l = (gone k l).gone (subst (Reached (next_in c t).state.memory) (own_keys L enough c o s.slot l.leaf.slot was (gone k l).was leaf l.childless (has_key ∙ sym l.has_key)) s.reached)
+          none l = (gone k l).gone (subst (Reached (next_in c t).state.memory)
+              (own_keys L enough c o s.slot l.leaf.slot was (gone k l).was leaf l.childless (has_key ∙ sym l.has_key))
+              s.reached)
 
       back : (k : ℕ) → InSet c.state.memory k × (IsKeyOf c.state.memory ns k → ⊥) → InSet (next_in c t).state.memory k
       back k b = by (cut_or_not L enough c t has o b.0.slot b.0.reached)
         where
           by : CutOrNot L enough c t b.0.slot → InSet (next_in c t).state.memory k
-          by (StaysReached r) = record { slot = b.0.slot; reached = r; leaf = same_leaf b.0.slot b.0.reached ∙ b.0.leaf; has_key = same_key b.0.slot b.0.reached ∙ b.0.has_key }
-          by (IsCutNow ms is' among gone) = absurd (b.1 (record { leaf = named c.state.memory b.0.slot; among = subst (λ (l : List NodeId). Contains l (named c.state.memory b.0.slot)) (same_cut ms ns (sym is' ∙ is)) among; childless = b.0.leaf; has_key = b.0.has_key }))
+          by (StaysReached r) = record {
+            slot = b.0.slot;
+            reached = r;
+            leaf = same_leaf b.0.slot b.0.reached
+                ∙ b.0.leaf;
+            has_key = same_key b.0.slot b.0.reached ∙ b.0.has_key;
+          }
+          by (IsCutNow ms is' among gone) = absurd (b.1
+              (record {
+                leaf = named c.state.memory b.0.slot;
+                among = subst
+                    (λ (l : List NodeId). Contains l (named c.state.memory b.0.slot)) (same_cut ms ns (sym is' ∙ is))
+                    among;
+                childless = b.0.leaf;
+                has_key = b.0.has_key;
+              }))
             where
               same_cut : (x y : List NodeId) → ◌≡◌ {A = Result Reply Refused} (Ok (Cut x)) (Ok (Cut y)) → x ≡ y
               same_cut x y e = cc

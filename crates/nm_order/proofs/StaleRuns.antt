@@ -66,7 +66,8 @@ nothing_since : (c : Configuration) (past : List (ℕ × Event)) → drop (lengt
 nothing_since c past = let long = length_trace c past in drop_all (length past) (trace_in c past) (omega (arith, long))
 
 module _ (L : Layout) (past : List (ℕ × Event)) (u k : ℕ) where
-  -- at a moment of a run after its first turns `past`, under a pin that stands since, the slot was reached and in the interval,
+  -- at a moment of a run after its first turns `past`, under a pin that stands since, the slot was reached
+  -- and in the interval,
   -- and that lasts of it
   record WasAt (ts : List (ℕ × Event)) (x : ℕ) (n : Lasting) : Type 0 where
     before : List (ℕ × Event)
@@ -101,35 +102,45 @@ module _ (L : Layout) (past : List (ℕ × Event)) (u k : ℕ) where
 
   -- what holds of the walks for k after a run
   abbrev Held : List (ℕ × Event) → Type 0
-  Held ts = HoldsOfWalks (after_in (ordered L) ts).state u k (WasAt ts) (WasIn ts) (NotThen ts) (since_pin [] (log_after ts))
+  Held ts = HoldsOfWalks (after_in (ordered L) ts).state u k (WasAt ts) (WasIn ts) (NotThen ts)
+      (since_pin [] (log_after ts))
 
-  was_longer : (ts : List (ℕ × Event)) (t : ℕ × Event) → list_any begins_anew (entries u (after_in (ordered L) ts) t) ≡ false → (x : ℕ) (n : Lasting) → WasAt ts x n → WasAt (ts ++ t ∷ []) x n
+  was_longer : (ts : List (ℕ × Event)) (t : ℕ × Event)
+      → list_any begins_anew (entries u (after_in (ordered L) ts) t) ≡ false → (x : ℕ) (n : Lasting) → WasAt ts x n
+      → WasAt (ts ++ t ∷ []) x n
   was_longer ts t none x n was = record {
     before = was.before;
     since = was.since ++ t ∷ [];
     is_run = ap (λ (l : List (ℕ × Event)). l ++ t ∷ []) was.is_run ∙ append_assoc was.before was.since (t ∷ []);
     later = was.later;
     pinned = was.pinned;
-    stands = stands_longer u (after_in (ordered L) was.before) (after_in (ordered L) ts) was.since t (sym (after_in-append (ordered L) was.before was.since) ∙ ap (after_in (ordered L)) (sym was.is_run)) was.stands none;
+    stands = stands_longer u (after_in (ordered L) was.before) (after_in (ordered L) ts) was.since t
+        (sym (after_in-append (ordered L) was.before was.since) ∙ ap (after_in (ordered L)) (sym was.is_run))
+        was.stands none;
     reached = was.reached;
     lies = was.lies;
     lasts = was.lasts;
     is_ordered = was.is_ordered;
   }
 
-  in_longer : (ts : List (ℕ × Event)) (t : ℕ × Event) → list_any begins_anew (entries u (after_in (ordered L) ts) t) ≡ false → (x : ℕ) (n : Lasting) → WasIn ts x n → WasIn (ts ++ t ∷ []) x n
+  in_longer : (ts : List (ℕ × Event)) (t : ℕ × Event)
+      → list_any begins_anew (entries u (after_in (ordered L) ts) t) ≡ false → (x : ℕ) (n : Lasting) → WasIn ts x n
+      → WasIn (ts ++ t ∷ []) x n
   in_longer ts t none x n was = record {
     before = was.before;
     since = was.since ++ t ∷ [];
     is_run = ap (λ (l : List (ℕ × Event)). l ++ t ∷ []) was.is_run ∙ append_assoc was.before was.since (t ∷ []);
     later = was.later;
     pinned = was.pinned;
-    stands = stands_longer u (after_in (ordered L) was.before) (after_in (ordered L) ts) was.since t (sym (after_in-append (ordered L) was.before was.since) ∙ ap (after_in (ordered L)) (sym was.is_run)) was.stands none;
+    stands = stands_longer u (after_in (ordered L) was.before) (after_in (ordered L) ts) was.since t
+        (sym (after_in-append (ordered L) was.before was.since) ∙ ap (after_in (ordered L)) (sym was.is_run))
+        was.stands none;
     reached = was.reached;
     lasts = was.lasts;
   }
 
-  not_longer : (ts : List (ℕ × Event)) (t : ℕ × Event) → list_any begins_anew (entries u (after_in (ordered L) ts) t) ≡ false → NotThen ts → NotThen (ts ++ t ∷ [])
+  not_longer : (ts : List (ℕ × Event)) (t : ℕ × Event)
+      → list_any begins_anew (entries u (after_in (ordered L) ts) t) ≡ false → NotThen ts → NotThen (ts ++ t ∷ [])
   not_longer ts t none (was, later) = (
     record {
       before = was.before;
@@ -157,8 +168,10 @@ module _ (L : Layout) (past : List (ℕ × Event)) (u k : ℕ) where
       later = later;
       pinned = subst (λ (c : Configuration). HasPin c u) (sym is) ((law_of_state L enough d o).1.known u x known);
       stands = refl;
-      reached = subst (λ (c : Configuration). Reached c.state.memory (follow (child d.state.memory) 1 q)) (sym is) (record { path = q; ends = refl; is_slot = some });
-      lies = subst (λ (c : Configuration). InInterval c.state.memory k (follow (child d.state.memory) 1 q)) (sym is) (record { path = q; ends = refl; goes = goes });
+      reached = subst (λ (c : Configuration). Reached c.state.memory (follow (child d.state.memory) 1 q)) (sym is)
+          (record { path = q; ends = refl; is_slot = some });
+      lies = subst (λ (c : Configuration). InInterval c.state.memory k (follow (child d.state.memory) 1 q)) (sym is)
+          (record { path = q; ends = refl; goes = goes });
       lasts = ap (λ (c : Configuration). lasting c.state.memory (follow (child d.state.memory) 1 q)) is;
       is_ordered = subst (IsOrdered L) (sym is) o;
     }
@@ -175,16 +188,21 @@ module _ (L : Layout) (past : List (ℕ × Event)) (u k : ℕ) where
       later = later;
       pinned = subst (λ (c : Configuration). HasPin c u) (sym is) ((law_of_state L enough d o).1.known u x known);
       stands = refl;
-      reached = subst (λ (c : Configuration). Reached c.state.memory (follow (child d.state.memory) 1 q)) (sym is) (record { path = q; ends = refl; is_slot = some });
+      reached = subst (λ (c : Configuration). Reached c.state.memory (follow (child d.state.memory) 1 q)) (sym is)
+          (record { path = q; ends = refl; is_slot = some });
       lasts = ap (λ (c : Configuration). lasting c.state.memory (follow (child d.state.memory) 1 q)) is;
     }
 
     -- in a radix tree: where k is not in the range of an internal node to which its search came, no
     -- leaf had it
-    none_then : L.radix ≡ true → k < infinity_1 → (ts : List (ℕ × Event)) (x : ℕ) (n : Lasting) (was : WasAt ts x n) → n.leaf ≡ false → 6 ≤ x → covers n.key k ≡ false → InSet (after_in (ordered L) was.before).state.memory k → ⊥
+    none_then : L.radix ≡ true → k < infinity_1 → (ts : List (ℕ × Event)) (x : ℕ) (n : Lasting) (was : WasAt ts x n)
+        → n.leaf ≡ false → 6 ≤ x → covers n.key k ≡ false → InSet (after_in (ordered L) was.before).state.memory k → ⊥
     none_then radix small ts x n was inner up out s =
-        none_has (child d.state.memory) (key d.state.memory) root k was.lies.path was.lies.goes (rw was.lies.ends was.reached.is_slot) (rw was.lies.ends up) under.0 (rw was.lies.ends under.1)
-        (rw was.lies.ends (ap (λ (t : Lasting). covers t.key k) was.lasts ∙ out)) s.reached.path (rw s.reached.ends s.reached.is_slot) (rw s.reached.ends (null_of s.slot s.leaf)) (ap (key d.state.memory) s.reached.ends ∙ s.has_key)
+        none_has (child d.state.memory) (key d.state.memory) root k was.lies.path was.lies.goes
+        (rw was.lies.ends was.reached.is_slot) (rw was.lies.ends up) under.0 (rw was.lies.ends under.1)
+        (rw was.lies.ends (ap (λ (t : Lasting). covers t.key k) was.lasts ∙ out)) s.reached.path
+        (rw s.reached.ends s.reached.is_slot) (rw s.reached.ends (null_of s.slot s.leaf))
+        (ap (key d.state.memory) s.reached.ends ∙ s.has_key)
       where
         d : Configuration
         d = after_in (ordered L) was.before
@@ -193,22 +211,31 @@ module _ (L : Layout) (past : List (ℕ × Event)) (u k : ℕ) where
         law = law_of_state L enough (after_in (ordered L) was.before) was.is_ordered
 
         shape : (after_in (ordered L) was.before).state.layout.radix ≡ true
-        shape = ap (λ (s : State). s.layout.radix) was.is_ordered.leads ∙ (ap (λ (K : Layout). K.radix) (layout_after L was.is_ordered.events) ∙ radix)
+        shape = ap (λ (s : State). s.layout.radix) was.is_ordered.leads
+            ∙ (ap (λ (K : Layout). K.radix) (layout_after L was.is_ordered.events) ∙ radix)
 
-        root : Rooted (child (after_in (ordered L) was.before).state.memory) (key (after_in (ordered L) was.before).state.memory)
-        root = rooted (after_in (ordered L) was.before).state law.0 law.1 was.is_ordered.law.fixed was.is_ordered.law.order (was.is_ordered.law.nested shape)
+        root : Rooted (child (after_in (ordered L) was.before).state.memory)
+            (key (after_in (ordered L) was.before).state.memory)
+        root = rooted (after_in (ordered L) was.before).state law.0 law.1 was.is_ordered.law.fixed
+            was.is_ordered.law.order (was.is_ordered.law.nested shape)
 
         under : (f : Side) × (child (after_in (ordered L) was.before).state.memory x f ≢ 0)
-        under = has_child L enough (after_in (ordered L) was.before) was.is_ordered x (ap (λ (t : Lasting). t.leaf) was.lasts ∙ inner)
+        under = has_child L enough (after_in (ordered L) was.before) was.is_ordered x
+            (ap (λ (t : Lasting). t.leaf) was.lasts ∙ inner)
 
-        null_of : (y : ℕ) → is_leaf (node (after_in (ordered L) was.before).state.memory y) ≡ true → (f : Side) → child (after_in (ordered L) was.before).state.memory y f ≡ 0
-        null_of y leaf f = by f (and_parts ((node (after_in (ordered L) was.before).state.memory y).left.slot == 0) ((node (after_in (ordered L) was.before).state.memory y).right.slot == 0) leaf)
+        null_of : (y : ℕ) → is_leaf (node (after_in (ordered L) was.before).state.memory y) ≡ true → (f : Side)
+            → child (after_in (ordered L) was.before).state.memory y f ≡ 0
+        null_of y leaf f = by f (and_parts ((node (after_in (ordered L) was.before).state.memory y).left.slot == 0)
+            ((node (after_in (ordered L) was.before).state.memory y).right.slot == 0) leaf)
           where
-            by : (f : Side) → (((node (after_in (ordered L) was.before).state.memory y).left.slot == 0) ≡ true) × (((node (after_in (ordered L) was.before).state.memory y).right.slot == 0) ≡ true) → child (after_in (ordered L) was.before).state.memory y f ≡ 0
+            by : (f : Side) → (((node (after_in (ordered L) was.before).state.memory y).left.slot == 0) ≡ true)
+                × (((node (after_in (ordered L) was.before).state.memory y).right.slot == 0) ≡ true)
+                → child (after_in (ordered L) was.before).state.memory y f ≡ 0
             by Left both = eqb-true (node (after_in (ordered L) was.before).state.memory y).left.slot 0 both.0
             by Right both = eqb-true (node (after_in (ordered L) was.before).state.memory y).right.slot 0 both.1
 
-    out_of_range : L.radix ≡ true → k < infinity_1 → (ts : List (ℕ × Event)) (x : ℕ) (n : Lasting) → WasAt ts x n → n.leaf ≡ false → 6 ≤ x → covers n.key k ≡ false → NotThen ts
+    out_of_range : L.radix ≡ true → k < infinity_1 → (ts : List (ℕ × Event)) (x : ℕ) (n : Lasting) → WasAt ts x n
+        → n.leaf ≡ false → 6 ≤ x → covers n.key k ≡ false → NotThen ts
     out_of_range radix small ts x n was inner up out = (
       record {
         before = was.before;
@@ -240,14 +267,17 @@ module _ (L : Layout) (past : List (ℕ × Event)) (u k : ℕ) where
       one_more = one_turn_more u (ordered L) (length past) ts t first
 
       -- the log is as it was
-      quiet_log : entries u (after_in (ordered L) ts) t ≡ [] → since_pin [] (log_after (ts ++ t ∷ [])) ≡ since_pin [] (log_after ts)
+      quiet_log : entries u (after_in (ordered L) ts) t ≡ []
+          → since_pin [] (log_after (ts ++ t ∷ [])) ≡ since_pin [] (log_after ts)
       quiet_log none = ap (since_pin []) (one_more
           ∙ (ap (λ (es : List Entry). log_after ts ++ (es ++ [])) none ∙ append-nil (log_after ts)))
 
-      quiet : (x : ℕ) (n : Lasting) → entries u (after_in (ordered L) ts) t ≡ [] → WasAt ts x n → WasAt (ts ++ t ∷ []) x n
+      quiet : (x : ℕ) (n : Lasting) → entries u (after_in (ordered L) ts) t ≡ [] → WasAt ts x n
+          → WasAt (ts ++ t ∷ []) x n
       quiet x n none was = was_longer ts t (ap (list_any begins_anew) none) x n was
 
-      quiet_in : (x : ℕ) (n : Lasting) → entries u (after_in (ordered L) ts) t ≡ [] → WasIn ts x n → WasIn (ts ++ t ∷ []) x n
+      quiet_in : (x : ℕ) (n : Lasting) → entries u (after_in (ordered L) ts) t ≡ [] → WasIn ts x n
+          → WasIn (ts ++ t ∷ []) x n
       quiet_in x n none was = in_longer ts t (ap (list_any begins_anew) none) x n was
 
       quiet_not : entries u (after_in (ordered L) ts) t ≡ [] → NotThen ts → NotThen (ts ++ t ∷ [])
@@ -258,14 +288,20 @@ module _ (L : Layout) (past : List (ℕ × Event)) (u k : ℕ) where
       at_refused r why =
           let none : entries u (after_in (ordered L) ts) t ≡ [] = refused_entries u c t r (refused_outcome c t r why) in
           let same : after_in (ordered L) (ts ++ t ∷ []) ≡ after_in (ordered L) ts = next_is ∙ refused_next c t r why in
-          subst (λ (d : Configuration). HoldsOfWalks d.state u k (WasAt (ts ++ t ∷ [])) (WasIn (ts ++ t ∷ [])) (NotThen (ts ++ t ∷ [])) (since_pin [] (log_after (ts ++ t ∷ [])))) (sym same)
-          (subst (HoldsOfWalks (after_in (ordered L) ts).state u k (WasAt (ts ++ t ∷ [])) (WasIn (ts ++ t ∷ [])) (NotThen (ts ++ t ∷ []))) (sym (quiet_log none))
-          (weaker (after_in (ordered L) ts).state u k (WasAt ts) (WasAt (ts ++ t ∷ [])) (WasIn ts) (WasIn (ts ++ t ∷ [])) (NotThen ts) (NotThen (ts ++ t ∷ [])) (λ x n. quiet x n none) (λ x n. quiet_in x n none) (quiet_not none) (since_pin [] (log_after ts)) held))
+          subst (λ (d : Configuration). HoldsOfWalks d.state u k (WasAt (ts ++ t ∷ [])) (WasIn (ts ++ t ∷ []))
+          (NotThen (ts ++ t ∷ [])) (since_pin [] (log_after (ts ++ t ∷ [])))) (sym same)
+          (subst (HoldsOfWalks (after_in (ordered L) ts).state u k (WasAt (ts ++ t ∷ [])) (WasIn (ts ++ t ∷ []))
+          (NotThen (ts ++ t ∷ []))) (sym (quiet_log none))
+          (weaker (after_in (ordered L) ts).state u k (WasAt ts) (WasAt (ts ++ t ∷ [])) (WasIn ts)
+          (WasIn (ts ++ t ∷ [])) (NotThen ts) (NotThen (ts ++ t ∷ [])) (λ x n. quiet x n none)
+          (λ x n. quiet_in x n none) (quiet_not none) (since_pin [] (log_after ts)) held))
 
       -- the turn is allowed
       at_allowed : refused_in (after_in (ordered L) ts) t.0 t.1 ≡ None → Held (ts ++ t ∷ [])
       unfolding applied_in refused_in
-      at_allowed why = subst (λ (d : Configuration). HoldsOfWalks d.state u k (WasAt (ts ++ t ∷ [])) (WasIn (ts ++ t ∷ [])) (NotThen (ts ++ t ∷ [])) (since_pin [] (log_after (ts ++ t ∷ [])))) (sym same) (by (t.0 == u) refl)
+      at_allowed why = subst (λ (d : Configuration). HoldsOfWalks d.state u k (WasAt (ts ++ t ∷ []))
+          (WasIn (ts ++ t ∷ [])) (NotThen (ts ++ t ∷ [])) (since_pin [] (log_after (ts ++ t ∷ [])))) (sym same)
+          (by (t.0 == u) refl)
         where
           same : after_in (ordered L) (ts ++ t ∷ []) ≡ applied_in (after_in (ordered L) ts) t.0 t.1
           same = next_is ∙ allowed_next c t why
@@ -273,13 +309,15 @@ module _ (L : Layout) (past : List (ℕ × Event)) (u k : ℕ) where
           then : IsOrdered L (applied_in (after_in (ordered L) ts) t.0 t.1)
           then = subst (IsOrdered L) (allowed_next c t why) (ordered_next L enough c t has o)
 
-          parts : (refused (after_in (ordered L) ts).state t.0 t.1 ≡ None) × (disorder_in (after_in (ordered L) ts) t.0 t.1 ≡ None)
+          parts : (refused (after_in (ordered L) ts).state t.0 t.1 ≡ None)
+              × (disorder_in (after_in (ordered L) ts) t.0 t.1 ≡ None)
           parts = neither (refused c.state t.0 t.1) (disorder_in c t.0 t.1) why
 
           ok : Allowed (after_in (ordered L) ts).state t.0 t.1
           ok = allowed c.state t.0 t.1 parts.0
 
-          in_order : disorder (after_in (ordered L) ts).state.layout (of (after_in (ordered L) ts).state t.0) (search_of o.searches t.0) t.1 ≡ None
+          in_order : disorder (after_in (ordered L) ts).state.layout (of (after_in (ordered L) ts).state t.0)
+              (search_of o.searches t.0) t.1 ≡ None
           in_order = ap (λ ss. disorder_among c.state.layout ss (of c.state t.0) t.0 t.1) (sym o.are) ∙ parts.1
 
           h : ℕ → ℕ
@@ -298,46 +336,78 @@ module _ (L : Layout) (past : List (ℕ × Event)) (u k : ℕ) where
           after = (law_of_state L enough (applied_in (after_in (ordered L) ts) t.0 t.1) then).1
 
           now : (x : ℕ) → knows (of (applied (after_in (ordered L) ts).state t.0 t.1) u) x ≡ true
-              → EachNow (child (applied (after_in (ordered L) ts).state t.0 t.1).memory) (key (applied (after_in (ordered L) ts).state t.0 t.1).memory) (lasting (applied (after_in (ordered L) ts).state t.0 t.1).memory) k (WasAt (ts ++ t ∷ []))
+              → EachNow (child (applied (after_in (ordered L) ts).state t.0 t.1).memory)
+              (key (applied (after_in (ordered L) ts).state t.0 t.1).memory)
+              (lasting (applied (after_in (ordered L) ts).state t.0 t.1).memory) k (WasAt (ts ++ t ∷ []))
           now = so_now (ts ++ t ∷ []) later (applied_in c t.0 t.1) same then
 
-          below : (x : ℕ) → knows (of (applied (after_in (ordered L) ts).state t.0 t.1) u) x ≡ true → EachBelow (child (applied (after_in (ordered L) ts).state t.0 t.1).memory) (lasting (applied (after_in (ordered L) ts).state t.0 t.1).memory) (WasIn (ts ++ t ∷ [])) 1
+          below : (x : ℕ) → knows (of (applied (after_in (ordered L) ts).state t.0 t.1) u) x ≡ true
+              → EachBelow (child (applied (after_in (ordered L) ts).state t.0 t.1).memory)
+              (lasting (applied (after_in (ordered L) ts).state t.0 t.1).memory) (WasIn (ts ++ t ∷ [])) 1
           below = in_now (ts ++ t ∷ []) later (applied_in c t.0 t.1) same then
 
           shaped : (applied (after_in (ordered L) ts).state t.0 t.1).layout.radix ≡ true → L.radix ≡ true
-          shaped radix = sym (ap (λ (s : State). s.layout.radix) then.leads ∙ ap (λ (K : Layout). K.radix) (layout_after L then.events)) ∙ radix
+          shaped radix = sym (ap (λ (s : State). s.layout.radix) then.leads
+              ∙ ap (λ (K : Layout). K.radix) (layout_after L then.events)) ∙ radix
 
           r : Reply
           r = reply_of (after_in (ordered L) ts).state t.0 t.1
 
           told : (b : Bool) → (t.0 == u) ≡ b → entries u (after_in (ordered L) ts) t ≡ cond b (e ∷ []) []
-          told b is = allowed_entries u c t (reply_of c.state t.0 t.1) (allowed_outcome c t why) ∙ ap (λ (b : Bool). cond b ((t.1, reply_of c.state t.0 t.1) ∷ []) []) is
+          told b is = allowed_entries u c t (reply_of c.state t.0 t.1) (allowed_outcome c t why)
+              ∙ ap (λ (b : Bool). cond b ((t.1, reply_of c.state t.0 t.1) ∷ []) []) is
 
           -- by another worker
-          by_other : u ≢ t.0 → entries u (after_in (ordered L) ts) t ≡ [] → HoldsOfWalks (applied (after_in (ordered L) ts).state t.0 t.1) u k (WasAt (ts ++ t ∷ [])) (WasIn (ts ++ t ∷ [])) (NotThen (ts ++ t ∷ [])) (since_pin [] (log_after (ts ++ t ∷ [])))
-          by_other ne none = subst (HoldsOfWalks (applied c.state t.0 t.1) u k (WasAt (ts ++ t ∷ [])) (WasIn (ts ++ t ∷ [])) (NotThen (ts ++ t ∷ []))) (sym (quiet_log none))
-              (walks_outlast c.state h law t.0 births o.searches o.law t.1 ok in_order u k (others_stay c.state h law t.0 t.1 ok u ne) (WasAt ts) (WasAt (ts ++ t ∷ [])) (WasIn ts) (WasIn (ts ++ t ∷ [])) (NotThen ts) (NotThen (ts ++ t ∷ [])) (λ x n. quiet x n none) (λ x n. quiet_in x n none) (quiet_not none) now below (since_pin [] (log_after ts)) held)
+          by_other : u ≢ t.0 → entries u (after_in (ordered L) ts) t ≡ []
+              → HoldsOfWalks (applied (after_in (ordered L) ts).state t.0 t.1) u k (WasAt (ts ++ t ∷ []))
+              (WasIn (ts ++ t ∷ [])) (NotThen (ts ++ t ∷ [])) (since_pin [] (log_after (ts ++ t ∷ [])))
+          by_other ne none = subst (HoldsOfWalks (applied c.state t.0 t.1) u k (WasAt (ts ++ t ∷ []))
+              (WasIn (ts ++ t ∷ [])) (NotThen (ts ++ t ∷ []))) (sym (quiet_log none))
+              (walks_outlast c.state h law t.0 births o.searches o.law t.1 ok in_order u k
+              (others_stay c.state h law t.0 t.1 ok u ne) (WasAt ts) (WasAt (ts ++ t ∷ [])) (WasIn ts)
+              (WasIn (ts ++ t ∷ [])) (NotThen ts) (NotThen (ts ++ t ∷ [])) (λ x n. quiet x n none)
+              (λ x n. quiet_in x n none) (quiet_not none) now below (since_pin [] (log_after ts)) held)
 
           -- by the worker itself
-          by_itself : u ≡ t.0 → entries u (after_in (ordered L) ts) t ≡ e ∷ [] → (b : Bool) → begins_anew e ≡ b → HoldsOfWalks (applied (after_in (ordered L) ts).state t.0 t.1) u k (WasAt (ts ++ t ∷ [])) (WasIn (ts ++ t ∷ [])) (NotThen (ts ++ t ∷ [])) (cond b [] (since_pin [] (log_after ts) ++ e ∷ []))
-          by_itself own one true anew = of_no_walks (applied c.state t.0 t.1) u k (WasAt (ts ++ t ∷ [])) (WasIn (ts ++ t ∷ [])) (NotThen (ts ++ t ∷ []))
+          by_itself : u ≡ t.0 → entries u (after_in (ordered L) ts) t ≡ e ∷ [] → (b : Bool) → begins_anew e ≡ b
+              → HoldsOfWalks (applied (after_in (ordered L) ts).state t.0 t.1) u k (WasAt (ts ++ t ∷ []))
+              (WasIn (ts ++ t ∷ [])) (NotThen (ts ++ t ∷ [])) (cond b [] (since_pin [] (log_after ts) ++ e ∷ []))
+          by_itself own one true anew = of_no_walks (applied c.state t.0 t.1) u k (WasAt (ts ++ t ∷ []))
+              (WasIn (ts ++ t ∷ [])) (NotThen (ts ++ t ∷ []))
           by_itself own one false stands =
-              subst (λ (v : ℕ). HoldsOfWalks (applied c.state t.0 t.1) v k (WasAt (ts ++ t ∷ [])) (WasIn (ts ++ t ∷ [])) (NotThen (ts ++ t ∷ [])) (since_pin [] (log_after ts) ++ e ∷ [])) (sym own)
-              (own_walks c.state h law t.0 births o.searches o.law t.1 ok in_order g after then.law.fixed then.law.order then.law.nested k
-              (subst (Stays c.state.memory (of c.state t.0)) (sym (own_knows c.state h law t.0 t.1 ok)) (learned_stays c.state.memory (of c.state t.0) t.0 t.1 r (answers c.state h law t.0 t.1 ok) stands))
-              (WasAt ts) (WasAt (ts ++ t ∷ [])) (WasIn ts) (WasIn (ts ++ t ∷ [])) (NotThen ts) (NotThen (ts ++ t ∷ [])) (λ x n. was_longer ts t (ap (list_any begins_anew) one ∙ ap (λ (b : Bool). b || false) stands) x n)
+              subst (λ (v : ℕ). HoldsOfWalks (applied c.state t.0 t.1) v k (WasAt (ts ++ t ∷ []))
+              (WasIn (ts ++ t ∷ [])) (NotThen (ts ++ t ∷ [])) (since_pin [] (log_after ts) ++ e ∷ [])) (sym own)
+              (own_walks c.state h law t.0 births o.searches o.law t.1 ok in_order g after then.law.fixed
+              then.law.order then.law.nested k
+              (subst (Stays c.state.memory (of c.state t.0)) (sym (own_knows c.state h law t.0 t.1 ok))
+              (learned_stays c.state.memory (of c.state t.0) t.0 t.1 r (answers c.state h law t.0 t.1 ok) stands))
+              (WasAt ts) (WasAt (ts ++ t ∷ [])) (WasIn ts) (WasIn (ts ++ t ∷ [])) (NotThen ts)
+              (NotThen (ts ++ t ∷ [])) (λ x n. was_longer ts t
+              (ap (list_any begins_anew) one ∙ ap (λ (b : Bool). b || false) stands) x n)
               (λ x n. in_longer ts t (ap (list_any begins_anew) one ∙ ap (λ (b : Bool). b || false) stands) x n)
-              (not_longer ts t (ap (list_any begins_anew) one ∙ ap (λ (b : Bool). b || false) stands)) (λ radix small. out_of_range (shaped radix) small (ts ++ t ∷ []))
-              (subst (λ (v : ℕ). (x : ℕ) → knows (of (applied c.state t.0 t.1) v) x ≡ true → EachNow (child (applied c.state t.0 t.1).memory) (key (applied c.state t.0 t.1).memory) (lasting (applied c.state t.0 t.1).memory) k (WasAt (ts ++ t ∷ []))) own now)
-              (subst (λ (v : ℕ). (x : ℕ) → knows (of (applied c.state t.0 t.1) v) x ≡ true → EachBelow (child (applied c.state t.0 t.1).memory) (lasting (applied c.state t.0 t.1).memory) (WasIn (ts ++ t ∷ [])) 1) own below)
-              (since_pin [] (log_after ts)) (subst (λ (v : ℕ). HoldsOfWalks c.state v k (WasAt ts) (WasIn ts) (NotThen ts) (since_pin [] (log_after ts))) own held))
+              (not_longer ts t (ap (list_any begins_anew) one ∙ ap (λ (b : Bool). b || false) stands))
+              (λ radix small. out_of_range (shaped radix) small (ts ++ t ∷ []))
+              (subst (λ (v : ℕ). (x : ℕ) → knows (of (applied c.state t.0 t.1) v) x ≡ true
+              → EachNow (child (applied c.state t.0 t.1).memory) (key (applied c.state t.0 t.1).memory)
+              (lasting (applied c.state t.0 t.1).memory) k (WasAt (ts ++ t ∷ []))) own now)
+              (subst (λ (v : ℕ). (x : ℕ) → knows (of (applied c.state t.0 t.1) v) x ≡ true
+              → EachBelow (child (applied c.state t.0 t.1).memory) (lasting (applied c.state t.0 t.1).memory)
+              (WasIn (ts ++ t ∷ [])) 1) own below)
+              (since_pin [] (log_after ts)) (subst (λ (v : ℕ). HoldsOfWalks c.state v k (WasAt ts) (WasIn ts)
+              (NotThen ts) (since_pin [] (log_after ts))) own held))
 
-          own_log : entries u (after_in (ordered L) ts) t ≡ e ∷ [] → since_pin [] (log_after (ts ++ t ∷ [])) ≡ cond (begins_anew e) [] (since_pin [] (log_after ts) ++ e ∷ [])
+          own_log : entries u (after_in (ordered L) ts) t ≡ e ∷ []
+              → since_pin [] (log_after (ts ++ t ∷ [])) ≡ cond (begins_anew e) []
+              (since_pin [] (log_after ts) ++ e ∷ [])
           own_log one = ap (since_pin []) (one_more ∙ ap (λ (es : List Entry). log_after ts ++ (es ++ [])) one)
               ∙ since_pin-append [] (log_after ts) (e ∷ [])
 
-          by : (b : Bool) → (t.0 == u) ≡ b → HoldsOfWalks (applied (after_in (ordered L) ts).state t.0 t.1) u k (WasAt (ts ++ t ∷ [])) (WasIn (ts ++ t ∷ [])) (NotThen (ts ++ t ∷ [])) (since_pin [] (log_after (ts ++ t ∷ [])))
-          by true here = subst (HoldsOfWalks (applied c.state t.0 t.1) u k (WasAt (ts ++ t ∷ [])) (WasIn (ts ++ t ∷ [])) (NotThen (ts ++ t ∷ []))) (sym (own_log (told true here))) (by_itself (sym (eqb-true t.0 u here)) (told true here) (begins_anew e) refl)
+          by : (b : Bool) → (t.0 == u) ≡ b → HoldsOfWalks (applied (after_in (ordered L) ts).state t.0 t.1) u k
+              (WasAt (ts ++ t ∷ [])) (WasIn (ts ++ t ∷ [])) (NotThen (ts ++ t ∷ []))
+              (since_pin [] (log_after (ts ++ t ∷ [])))
+          by true here = subst (HoldsOfWalks (applied c.state t.0 t.1) u k (WasAt (ts ++ t ∷ []))
+              (WasIn (ts ++ t ∷ [])) (NotThen (ts ++ t ∷ []))) (sym (own_log (told true here)))
+              (by_itself (sym (eqb-true t.0 u here)) (told true here) (begins_anew e) refl)
           by false other = by_other (λ z. eqb-false t.0 u other (sym z)) (told false other)
 
       held_longer : Held (ts ++ t ∷ [])
@@ -378,8 +448,10 @@ held_after L u k enough turns keys = held_since L [] u k enough turns keys
 -- ---- the laws
 
 -- the layout stays
-pub layout_is : (L : Layout) → 5 ≤ L.nodes → (turns : List (ℕ × Event)) → All (λ t. HasKey t.1) turns → (after_in (ordered L) turns).state.layout ≡ L
-layout_is L enough turns keys = let o = each_ordered L enough turns keys in ap (λ (s : State). s.layout) o.leads ∙ layout_after L o.events
+pub layout_is : (L : Layout) → 5 ≤ L.nodes → (turns : List (ℕ × Event)) → All (λ t. HasKey t.1) turns
+    → (after_in (ordered L) turns).state.layout ≡ L
+layout_is L enough turns keys = let o = each_ordered L enough turns keys in
+    ap (λ (s : State). s.layout) o.leads ∙ layout_after L o.events
 
 -- a slot of which a worker knows is not null
 never_null : (L : Layout) → 5 ≤ L.nodes → (turns : List (ℕ × Event)) → All (λ t. HasKey t.1) turns → (u slot : ℕ)
@@ -468,19 +540,23 @@ radix_walk L enough past more keys radix u k slot parent side small walk =
 
 -- no walk of a radix tree is long
 pub any_walk_is_short : OfEachOrderedRun AnyWalkIsShort
-any_walk_is_short L enough turns keys radix u k slot parent side small walk = ((held_after L u k enough turns keys).short (ap (λ (K : Layout). K.radix) (layout_is L enough turns keys) ∙ radix) small slot parent side walk).most
+any_walk_is_short L enough turns keys radix u k slot parent side small walk =
+    ((held_after L u k enough turns keys).short (ap (λ (K : Layout). K.radix) (layout_is L enough turns keys)
+    ∙ radix) small slot parent side walk).most
 
 -- and each goes on from routers alone
 pub any_walk_passes_routers : OfEachOrderedRun AnyWalkPassesRouters
 any_walk_passes_routers L enough turns keys radix u k slot parent side v small walk =
-    let passes = (held_after L u k enough turns keys).passes (ap (λ (K : Layout). K.radix) (layout_is L enough turns keys) ∙ radix) small slot parent side v walk in
+    let passes = (held_after L u k enough turns keys).passes
+    (ap (λ (K : Layout). K.radix) (layout_is L enough turns keys) ∙ radix) small slot parent side v walk in
     (passes.0, passes.1)
 
 -- ---- the laws of a radix tree
 
 -- in either shape, a slot to which a walk came was reached since the pin
 pub any_walk_was_in_tree : OfEachOrderedRun AnyWalkWasInTree
-any_walk_was_in_tree L enough turns keys u k slot parent side walk = in_since ((held_after L u k enough turns keys).comes slot parent side walk)
+any_walk_was_in_tree L enough turns keys u k slot parent side walk = in_since
+    ((held_after L u k enough turns keys).comes slot parent side walk)
   where
     in_since : IsOnWay (after_in (ordered L) turns).state u k (WasAt L [] u k turns) (WasIn L [] u k turns)
         (NotThen L [] u k turns) slot → WasInTreeSince (ordered L) turns u slot
@@ -502,27 +578,31 @@ any_walk_was_in_tree L enough turns keys u k slot parent side walk = in_since ((
         was : WasIn L [] u k turns slot (lasting (after_in (ordered L) turns).state.memory slot)
         was = way.below [] some
 
-module _ (L : Layout) (enough : 5 ≤ L.nodes) (turns : List (ℕ × Event)) (keys : All (λ t. HasKey t.1) turns) (radix : L.radix ≡ true) (u k : ℕ) (small : k < infinity_1) where
+module _ (L : Layout) (enough : 5 ≤ L.nodes) (turns : List (ℕ × Event)) (keys : All (λ t. HasKey t.1) turns)
+    (radix : L.radix ≡ true) (u k : ℕ) (small : k < infinity_1) where
   shape : (after_in (ordered L) turns).state.layout.radix ≡ true
   shape = ap (λ (K : Layout). K.radix) (layout_is L enough turns keys) ∙ radix
 
   -- by nodes in whose range the key is, its search came there
   in_range : (slot parent : ℕ) (side : Side) (walk : WalkComes k (log_under_pin L turns u) slot parent side)
       → InRanges k walk.looks → WasAt L [] u k turns slot (lasting (after_in (ordered L) turns).state.memory slot)
-  in_range slot parent side walk has = (held_after L u k enough turns keys).ranges shape small slot parent side walk has [] tt tt some
+  in_range slot parent side walk has = (held_after L u k enough turns keys).ranges shape small slot parent side walk
+      has [] tt tt some
     where
       some : slot ≢ 0
       some = never_null L enough turns keys u slot
           ((held_after L u k enough turns keys).comes slot parent side walk).known
 
 pub any_walk_in_range : OfEachOrderedRun AnyWalkInRangeWasReached
-any_walk_in_range L enough turns keys radix u k slot parent side small walk has = reached_since L u k turns slot (in_range L enough turns keys radix u k small slot parent side walk has)
+any_walk_in_range L enough turns keys radix u k slot parent side small walk has = reached_since L u k turns slot
+    (in_range L enough turns keys radix u k small slot parent side walk has)
 
 -- where its search came to an internal node without the key in its range, no leaf had the key
 was_right : (L : Layout) (u k : ℕ) → 5 ≤ L.nodes → L.radix ≡ true → k < infinity_1
     → (turns : List (ℕ × Event)) (slot : ℕ)
     → WasAt L [] u k turns slot (lasting (after_in (ordered L) turns).state.memory slot)
-    → is_leaf (node (after_in (ordered L) turns).state.memory slot) ≡ false → 6 ≤ slot → covers (key (after_in (ordered L) turns).state.memory slot) k ≡ false
+    → is_leaf (node (after_in (ordered L) turns).state.memory slot) ≡ false → 6 ≤ slot
+    → covers (key (after_in (ordered L) turns).state.memory slot) k ≡ false
     → (was : WasReachedSince (ordered L) turns u k slot) × (InSet (after_in (ordered L) was.before).state.memory k → ⊥)
 was_right L u k enough radix small turns slot was inner up out = (
   reached_since L u k turns slot was,
@@ -531,19 +611,27 @@ was_right L u k enough radix small turns slot was inner up out = (
 )
 
 -- as a walk has come there by nodes in whose range the key is, and went on
-right_there : (L : Layout) (u k : ℕ) → 5 ≤ L.nodes → (turns : List (ℕ × Event)) (slot parent : ℕ) (side : Side) (v : ℕ) → L.radix ≡ true → k < infinity_1 → (after_in (ordered L) turns).state.layout.radix ≡ true
+right_there : (L : Layout) (u k : ℕ) → 5 ≤ L.nodes
+    → (turns : List (ℕ × Event)) (slot parent : ℕ) (side : Side) (v : ℕ) → L.radix ≡ true → k < infinity_1
+    → (after_in (ordered L) turns).state.layout.radix ≡ true
     → HoldsOfWalks (after_in (ordered L) turns).state u k (WasAt L [] u k turns) (WasIn L [] u k turns)
     (NotThen L [] u k turns) (log_under_pin L turns u)
     → (walk : WalkPasses k (log_under_pin L turns u) slot parent side v) → slot ≢ 0
-    → InRanges k walk.looks → covers v k ≡ false → (was : WasReachedSince (ordered L) turns u k slot) × (InSet (after_in (ordered L) was.before).state.memory k → ⊥)
+    → InRanges k walk.looks → covers v k ≡ false → (was : WasReachedSince (ordered L) turns u k slot)
+    × (InSet (after_in (ordered L) was.before).state.memory k → ⊥)
 right_there L u k enough turns slot parent side v radix small shape held walk some has out =
     let at = held.passes shape small slot parent side v walk in
-    let is : key (after_in (ordered L) turns).state.memory slot ≡ v = held.reads slot parent side v (read_there k (log_under_pin L turns u) slot parent side v walk) in
-    was_right L u k enough radix small turns slot (held.ranges shape small slot parent side (passed k (log_under_pin L turns u) slot parent side v walk) has [] tt tt some) at.2 at.0 (ap (λ (n : ℕ). covers n k) is ∙ out)
+    let is : key (after_in (ordered L) turns).state.memory slot
+    ≡ v = held.reads slot parent side v (read_there k (log_under_pin L turns u) slot parent side v walk) in
+    was_right L u k enough radix small turns slot (held.ranges shape small slot parent side
+    (passed k (log_under_pin L turns u) slot parent side v walk) has [] tt tt some) at.2 at.0
+    (ap (λ (n : ℕ). covers n k) is ∙ out)
 
 pub any_walk_out_of_range : OfEachOrderedRun AnyWalkOutOfRangeWasRight
 any_walk_out_of_range L enough turns keys radix u k slot parent side v small walk has out =
-    right_there L u k enough turns slot parent side v radix small (ap (λ (K : Layout). K.radix) (layout_is L enough turns keys) ∙ radix) (held_after L u k enough turns keys) walk some has out
+    right_there L u k enough turns slot parent side v radix small
+    (ap (λ (K : Layout). K.radix) (layout_is L enough turns keys) ∙ radix) (held_after L u k enough turns keys)
+    walk some has out
   where
     some : slot ≢ 0
     some = never_null L enough turns keys u slot
@@ -551,14 +639,20 @@ any_walk_out_of_range L enough turns keys radix u k slot parent side v small wal
         (passed k (log_under_pin L turns u) slot parent side v walk)).known
 
 -- where a walk for a key comes behind a node without the key in its range, the slot does not stand for it
-pub any_walk_apart : (L : Layout) → 5 ≤ L.nodes → (turns : List (ℕ × Event)) → All (λ t. HasKey t.1) turns → L.radix ≡ true → (u k slot parent : ℕ) (side : Side) → k < infinity_1
-    → (walk : WalkComes k (log_under_pin L turns u) slot parent side) → (x n : ℕ) → Contains walk.looks (Look x Key, KeyIs n) → covers n k ≡ false
-    → StandsFor (child (after_in (ordered L) turns).state.memory) (key (after_in (ordered L) turns).state.memory) slot k → ⊥
-any_walk_apart L enough turns keys radix u k slot parent side small walk = (held_after L u k enough turns keys).apart (shape L enough turns keys radix u k small) small slot parent side walk
+pub any_walk_apart : (L : Layout) → 5 ≤ L.nodes → (turns : List (ℕ × Event)) → All (λ t. HasKey t.1) turns
+    → L.radix ≡ true → (u k slot parent : ℕ) (side : Side) → k < infinity_1
+    → (walk : WalkComes k (log_under_pin L turns u) slot parent side) → (x n : ℕ)
+    → Contains walk.looks (Look x Key, KeyIs n) → covers n k ≡ false
+    → StandsFor (child (after_in (ordered L) turns).state.memory) (key (after_in (ordered L) turns).state.memory)
+    slot k → ⊥
+any_walk_apart L enough turns keys radix u k slot parent side small walk = (held_after L u k enough turns keys).apart
+    (shape L enough turns keys radix u k small) small slot parent side walk
 
 pub any_walk_stays : OfEachOrderedRun AnyWalkStaysInOrder
 any_walk_stays L enough turns keys search u k slot parent side small walk reached inner =
-    lies_onward L enough (after_in (ordered L) turns) (each_ordered L enough turns keys) k slot (((held_after L u k enough turns keys).comes slot parent side walk).onward (ap (λ (K : Layout). K.radix) (layout_is L enough turns keys) ∙ search) small) reached inner
+    lies_onward L enough (after_in (ordered L) turns) (each_ordered L enough turns keys) k slot
+    (((held_after L u k enough turns keys).comes slot parent side walk).onward
+    (ap (λ (K : Layout). K.radix) (layout_is L enough turns keys) ∙ search) small) reached inner
 
 -- the keys that walks read are those of their slots now
 pub walk_reads : (L : Layout) → 5 ≤ L.nodes → (past more : List (ℕ × Event)) → All (λ t. HasKey t.1) (past ++ more)

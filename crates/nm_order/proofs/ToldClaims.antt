@@ -32,7 +32,8 @@ claimed_from : (s : State) (w x y : ℕ) → reply_of s w (Claim x) ≡ Claimed 
 unfolding reply
 claimed_from s w x y is = go (in_pool s.memory x) refl is
   where
-    go : (b : Bool) → in_pool s.memory x ≡ b → cond b (Claimed x) Taken ≡ Claimed y → (in_pool s.memory x ≡ true) × (y ≡ x)
+    go : (b : Bool) → in_pool s.memory x ≡ b → cond b (Claimed x) Taken ≡ Claimed y
+        → (in_pool s.memory x ≡ true) × (y ≡ x)
     go true pooled is = (pooled, cc)
     go false pooled is = absurd (differ is)
       where
@@ -47,26 +48,33 @@ in_range s w x ok = high_from 6 s.layout.nodes x (passed (outside 6 s.layout.nod
 record NotHeld (s : State) (w x : ℕ) : Type 0 where
   not_held : is_private (of s w) x ≡ false
   not_known : knows (of s w) x ≡ false
-  not_queued : (origin i : ℕ) (e : Queued) → slice_get (queue_of (held (of s w).ledgers origin)) i ≡ Some e → e.node.slot ≢ x
+  not_queued : (origin i : ℕ) (e : Queued) → slice_get (queue_of (held (of s w).ledgers origin)) i ≡ Some e
+      → e.node.slot ≢ x
 
 module _ (s : State) (h : ℕ → ℕ) (law : Lawful s h) (w x : ℕ) where
   -- an entry of a held queue is one of the origin's
-  pub queued_so : (origin i : ℕ) (e : Queued) → slice_get (queue_of (held (of s w).ledgers origin)) i ≡ Some e → e.node.slot ≡ x → (picture s h).queue origin i ≡ Some x
+  pub queued_so : (origin i : ℕ) (e : Queued) → slice_get (queue_of (held (of s w).ledgers origin)) i ≡ Some e
+      → e.node.slot ≡ x → (picture s h).queue origin i ≡ Some x
   queued_so origin i e at slot = go (held (of s w).ledgers origin) refl
     where
       go : (l : Option Ledger) → held (of s w).ledgers origin ≡ l → (picture s h).queue origin i ≡ Some x
       go None is = absurd (none-some e (ap (λ l. slice_get (queue_of l) i) (sym is) ∙ at))
-      go (Some l) is = ap (λ (y : ℕ). option_map slot_of (slice_get (held_queue (of s y) origin) i)) (sym (law.holders.only w origin (ap is_some is))) ∙ (ap (option_map slot_of) at ∙ ap Some slot)
+      go (Some l) is = ap (λ (y : ℕ). option_map slot_of (slice_get (held_queue (of s y) origin) i))
+          (sym (law.holders.only w origin (ap is_some is))) ∙ (ap (option_map slot_of) at ∙ ap Some slot)
 
   from_pool : in_pool s.memory x ≡ true → NotHeld s w x
   from_pool pooled = record {
-    not_held = false_from_ne_true (is_private (of s w) x) (λ own. let e : InPool ≡ PrivateTo w = alone (PrivateTo w) own in cc);
-    not_known = false_from_ne_true (knows (of s w) x) (λ known. true≢false (sym pooled ∙ (live_then s h law w x known).pooled));
-    not_queued = λ origin i e at slot. let e : InPool ≡ InQueue origin i = alone (InQueue origin i) (queued_so origin i e at slot) in cc;
+    not_held = false_from_ne_true (is_private (of s w) x)
+        (λ own. let e : InPool ≡ PrivateTo w = alone (PrivateTo w) own in cc);
+    not_known = false_from_ne_true (knows (of s w) x)
+        (λ known. true≢false (sym pooled ∙ (live_then s h law w x known).pooled));
+    not_queued = λ origin i e at slot.
+        let e : InPool ≡ InQueue origin i = alone (InQueue origin i) (queued_so origin i e at slot) in cc;
   }
     where
       alone : (q : SeekRecord) → Stands (picture s h) x q → InPool ≡ q
-      alone q there = let r = law.tree.pools x pooled in nowhere_else (picture s h) x InPool q (law.tree.places x (λ z. omega arith) r.1) pooled there
+      alone q there = let r = law.tree.pools x pooled in
+          nowhere_else (picture s h) x InPool q (law.tree.places x (λ z. omega arith) r.1) pooled there
 
 pub claims_are_new : OfEachEntry ClaimsAreNew
 claims_are_new L enough w log entry l x y is = go (last_entry L enough w log entry l)
@@ -76,8 +84,10 @@ claims_are_new L enough w log entry l x y is = go (last_entry L enough w log ent
         let s = last.before.state in
         let law = lawful_before L enough w log entry last in
         let from = claimed_from s last.by x y (subst (λ (e : Entry). reply_of s last.by e.0 ≡ e.1) is last.replied) in
-        let range = in_range s last.by x (subst (λ (e : Event). Allowed s last.by e) (ap (λ (e : Entry). e.0) is) (allowed_before L enough w log entry last)) in
-        let layout : s.layout ≡ L = ap (λ (s : State). s.layout) last.told.is_ordered.leads ∙ layout_after L last.told.is_ordered.events in
+        let range = in_range s last.by x (subst (λ (e : Event). Allowed s last.by e) (ap (λ (e : Entry). e.0) is)
+        (allowed_before L enough w log entry last)) in
+        let layout : s.layout ≡ L = ap (λ (s : State). s.layout) last.told.is_ordered.leads
+        ∙ layout_after L last.told.is_ordered.events in
         let free = from_pool s law.0 law.1 w x from.0 in (
           from.1,
           range.0,
@@ -89,5 +99,6 @@ claims_are_new L enough w log entry l x y is = go (last_entry L enough w log ent
         new last free = record {
           not_held = ap (λ (k : Knowledge). is_private k x) (sym last.told.knows) ∙ free.not_held;
           not_known = ap (λ (k : Knowledge). knows k x) (sym last.told.knows) ∙ free.not_known;
-          not_queued = λ origin i e at. free.not_queued origin i e (ap (λ (k : Knowledge). slice_get (queue_of (held k.ledgers origin)) i) last.told.knows ∙ at);
+          not_queued = λ origin i e at. free.not_queued origin i e
+              (ap (λ (k : Knowledge). slice_get (queue_of (held k.ledgers origin)) i) last.told.knows ∙ at);
         }

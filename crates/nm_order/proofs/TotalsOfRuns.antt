@@ -54,22 +54,34 @@ use Rattle.nm_order.proofs.TotalsOfTurns.{unflagged_was, unflagged_stays, not_he
 
 -- ---- counting
 
-pub how_often-append : (is_such : Entry → Bool) (k : ℕ) (c : Configuration) (ts : List (ℕ × Event)) (t : ℕ × Event) → how_often is_such k c (ts ++ t ∷ []) ≡ how_often is_such k c ts + once is_such k (after_in c ts) t
+pub how_often-append : (is_such : Entry → Bool) (k : ℕ) (c : Configuration) (ts : List (ℕ × Event)) (t : ℕ × Event)
+    → how_often is_such k c (ts ++ t ∷ []) ≡ how_often is_such k c ts + once is_such k (after_in c ts) t
 unfolding how_often after_in
 how_often-append is_such k c [] t = omega arith
-how_often-append is_such k c (s ∷ ts) t = let rest = how_often-append is_such k (next_in c s) ts t in omega (arith, rest)
+how_often-append is_such k c (s ∷ ts) t = let rest = how_often-append is_such k (next_in c s) ts t in
+    omega (arith, rest)
 
 -- what stands in a set
 in_set : (m : Memory) (k : ℕ) → StandsUnflagged m k → InSet m k
-in_set m k u = record { slot = child m u.parent u.side; reached = step_down m u.parent u.side u.reached u.is_slot; leaf = u.leaf; has_key = u.has_key }
+in_set m k u = record {
+  slot = child m u.parent u.side;
+  reached = step_down m u.parent u.side u.reached u.is_slot;
+  leaf = u.leaf;
+  has_key = u.has_key;
+}
 
-pub once_none : (is_such : Entry → Bool) (k : ℕ) (c : Configuration) (t : ℕ × Event) → is_so is_such t.1 (outcome_in c t) ≡ false → once is_such k c t ≡ 0
+pub once_none : (is_such : Entry → Bool) (k : ℕ) (c : Configuration) (t : ℕ × Event)
+    → is_so is_such t.1 (outcome_in c t) ≡ false → once is_such k c t ≡ 0
 once_none is_such k c t none = ap (λ (b : Bool). cond (b && is_for k (call_of c t.0)) 1 0) none
 
-once_is : (is_such : Entry → Bool) (k : ℕ) (c : Configuration) (t : ℕ × Event) (call : Call) → is_so is_such t.1 (outcome_in c t) ≡ true → call_of c t.0 ≡ Some call → once is_such k c t ≡ cond (call.key == k) 1 0
-once_is is_such k c t call so is = ap (λ (b : Bool). cond (b && is_for k (call_of c t.0)) 1 0) so ∙ ap (λ (o : Option Call). cond (is_for k o) 1 0) is
+once_is : (is_such : Entry → Bool) (k : ℕ) (c : Configuration) (t : ℕ × Event) (call : Call)
+    → is_so is_such t.1 (outcome_in c t) ≡ true → call_of c t.0 ≡ Some call
+    → once is_such k c t ≡ cond (call.key == k) 1 0
+once_is is_such k c t call so is = ap (λ (b : Bool). cond (b && is_for k (call_of c t.0)) 1 0) so
+    ∙ ap (λ (o : Option Call). cond (is_for k o) 1 0) is
 
-module _ (L : Layout) (enough : 5 ≤ L.nodes) (ts : List (ℕ × Event)) (t : ℕ × Event) (keys : All (λ t. HasKey t.1) (ts ++ t ∷ [])) where
+module _ (L : Layout) (enough : 5 ≤ L.nodes) (ts : List (ℕ × Event)) (t : ℕ × Event)
+    (keys : All (λ t. HasKey t.1) (ts ++ t ∷ [])) where
   abbrev c : Configuration
   c = after_in (ordered L) ts
 
@@ -90,7 +102,9 @@ module _ (L : Layout) (enough : 5 ≤ L.nodes) (ts : List (ℕ × Event)) (t : �
     Next = Agree (links + once is_won_link k c t) (flags + once is_won_flag k c t) (StandsUnflagged c'.state.memory k)
 
     -- neither was won for the key
-    same : once is_won_link k c t ≡ 0 → once is_won_flag k c t ≡ 0 → (StandsUnflagged c.state.memory k → StandsUnflagged c'.state.memory k) → (StandsUnflagged c'.state.memory k → StandsUnflagged c.state.memory k) → Next
+    same : once is_won_link k c t ≡ 0 → once is_won_flag k c t ≡ 0
+        → (StandsUnflagged c.state.memory k → StandsUnflagged c'.state.memory k)
+        → (StandsUnflagged c'.state.memory k → StandsUnflagged c.state.memory k) → Next
     same a b there back = by old
       where
         by : Agree links flags (StandsUnflagged c.state.memory k) → Next
@@ -105,7 +119,8 @@ module _ (L : Layout) (enough : 5 ≤ L.nodes) (ts : List (ℕ × Event)) (t : �
         → StandsUnflagged c.state.memory k
     back_unless plain unswapped u = by (unflagged_was L enough c t has o k u)
       where
-        by : StandsUnflagged c.state.memory k ⊎ (is_private (of c.state t.0) (child c'.state.memory u.parent u.side) ≡ true) → StandsUnflagged c.state.memory k
+        by : StandsUnflagged c.state.memory k ⊎ (is_private (of c.state t.0) (child c'.state.memory u.parent u.side)
+            ≡ true) → StandsUnflagged c.state.memory k
         by (inl was) = was
         by (inr held) = absurd
             (not_held L enough c t has o (child c'.state.memory u.parent u.side)
@@ -121,15 +136,19 @@ module _ (L : Layout) (enough : 5 ≤ L.nodes) (ts : List (ℕ × Event)) (t : �
 
       -- ---- a link
 
-      module _ (l : IsLinkEntry t.1 r) (j : ℕ) (called : IsCalled c t.0 Insert j) (gains : Gains c.state.memory c'.state.memory j) where
+      module _ (l : IsLinkEntry t.1 r) (j : ℕ) (called : IsCalled c t.0 Insert j)
+          (gains : Gains c.state.memory c'.state.memory j) where
         call_is : call_of c t.0 ≡ Some (record { op = Insert; key = j })
         call_is = is_own_call c t.0 Insert j called
 
         no_flag : once is_won_flag k c t ≡ 0
-        no_flag = once_none is_won_flag k c t (is_of is_won_flag false (ap (λ (e : Event). is_won_flag (e, r)) l.is_event))
+        no_flag = once_none is_won_flag k c t (is_of is_won_flag false
+            (ap (λ (e : Event). is_won_flag (e, r)) l.is_event))
 
         one_link : (b : Bool) → (j == k) ≡ b → once is_won_link k c t ≡ cond b 1 0
-        one_link b is = once_is is_won_link k c t (record { op = Insert; key = j }) (is_of is_won_link true ((λ i. is_won_link (l.is_event i, l.is_reply i)))) call_is ∙ ap (λ (b : Bool). cond b 1 0) is
+        one_link b is = once_is is_won_link k c t (record { op = Insert; key = j })
+            (is_of is_won_link true ((λ i. is_won_link (l.is_event i, l.is_reply i)))) call_is
+            ∙ ap (λ (b : Bool). cond b 1 0) is
 
         flags_none : FlagsNone L enough c t has o k
         flags_none p d leaf is why reached unmarked key_is = differ (sym l.is_event ∙ is)
@@ -153,15 +172,28 @@ module _ (L : Layout) (enough : 5 ≤ L.nodes) (ts : List (ℕ × Event)) (t : �
             not_root : s.slot ≡ 1 → ⊥
             not_root is =
                 let left = (law_of_state L enough c' o').1.tree.root_left in
-                let null = eqb-true _ 0 (and_parts ((node c'.state.memory s.slot).left.slot == 0) ((node c'.state.memory s.slot).right.slot == 0) s.leaf).0 in
-                let two : child c'.state.memory 1 Left ≡ 0 = ap (λ (x : ℕ). child c'.state.memory x Left) (sym is) ∙ null in
+                let null = eqb-true _ 0 (and_parts ((node c'.state.memory s.slot).left.slot == 0)
+                ((node c'.state.memory s.slot).right.slot == 0) s.leaf).0 in
+                let two : child c'.state.memory 1 Left ≡ 0 = ap (λ (x : ℕ). child c'.state.memory x Left) (sym is)
+                ∙ null in
                 absurd (omega (arith, left, two))
 
             was_in : Reached c.state.memory s.slot → InSet c.state.memory k
-            was_in r = record { slot = s.slot; reached = r; leaf = sym (ap (λ (y : Lasting). y.leaf) (turn_lasts L enough c t has o s.slot r)) ∙ s.leaf; has_key = sym (ap (λ (y : Lasting). y.key) (turn_lasts L enough c t has o s.slot r)) ∙ s.has_key }
+            was_in r = record {
+              slot = s.slot;
+              reached = r;
+              leaf = sym
+                  (ap (λ (y : Lasting). y.leaf) (turn_lasts L enough c t has o s.slot r))
+                  ∙ s.leaf;
+              has_key = sym (ap (λ (y : Lasting). y.key) (turn_lasts L enough c t has o s.slot r))
+                  ∙ s.has_key;
+            }
 
-            on : (e : LastEdge c'.state.memory s.slot) → EdgeOrigin c.state t.0 t.1 c'.state.memory e.parent e.side → StandsUnflagged c'.state.memory k
-            on e (WasThere p d reached leads same) = absurd (was_not (was_in (subst (Reached c.state.memory) (leads ∙ e.leads) (step_down c.state.memory p d reached (λ z. s.reached.is_slot (sym e.leads ∙ (sym leads ∙ z)))))))
+            on : (e : LastEdge c'.state.memory s.slot) → EdgeOrigin c.state t.0 t.1 c'.state.memory e.parent e.side
+                → StandsUnflagged c'.state.memory k
+            on e (WasThere p d reached leads same) = absurd
+                (was_not (was_in (subst (Reached c.state.memory) (leads ∙ e.leads)
+                (step_down c.state.memory p d reached (λ z. s.reached.is_slot (sym e.leads ∙ (sym leads ∙ z)))))))
             on e (IsFlaggedNow leaf is reached unmarked marked) = absurd (differ (sym l.is_event ∙ is))
               where
                 differ : Link l.parent l.side l.leaf l.new ≡ Flag e.parent e.side leaf → ⊥
@@ -191,36 +223,56 @@ module _ (L : Layout) (enough : 5 ≤ L.nodes) (ts : List (ℕ × Event)) (t : �
 
                 by : Agree links flags (StandsUnflagged c.state.memory k) → Next
                 by (inl x) = absurd (was_not (in_set c.state.memory k x.1))
-                by (inr x) = inl ((let e = x.0 in let a = one_link true is in let b = no_flag in omega (arith, e, a, b)), new_stands was_not ((gains.now k).1 (inr here)))
+                by (inr x) = inl (
+                  (let e = x.0 in let a = one_link true is in let b = no_flag in
+                      omega (arith, e, a, b)),
+                  new_stands was_not ((gains.now k).1 (inr here)),
+                )
             go false is = same (one_link false is) no_flag (unflagged_stays L enough c t has o k flags_none) back
               where
                 back : StandsUnflagged c'.state.memory k → StandsUnflagged c.state.memory k
                 back u = by (unflagged_was L enough c t has o k u)
                   where
-                    by : StandsUnflagged c.state.memory k ⊎ (is_private (of c.state t.0) (child c'.state.memory u.parent u.side) ≡ true) → StandsUnflagged c.state.memory k
+                    by : StandsUnflagged c.state.memory k ⊎ (is_private (of c.state t.0)
+                        (child c'.state.memory u.parent u.side) ≡ true) → StandsUnflagged c.state.memory k
                     by (inl was) = was
                     by (inr held) = absurd (on ((gains.now k).0 (in_set c'.state.memory k u)))
                       where
                         on : InSet c.state.memory k ⊎ (k ≡ j) → ⊥
                         on (inr at) = eqb-false j k is (sym at)
-                        on (inl s) = not_held L enough c t has o s.slot s.reached (subst (λ (x : ℕ). is_private (of c.state t.0) x ≡ true) (sym one) held)
+                        on (inl s) = not_held L enough c t has o s.slot s.reached
+                            (subst (λ (x : ℕ). is_private (of c.state t.0) x ≡ true) (sym one) held)
                           where
                             now : InSet c'.state.memory k
-                            now = record { slot = s.slot; reached = uncut_stays L enough c t o uncut s.slot s.reached; leaf = ap (λ (y : Lasting). y.leaf) (turn_lasts L enough c t has o s.slot s.reached) ∙ s.leaf; has_key = ap (λ (y : Lasting). y.key) (turn_lasts L enough c t has o s.slot s.reached) ∙ s.has_key }
+                            now = record {
+                              slot = s.slot;
+                              reached = uncut_stays L enough c t o uncut s.slot
+                                  s.reached;
+                              leaf = ap (λ (y : Lasting). y.leaf)
+                                  (turn_lasts L enough c t has o s.slot s.reached)
+                                  ∙ s.leaf;
+                              has_key = ap (λ (y : Lasting). y.key)
+                                  (turn_lasts L enough c t has o s.slot s.reached) ∙ s.has_key;
+                            }
 
                             there : InSet c'.state.memory k
                             there = in_set c'.state.memory k u
 
                             one : s.slot ≡ child c'.state.memory u.parent u.side
-                            one = own_keys L enough c' o' s.slot (child c'.state.memory u.parent u.side) (uncut_stays L enough c t o uncut s.slot s.reached) (step_down c'.state.memory u.parent u.side u.reached u.is_slot)
-                                (ap (λ (y : Lasting). y.leaf) (turn_lasts L enough c t has o s.slot s.reached) ∙ s.leaf) u.leaf (ap (λ (y : Lasting). y.key) (turn_lasts L enough c t has o s.slot s.reached) ∙ (s.has_key ∙ sym u.has_key))
+                            one = own_keys L enough c' o' s.slot (child c'.state.memory u.parent u.side)
+                                (uncut_stays L enough c t o uncut s.slot s.reached)
+                                (step_down c'.state.memory u.parent u.side u.reached u.is_slot)
+                                (ap (λ (y : Lasting). y.leaf) (turn_lasts L enough c t has o s.slot s.reached)
+                                ∙ s.leaf) u.leaf (ap (λ (y : Lasting). y.key)
+                                (turn_lasts L enough c t has o s.slot s.reached) ∙ (s.has_key ∙ sym u.has_key))
 
       no_link_won : is_won_link (t.1, r) ≡ false → WinsNoLink L enough c t has o
       no_link_won plain q told = ap (λ (x : Reply). is_won_link (t.1, x)) (same_reply q r (sym told ∙ won)) ∙ plain
 
       -- ---- a flag
 
-      module _ (l : IsFlagEntry t.1 r) (j : ℕ) (called : IsCalled c t.0 Delete j) (marks : Marks c.state.memory l.parent l.side l.leaf l.node j) where
+      module _ (l : IsFlagEntry t.1 r) (j : ℕ) (called : IsCalled c t.0 Delete j)
+          (marks : Marks c.state.memory l.parent l.side l.leaf l.node j) where
         flag_call : call_of c t.0 ≡ Some (record { op = Delete; key = j })
         flag_call = is_own_call c t.0 Delete j called
 
@@ -231,7 +283,9 @@ module _ (L : Layout) (enough : 5 ≤ L.nodes) (ts : List (ℕ × Event)) (t : �
         no_link = once_none is_won_link k c t (is_of is_won_link false plain_link)
 
         one_flag : (b : Bool) → (j == k) ≡ b → once is_won_flag k c t ≡ cond b 1 0
-        one_flag b is = once_is is_won_flag k c t (record { op = Delete; key = j }) (is_of is_won_flag true (λ i. is_won_flag (l.is_event i, l.is_reply i))) flag_call ∙ ap (λ (b : Bool). cond b 1 0) is
+        one_flag b is = once_is is_won_flag k c t (record { op = Delete; key = j })
+            (is_of is_won_flag true (λ i. is_won_flag (l.is_event i, l.is_reply i))) flag_call
+            ∙ ap (λ (b : Bool). cond b 1 0) is
 
         not_cut : (ns : List NodeId) → outcome_in c t ≡ Ok (Cut ns) → ⊥
         not_cut ns is = differ (sym l.is_reply ∙ differ_cut ns is)
@@ -258,30 +312,41 @@ module _ (L : Layout) (enough : 5 ≤ L.nodes) (ts : List (ℕ × Event)) (t : �
         flagged_now =
             let turn : t ≡ (t.0, Flag l.parent l.side l.leaf) = λ i. (t.0, l.is_event i) in
             ap (λ (v : ℕ × Event). (own_search (next_in c v) t.0).flagged) turn
-            ∙ (ap (λ (S : Search). S.flagged) (own_learns L enough c o t.0 (Flag l.parent l.side l.leaf) (Flagged l.node) (ap (outcome_in c) (sym turn) ∙ (won ∙ ap (λ (x : Reply). Ok x) l.is_reply)))
+            ∙ (ap (λ (S : Search). S.flagged) (own_learns L enough c o t.0 (Flag l.parent l.side l.leaf)
+            (Flagged l.node) (ap (outcome_in c) (sym turn) ∙ (won ∙ ap (λ (x : Reply). Ok x) l.is_reply)))
             ∙ flag_kept_so (own_search c t.0) l.parent l.leaf l.side l.node)
 
         stands_flagged : j ≡ k → StandsUnflagged c'.state.memory k → ⊥
-        stands_flagged same u = true≢false (sym leads ∙ (ap (λ (y : ℕ). (edge c'.state.memory y u.side).flag) u.reached.ends ∙ u.unflagged))
+        stands_flagged same u = true≢false (sym leads
+            ∙ (ap (λ (y : ℕ). (edge c'.state.memory y u.side).flag) u.reached.ends ∙ u.unflagged))
           where
             x : ℕ
             x = child c'.state.memory u.parent u.side
 
             one : child c'.state.memory u.parent u.side ≡ l.leaf
-            one = own_keys L enough c' o' (child c'.state.memory u.parent u.side) l.leaf (step_down c'.state.memory u.parent u.side u.reached u.is_slot) (uncut_stays L enough c t o not_cut l.leaf marks.reached) u.leaf
+            one = own_keys L enough c' o' (child c'.state.memory u.parent u.side) l.leaf
+                (step_down c'.state.memory u.parent u.side u.reached u.is_slot)
+                (uncut_stays L enough c t o not_cut l.leaf marks.reached) u.leaf
                 (ap (λ (y : Lasting). y.leaf) (turn_lasts L enough c t has o l.leaf marks.reached) ∙ marks.childless)
-                (u.has_key ∙ sym (ap (λ (y : Lasting). y.key) (turn_lasts L enough c t has o l.leaf marks.reached) ∙ (marks.has_key ∙ same)))
+                (u.has_key ∙ sym (ap (λ (y : Lasting). y.key) (turn_lasts L enough c t has o l.leaf marks.reached)
+                ∙ (marks.has_key ∙ same)))
 
             kept : FlagKept c'.state.memory (of c'.state t.0) (own_search c' t.0)
-            kept = subst (λ (d : Configuration). FlagKept d.state.memory (of d.state t.0) (own_search d t.0)) (one_more L enough ts t)
-                (subst (λ (S : Search). FlagKept (after_in (ordered L) (ts ++ t ∷ [])).state.memory (of (after_in (ordered L) (ts ++ t ∷ [])).state t.0) S) (sym (ap (λ (l : Option (List Search)). search_of (unwrap_or l []) t.0) far.are))
-                (each_run_keeps EachFlagKept flags_step L enough (flags_start L) (ts ++ t ∷ []) keys far.searches far.are t.0))
+            kept = subst (λ (d : Configuration). FlagKept d.state.memory (of d.state t.0) (own_search d t.0))
+                (one_more L enough ts t)
+                (subst (λ (S : Search). FlagKept (after_in (ordered L) (ts ++ t ∷ [])).state.memory
+                (of (after_in (ordered L) (ts ++ t ∷ [])).state t.0) S)
+                (sym (ap (λ (l : Option (List Search)). search_of (unwrap_or l []) t.0) far.are))
+                (each_run_keeps EachFlagKept flags_step L enough (flags_start L) (ts ++ t ∷ []) keys far.searches
+                far.are t.0))
               where
                 far : IsOrdered L (after_in (ordered L) (ts ++ t ∷ []))
                 far = each_ordered L enough (ts ++ t ∷ []) keys
 
             leads : (edge c'.state.memory (at c'.state.memory u.reached.path) u.side).flag ≡ true
-            leads = (kept.some l.node flagged_now).root u.reached.path u.side (ap (λ (y : ℕ). child c'.state.memory y u.side) u.reached.ends ∙ (one ∙ sym (ap (λ (n : NodeId). n.slot) marks.names)))
+            leads = (kept.some l.node flagged_now).root u.reached.path u.side
+                (ap (λ (y : ℕ). child c'.state.memory y u.side) u.reached.ends
+                ∙ (one ∙ sym (ap (λ (n : NodeId). n.slot) marks.names)))
 
         of_flag : Next
         of_flag = go (j == k) refl
@@ -290,13 +355,18 @@ module _ (L : Layout) (enough : 5 ≤ L.nodes) (ts : List (ℕ × Event)) (t : �
             go true is = by old
               where
                 by : Agree links flags (StandsUnflagged c.state.memory k) → Next
-                by (inl x) = inr ((let e = x.0 in let a = no_link in let b = one_flag true is in omega (arith, e, a, b)), stands_flagged (eqb-true j k is))
+                by (inl x) = inr (
+                  (let e = x.0 in let a = no_link in let b = one_flag true is in
+                      omega (arith, e, a, b)),
+                  stands_flagged (eqb-true j k is),
+                )
                 by (inr x) = absurd (x.1 (stood (eqb-true j k is)))
             go false is = same no_link (one_flag false is) (unflagged_stays L enough c t has o k none)
                 (back_unless (no_link_won plain_link) (λ q told. ap (λ (e : Event). is_won_swap e q) l.is_event))
               where
                 none : FlagsNone L enough c t has o k
-                none p d leaf at why reached unmarked key_is = eqb-false j k is (sym marks.has_key ∙ (ap (key c.state.memory) (same_leaf (sym l.is_event ∙ at)) ∙ key_is))
+                none p d leaf at why reached unmarked key_is = eqb-false j k is
+                    (sym marks.has_key ∙ (ap (key c.state.memory) (same_leaf (sym l.is_event ∙ at)) ∙ key_is))
                   where
                     same_leaf : Flag l.parent l.side l.leaf ≡ Flag p d leaf → l.leaf ≡ leaf
                     same_leaf e = cc
@@ -310,7 +380,9 @@ module _ (L : Layout) (enough : 5 ≤ L.nodes) (ts : List (ℕ × Event)) (t : �
           none p d leaf is why reached unmarked key_is = true≢false (sym (λ i. is_won_flag (is i, told i)) ∙ b)
             where
               told : r ≡ Flagged (named c.state.memory leaf)
-              told = same_reply r (Flagged (named c.state.memory leaf)) (sym won ∙ (allowed_outcome c t why ∙ ap (λ (x : Reply). Ok x) (ap (reply_of c.state t.0) is ∙ flag_told c.state t.0 p leaf d unmarked)))
+              told = same_reply r (Flagged (named c.state.memory leaf))
+                  (sym won ∙ (allowed_outcome c t why ∙ ap (λ (x : Reply). Ok x)
+                  (ap (reply_of c.state t.0) is ∙ flag_told c.state t.0 p leaf d unmarked)))
 
           go : (x : Bool) → is_won_swap t.1 r ≡ x → Next
           go true h =
@@ -332,14 +404,17 @@ module _ (L : Layout) (enough : 5 ≤ L.nodes) (ts : List (ℕ × Event)) (t : �
               linked : IsLinkEntry t.1 r → Next
               linked l =
                   let turn : t ≡ (t.0, Link l.parent l.side l.leaf l.new) = λ i. (t.0, l.is_event i) in
-                  let ins = each_link_inserts L enough ts before t.0 l.parent l.side l.leaf l.new l.node (ap (outcome_in c) (sym turn) ∙ (won ∙ ap (λ (x : Reply). Ok x) l.is_reply)) in
-                  of_link l ins.0 ins.1 (subst (λ (v : ℕ × Event). Gains c.state.memory (next_in c v).state.memory ins.0) (sym turn) ins.2)
+                  let ins = each_link_inserts L enough ts before t.0 l.parent l.side l.leaf l.new l.node
+                  (ap (outcome_in c) (sym turn) ∙ (won ∙ ap (λ (x : Reply). Ok x) l.is_reply)) in
+                  of_link l ins.0 ins.1 (subst (λ (v : ℕ × Event). Gains c.state.memory (next_in c v).state.memory
+                  ins.0) (sym turn) ins.2)
           go false link true flag = flagged (flag_entry t.1 r flag)
             where
               flagged : IsFlagEntry t.1 r → Next
               flagged l =
                   let turn : t ≡ (t.0, Flag l.parent l.side l.leaf) = λ i. (t.0, l.is_event i) in
-                  let m = each_flag_marks L enough ts before t.0 l.parent l.side l.leaf l.node (ap (outcome_in c) (sym turn) ∙ (won ∙ ap (λ (x : Reply). Ok x) l.is_reply)) in
+                  let m = each_flag_marks L enough ts before t.0 l.parent l.side l.leaf l.node
+                  (ap (outcome_in c) (sym turn) ∙ (won ∙ ap (λ (x : Reply). Ok x) l.is_reply)) in
                   of_flag l m.0 m.1 m.2
           go false link false flag = of_neither link flag
 
@@ -350,12 +425,15 @@ module _ (L : Layout) (enough : 5 ≤ L.nodes) (ts : List (ℕ × Event)) (t : �
         go : (q : Option Refused) → refused_in c t.0 t.1 ≡ q → Next
         go (Some q) why =
             let still : c' ≡ c = refused_next c t q why in
-            same (once_none is_won_link k c t (ap (is_so is_won_link t.1) (refused_outcome c t q why))) (once_none is_won_flag k c t (ap (is_so is_won_flag t.1) (refused_outcome c t q why)))
-            (λ u. subst (λ (d : Configuration). StandsUnflagged d.state.memory k) (sym still) u) (λ u. subst (λ (d : Configuration). StandsUnflagged d.state.memory k) still u)
+            same (once_none is_won_link k c t (ap (is_so is_won_link t.1) (refused_outcome c t q why)))
+            (once_none is_won_flag k c t (ap (is_so is_won_flag t.1) (refused_outcome c t q why)))
+            (λ u. subst (λ (d : Configuration). StandsUnflagged d.state.memory k) (sym still) u)
+            (λ u. subst (λ (d : Configuration). StandsUnflagged d.state.memory k) still u)
         go None why = of_reply (reply_of c.state t.0 t.1) (allowed_outcome c t why)
 
 -- at the opening each reached node has a sentinel key
-high_keys : (L : Layout) (path : List Side) → at (opening L) path ≢ 0 → infinity_0 ≤ key (opening L) (at (opening L) path)
+high_keys : (L : Layout) (path : List Side) → at (opening L) path ≢ 0
+    → infinity_0 ≤ key (opening L) (at (opening L) path)
 high_keys L [] there = omega arith
 high_keys L (Left ∷ []) there = omega arith
 high_keys L (Right ∷ []) there = omega arith
@@ -383,8 +461,15 @@ module _ (L : Layout) (enough : 5 ≤ L.nodes) where
   unfolding after_in how_often
   totals = over_turns (TotalsAgree L) (λ k small. inr (refl, none_stand k small)) step
     where
-      step : (ts : List (ℕ × Event)) (t : ℕ × Event) → All (λ t. HasKey t.1) (ts ++ t ∷ []) → TotalsAgree L ts → TotalsAgree L (ts ++ t ∷ [])
-      step ts t keys old k small = rw (how_often-append is_won_link k (ordered L) ts t, how_often-append is_won_flag k (ordered L) ts t, one_more L enough ts t) (turn_agrees L enough ts t keys k (links_of k L ts) (flags_of k L ts) (old k small))
+      step : (ts : List (ℕ × Event)) (t : ℕ × Event) → All (λ t. HasKey t.1) (ts ++ t ∷ []) → TotalsAgree L ts
+          → TotalsAgree L (ts ++ t ∷ [])
+      step ts t keys old k small = rw (
+        how_often-append is_won_link k (ordered L) ts t,
+        how_often-append is_won_flag
+            k (ordered L) ts t,
+        one_more L enough ts t,
+      ) (turn_agrees L enough ts t keys k (links_of k L ts)
+          (flags_of k L ts) (old k small))
 
 pub each_total_agrees : OfEachOrderedRun TotalsAgree
 each_total_agrees L enough turns keys = totals L enough turns keys
@@ -399,21 +484,29 @@ each_total_is_the_set L enough turns keys nothing k small = by (totals L enough 
     o : IsOrdered L (after_in (ordered L) turns)
     o = each_ordered L enough turns keys
 
-    stands : InSet (after_in (ordered L) turns).state.memory k → StandsUnflagged (after_in (ordered L) turns).state.memory k
-    stands s = elim (last_edge (after_in (ordered L) turns).state.memory (λ d. ap (λ (e : Edge). e.slot) ((law_of_state L enough (after_in (ordered L) turns) o).1.tree.nothing d)) s.slot s.reached) [
-      | inl root ↦ absurd (not_root root)
-      | inr e ↦ on e ((edge (after_in (ordered L) turns).state.memory e.parent e.side).flag) refl
-    ]
+    stands : InSet (after_in (ordered L) turns).state.memory k
+        → StandsUnflagged (after_in (ordered L) turns).state.memory k
+    stands s = elim (last_edge (after_in (ordered L) turns).state.memory
+        (λ d. ap (λ (e : Edge). e.slot) ((law_of_state L enough (after_in (ordered L) turns) o).1.tree.nothing d))
+        s.slot s.reached) [
+          | inl root ↦ absurd (not_root root)
+          | inr e ↦ on e ((edge (after_in (ordered L) turns).state.memory e.parent e.side).flag) refl
+        ]
       where
         not_root : s.slot ≡ 1 → ⊥
         not_root is =
             let left = (law_of_state L enough (after_in (ordered L) turns) o).1.tree.root_left in
-            let null = eqb-true _ 0 (and_parts ((node (after_in (ordered L) turns).state.memory s.slot).left.slot == 0) ((node (after_in (ordered L) turns).state.memory s.slot).right.slot == 0) s.leaf).0 in
-            let two : child (after_in (ordered L) turns).state.memory 1 Left ≡ 0 = ap (λ (x : ℕ). child (after_in (ordered L) turns).state.memory x Left) (sym is) ∙ null in
+            let null = eqb-true _ 0 (and_parts ((node (after_in (ordered L) turns).state.memory s.slot).left.slot
+            == 0) ((node (after_in (ordered L) turns).state.memory s.slot).right.slot == 0) s.leaf).0 in
+            let two : child (after_in (ordered L) turns).state.memory 1 Left
+            ≡ 0 = ap (λ (x : ℕ). child (after_in (ordered L) turns).state.memory x Left) (sym is) ∙ null in
             absurd (omega (arith, left, two))
 
-        on : (e : LastEdge (after_in (ordered L) turns).state.memory s.slot) → (b : Bool) → (edge (after_in (ordered L) turns).state.memory e.parent e.side).flag ≡ b → StandsUnflagged (after_in (ordered L) turns).state.memory k
-        on e true flag = let p = each_flagged_leaf_is_pending L enough turns keys e.parent e.side e.reached flag in absurd (nothing p.worker p.key p.flag)
+        on : (e : LastEdge (after_in (ordered L) turns).state.memory s.slot) → (b : Bool)
+            → (edge (after_in (ordered L) turns).state.memory e.parent e.side).flag ≡ b
+            → StandsUnflagged (after_in (ordered L) turns).state.memory k
+        on e true flag = let p = each_flagged_leaf_is_pending L enough turns keys e.parent e.side e.reached flag in
+            absurd (nothing p.worker p.key p.flag)
         on e false plain = record {
           parent = e.parent;
           side = e.side;
@@ -424,6 +517,8 @@ each_total_is_the_set L enough turns keys nothing k small = by (totals L enough 
           has_key = ap (key (after_in (ordered L) turns).state.memory) e.leads ∙ s.has_key;
         }
 
-    by : Agree (links_of k L turns) (flags_of k L turns) (StandsUnflagged (after_in (ordered L) turns).state.memory k) → Agree (links_of k L turns) (flags_of k L turns) (InSet (after_in (ordered L) turns).state.memory k)
+    by : Agree (links_of k L turns) (flags_of k L turns)
+        (StandsUnflagged (after_in (ordered L) turns).state.memory k)
+        → Agree (links_of k L turns) (flags_of k L turns) (InSet (after_in (ordered L) turns).state.memory k)
     by (inl x) = inl (x.0, in_set (after_in (ordered L) turns).state.memory k x.1)
     by (inr x) = inr (x.0, λ s. x.1 (stands s))

@@ -39,7 +39,8 @@ use Rattle.nm_order.proofs.WalksOfRuns.{trace_in-append, log-append}
 
 module _ (L : Layout) (enough : 5 ≤ L.nodes) (w : ℕ) where
   -- in one turn
-  one_pin : (c : Configuration) (t : ℕ × Event) → IsOrdered L c → list_any begins_anew (entries w c t) ≡ false → (of (next_in c t).state w).brief.pin ≡ (of c.state w).brief.pin
+  one_pin : (c : Configuration) (t : ℕ × Event) → IsOrdered L c → list_any begins_anew (entries w c t) ≡ false
+      → (of (next_in c t).state w).brief.pin ≡ (of c.state w).brief.pin
   unfolding applied_in refused_in
   one_pin c t o stands = go (refused_in c t.0 t.1) refl
     where
@@ -54,49 +55,67 @@ module _ (L : Layout) (enough : 5 ≤ L.nodes) (w : ℕ) where
 
       anew : refused_in c t.0 t.1 ≡ None → w ≡ t.0 → begins_anew (t.1, reply_of c.state t.0 t.1) ≡ false
       anew why own = (or_parts (begins_anew (t.1, reply_of c.state t.0 t.1)) false
-          (sym (ap (list_any begins_anew) (allowed_entries w c t (reply_of c.state t.0 t.1) (allowed_outcome c t why) ∙ ap (λ (b : Bool). cond b ((t.1, reply_of c.state t.0 t.1) ∷ []) []) (same_worker own))) ∙ stands)).0
+          (sym (ap (list_any begins_anew) (allowed_entries w c t (reply_of c.state t.0 t.1) (allowed_outcome c t why)
+          ∙ ap (λ (b : Bool). cond b ((t.1, reply_of c.state t.0 t.1) ∷ []) []) (same_worker own))) ∙ stands)).0
         where
           same_worker : w ≡ t.0 → (t.0 == w) ≡ true
           same_worker own = eq-eqb t.0 w (sym own)
 
-      by_itself : refused_in c t.0 t.1 ≡ None → w ≡ t.0 → (of (applied_in c t.0 t.1).state t.0).brief.pin ≡ (of c.state t.0).brief.pin
-      by_itself why own = ap (λ (k : Knowledge). k.brief.pin) (own_knows c.state holder (law_of_state L enough c o).1 t.0 t.1 (ok why))
-          ∙ (learned_stays c.state.memory (of c.state t.0) t.0 t.1 (reply_of c.state t.0 t.1) (answers c.state holder (law_of_state L enough c o).1 t.0 t.1 (ok why)) (anew why own)).pin
+      by_itself : refused_in c t.0 t.1 ≡ None → w ≡ t.0
+          → (of (applied_in c t.0 t.1).state t.0).brief.pin ≡ (of c.state t.0).brief.pin
+      by_itself why own = ap (λ (k : Knowledge). k.brief.pin)
+          (own_knows c.state holder (law_of_state L enough c o).1 t.0 t.1 (ok why))
+          ∙ (learned_stays c.state.memory (of c.state t.0) t.0 t.1 (reply_of c.state t.0 t.1)
+          (answers c.state holder (law_of_state L enough c o).1 t.0 t.1 (ok why)) (anew why own)).pin
 
-      by_other : refused_in c t.0 t.1 ≡ None → w ≢ t.0 → (of (applied_in c t.0 t.1).state w).brief.pin ≡ (of c.state w).brief.pin
+      by_other : refused_in c t.0 t.1 ≡ None → w ≢ t.0
+          → (of (applied_in c t.0 t.1).state w).brief.pin ≡ (of c.state w).brief.pin
       by_other why ne = (others_stay c.state holder (law_of_state L enough c o).1 t.0 t.1 (ok why) w ne).pin
 
-      go : (x : Option Refused) → refused_in c t.0 t.1 ≡ x → (of (next_in c t).state w).brief.pin ≡ (of c.state w).brief.pin
+      go : (x : Option Refused) → refused_in c t.0 t.1 ≡ x
+          → (of (next_in c t).state w).brief.pin ≡ (of c.state w).brief.pin
       go (Some x) why = ap (λ (d : Configuration). (of d.state w).brief.pin) (refused_next c t x why)
-      go None why = ap (λ (d : Configuration). (of d.state w).brief.pin) (allowed_next c t why) ∙ elim (ℕ_discrete w t.0) [
-        | yes own ↦ subst (λ (v : ℕ). (of (applied_in c t.0 t.1).state v).brief.pin ≡ (of c.state v).brief.pin) (sym own) (by_itself why own)
-        | no ne ↦ by_other why ne
-      ]
+      go None why = ap (λ (d : Configuration). (of d.state w).brief.pin) (allowed_next c t why)
+          ∙ elim (ℕ_discrete w t.0) [
+            | yes own ↦ subst (λ (v : ℕ). (of (applied_in c t.0 t.1).state v).brief.pin ≡ (of c.state v).brief.pin)
+                (sym own) (by_itself why own)
+            | no ne ↦ by_other why ne
+          ]
 
-  pub pin_lasts : (turns : List (ℕ × Event)) → All (λ t. HasKey t.1) turns → (c : Configuration) → IsOrdered L c → PinStands w (trace_in c turns) → (of (after_in c turns).state w).brief.pin ≡ (of c.state w).brief.pin
+  pub pin_lasts : (turns : List (ℕ × Event)) → All (λ t. HasKey t.1) turns → (c : Configuration) → IsOrdered L c
+      → PinStands w (trace_in c turns) → (of (after_in c turns).state w).brief.pin ≡ (of c.state w).brief.pin
   unfolding after_in
   pin_lasts [] keys c o stands = refl
   pin_lasts (t ∷ ts) keys c o stands =
       let parts = stands_parts L w c t ts stands in
-      pin_lasts ts (λ k d below. keys (suc k) d (omega arith)) (next_in c t) (ordered_next L enough c t (keys 0 t (omega arith)) o) parts.1 ∙ one_pin c t o parts.0
+      pin_lasts ts (λ k d below. keys (suc k) d (omega arith)) (next_in c t)
+      (ordered_next L enough c t (keys 0 t (omega arith)) o) parts.1 ∙ one_pin c t o parts.0
 
 -- ---- the moment is later than an earlier run at whose end the worker was not pinned
 
-module _ (L : Layout) (enough : 5 ≤ L.nodes) (w : ℕ) (below : w < L.workers) (past more : List (ℕ × Event)) (keys : All (λ t. HasKey t.1) (past ++ more)) (unpinned : (known_by L w (part_of w (trace_in (ordered L) past))).brief.pin ≡ None)
+module _ (L : Layout) (enough : 5 ≤ L.nodes) (w : ℕ) (below : w < L.workers) (past more : List (ℕ × Event))
+    (keys : All (λ t. HasKey t.1) (past ++ more)) (unpinned : (known_by L w
+    (part_of w (trace_in (ordered L) past))).brief.pin ≡ None)
     (k : ℕ) (answer : Bool) (t : WasSoUnderPin L (past ++ more) w k answer) where
   -- the moment is none of the earlier run, at whose end the pin would stand
   not_earlier : (mid : List (ℕ × Event)) → past ≡ t.before ++ mid → ⊥
-  not_earlier mid is = none-some t.pinned.0 (sym unpinned ∙ (ap (λ (l : Knowledge). l.brief.pin) (sym (logs_tell L past w below)) ∙ (ap (λ (ts : List (ℕ × Event)). (of (after_in (ordered L) ts).state w).brief.pin) is
-      ∙ (ap (λ (c : Configuration). (of c.state w).brief.pin) (after_in-append (ordered L) t.before mid) ∙ (pin_lasts L enough w mid mid_keys (after_in (ordered L) t.before) then' stands ∙ t.pinned.1)))))
+  not_earlier mid is = none-some t.pinned.0 (sym unpinned
+      ∙ (ap (λ (l : Knowledge). l.brief.pin) (sym (logs_tell L past w below))
+      ∙ (ap (λ (ts : List (ℕ × Event)). (of (after_in (ordered L) ts).state w).brief.pin) is
+      ∙ (ap (λ (c : Configuration). (of c.state w).brief.pin) (after_in-append (ordered L) t.before mid)
+      ∙ (pin_lasts L enough w mid mid_keys (after_in (ordered L) t.before) then' stands ∙ t.pinned.1)))))
     where
       since_is : t.since ≡ mid ++ more
-      since_is = append_cancel_left t.before t.since (mid ++ more) (sym t.is_run ∙ (ap (λ (l : List (ℕ × Event)). l ++ more) is ∙ append_assoc t.before mid more))
+      since_is = append_cancel_left t.before t.since (mid ++ more)
+          (sym t.is_run ∙ (ap (λ (l : List (ℕ × Event)). l ++ more) is ∙ append_assoc t.before mid more))
 
       mid_keys : All (λ t. HasKey t.1) mid
-      mid_keys = later_keys t.before mid (first_keys (t.before ++ mid) more (subst (λ (l : List (ℕ × Event)). All (λ t. HasKey t.1) (l ++ more)) is keys))
+      mid_keys = later_keys t.before mid (first_keys (t.before ++ mid) more
+          (subst (λ (l : List (ℕ × Event)). All (λ t. HasKey t.1) (l ++ more)) is keys))
 
       then' : IsOrdered L (after_in (ordered L) t.before)
-      then' = each_ordered L enough t.before (first_keys t.before t.since (subst (λ (l : List (ℕ × Event)). All (λ t. HasKey t.1) l) t.is_run keys))
+      then' = each_ordered L enough t.before (first_keys t.before t.since
+          (subst (λ (l : List (ℕ × Event)). All (λ t. HasKey t.1) l) t.is_run keys))
 
       first : List Turn
       first = trace_in (after_in (ordered L) t.before) mid
@@ -106,8 +125,12 @@ module _ (L : Layout) (enough : 5 ≤ L.nodes) (w : ℕ) (below : w < L.workers)
 
       stands : PinStands w (trace_in (after_in (ordered L) t.before) mid)
       stands = (or_parts (list_any begins_anew (log_of w first)) (list_any begins_anew (log_of w rest))
-          (sym (list_any-append begins_anew (log_of w first) (log_of w rest)) ∙ (ap (list_any begins_anew) (sym (log-append w first rest)) ∙ (ap (λ (l : List Turn). list_any begins_anew (log_of w l)) (sym (trace_in-append (after_in (ordered L) t.before) mid more))
-          ∙ (ap (λ (l : List (ℕ × Event)). list_any begins_anew (log_of w (trace_in (after_in (ordered L) t.before) l))) (sym since_is) ∙ t.stands))))).0
+          (sym (list_any-append begins_anew (log_of w first) (log_of w rest))
+          ∙ (ap (list_any begins_anew) (sym (log-append w first rest))
+          ∙ (ap (λ (l : List Turn). list_any begins_anew (log_of w l))
+          (sym (trace_in-append (after_in (ordered L) t.before) mid more))
+          ∙ (ap (λ (l : List (ℕ × Event)). list_any begins_anew
+          (log_of w (trace_in (after_in (ordered L) t.before) l))) (sym since_is) ∙ t.stands))))).0
 
   later : length past < length t.before
   later = elim (cases_lt (length past) (length t.before)) [
@@ -116,9 +139,18 @@ module _ (L : Layout) (enough : 5 ≤ L.nodes) (w : ℕ) (below : w < L.workers)
   ]
 
   since_then : WasSoSince L past (past ++ more) w k answer
-  since_then = record { before = t.before; since = t.since; is_run = t.is_run; later = later; pinned = t.pinned; gives = t.gives }
+  since_then = record {
+    before = t.before;
+    since = t.since;
+    is_run = t.is_run;
+    later = later;
+    pinned = t.pinned;
+    gives = t.gives;
+  }
 
 pub walks_tell_of_their_pin : WalksTellOfTheirPin
 walks_tell_of_their_pin L enough w below past more keys unpinned log is_log k slot parent side v small walk =
     since_then L enough w below past more keys unpinned k (v == k)
-    (any_walk_tells L enough (past ++ more) keys w k slot parent side v small (ends_in_log w (trace_in (ordered L) (past ++ more)) k slot parent side v (subst (λ (l : List Entry). WalkEnds k (since_pin [] l) slot parent side v) (sym is_log) walk)))
+    (any_walk_tells L enough (past ++ more) keys w k slot parent side v small
+    (ends_in_log w (trace_in (ordered L) (past ++ more)) k slot parent side v
+    (subst (λ (l : List Entry). WalkEnds k (since_pin [] l) slot parent side v) (sym is_log) walk)))

@@ -29,21 +29,27 @@ use Rattle.nm_order.proofs.RunExchanges.{first_keys}
 use Rattle.nm_order.proofs.StaleRuns.{walk_was_reached, walk_reads, walk_knows_leaf, radix_walk, any_walk_apart}
 
 -- a walk that has ended came to its leaf
-came : (k : ℕ) (log : List Entry) (slot parent : ℕ) (side : Side) (v : ℕ) → WalkEnds k log slot parent side v → WalkComes k log slot parent side
+came : (k : ℕ) (log : List Entry) (slot parent : ℕ) (side : Side) (v : ℕ) → WalkEnds k log slot parent side v
+    → WalkComes k log slot parent side
 came k log slot parent side v walk = record {
   looks = walk.looks;
   leads = walk.leads;
-  is_part = part_within walk.is_part walk.looks (part_grows ((Look slot Key, KeyIs v) ∷ (Look slot (EdgeOn (side_of k v)), EdgeIs walk.null) ∷ []) (part_itself walk.looks));
+  is_part = part_within walk.is_part walk.looks (part_grows
+      ((Look slot Key, KeyIs v) ∷ (Look slot (EdgeOn (side_of k v)), EdgeIs walk.null) ∷ []) (part_itself walk.looks));
 }
 
 -- and read its key
-read : (k : ℕ) (log : List Entry) (slot parent : ℕ) (side : Side) (v : ℕ) → WalkEnds k log slot parent side v → WalkReads k log slot parent side v
+read : (k : ℕ) (log : List Entry) (slot parent : ℕ) (side : Side) (v : ℕ) → WalkEnds k log slot parent side v
+    → WalkReads k log slot parent side v
 read k log slot parent side v walk = record {
   looks = walk.looks;
   leads = walk.leads;
   is_part = part_within walk.is_part (walk.looks ++ (Look slot Key, KeyIs v) ∷ [])
-      (subst (λ (l : List Entry). IsPart (walk.looks ++ (Look slot Key, KeyIs v) ∷ []) l) (append_assoc walk.looks ((Look slot Key, KeyIs v) ∷ []) ((Look slot (EdgeOn (side_of k v)), EdgeIs walk.null) ∷ []))
-      (part_grows ((Look slot (EdgeOn (side_of k v)), EdgeIs walk.null) ∷ []) (part_itself (walk.looks ++ (Look slot Key, KeyIs v) ∷ []))));
+      (subst (λ (l : List Entry). IsPart (walk.looks ++ (Look slot Key, KeyIs v) ∷ []) l)
+      (append_assoc walk.looks ((Look slot Key, KeyIs v) ∷ [])
+      ((Look slot (EdgeOn (side_of k v)), EdgeIs walk.null) ∷ []))
+      (part_grows ((Look slot (EdgeOn (side_of k v)), EdgeIs walk.null) ∷ [])
+      (part_itself (walk.looks ++ (Look slot Key, KeyIs v) ∷ []))));
 }
 
 -- ---- the answer of a walk, whose looks came after the first turns of a run
@@ -71,7 +77,9 @@ module _ (L : Layout) (enough : 5 ≤ L.nodes) (past more : List (ℕ × Event))
   null f = go f (and_parts ((node (after_in (ordered L) turns).state.memory slot).left.slot ==
       0) ((node (after_in (ordered L) turns).state.memory slot).right.slot == 0) ends_at_leaf)
     where
-      go : (f : Side) → (((node (after_in (ordered L) turns).state.memory slot).left.slot == 0) ≡ true) × (((node (after_in (ordered L) turns).state.memory slot).right.slot == 0) ≡ true) → child (after_in (ordered L) turns).state.memory slot f ≡ 0
+      go : (f : Side) → (((node (after_in (ordered L) turns).state.memory slot).left.slot == 0) ≡ true)
+          × (((node (after_in (ordered L) turns).state.memory slot).right.slot == 0) ≡ true)
+          → child (after_in (ordered L) turns).state.memory slot f ≡ 0
       go Left both = eqb-true (node (after_in (ordered L) turns).state.memory slot).left.slot 0 both.0
       go Right both = eqb-true (node (after_in (ordered L) turns).state.memory slot).right.slot 0 both.1
 
@@ -148,5 +156,7 @@ unfolding came
 any_walk_ends_elsewhere L enough turns keys radix u k slot parent side v small walk x n there out same =
     apart (stands L enough [] turns keys u k slot parent side v walk same)
   where
-    apart : StandsFor (child (after_in (ordered L) turns).state.memory) (key (after_in (ordered L) turns).state.memory) slot k → ⊥
-    apart = any_walk_apart L enough turns keys radix u k slot parent side small (came k (log_under_pin L turns u) slot parent side v walk) x n there out
+    apart : StandsFor (child (after_in (ordered L) turns).state.memory)
+        (key (after_in (ordered L) turns).state.memory) slot k → ⊥
+    apart = any_walk_apart L enough turns keys radix u k slot parent side small
+        (came k (log_under_pin L turns u) slot parent side v walk) x n there out

@@ -32,8 +32,10 @@ L = dense 7 2
 -- worker 0 inserts 5: its leaf is slot 7, under the internal node 6
 abbrev insert : List (ℕ × Event)
 insert =
-    (0, Sight) ∷ (0, Announce) ∷ (0, SightFor Insert 5) ∷ (0, Look 2 (EdgeOn Left)) ∷ (0, Look 3 Key) ∷ (0, Look 3 (EdgeOn Left)) ∷ (0, Claim 6) ∷ (0, Fill 6 Birth 1) ∷ (0, Claim 7) ∷ (0, Fill 7 Birth 1)
-    ∷ (0, Fill 6 Key infinity_0) ∷ (0, Fill 6 (EdgeOn Left) 7) ∷ (0, Fill 6 (EdgeOn Right) 3) ∷ (0, Fill 7 Key 5) ∷ (0, Fill 7 (EdgeOn Left) 0) ∷ (0, Fill 7 (EdgeOn Right) 0) ∷ (0, Link 2 Left 3 6)
+    (0, Sight) ∷ (0, Announce) ∷ (0, SightFor Insert 5) ∷ (0, Look 2 (EdgeOn Left)) ∷ (0, Look 3 Key)
+    ∷ (0, Look 3 (EdgeOn Left)) ∷ (0, Claim 6) ∷ (0, Fill 6 Birth 1) ∷ (0, Claim 7) ∷ (0, Fill 7 Birth 1)
+    ∷ (0, Fill 6 Key infinity_0) ∷ (0, Fill 6 (EdgeOn Left) 7) ∷ (0, Fill 6 (EdgeOn Right) 3) ∷ (0, Fill 7 Key 5)
+    ∷ (0, Fill 7 (EdgeOn Left) 0) ∷ (0, Fill 7 (EdgeOn Right) 0) ∷ (0, Link 2 Left 3 6)
     ∷ (0, LeaveWith true) ∷ []
 
 -- worker 1 pins for no call, and comes to 6
@@ -43,7 +45,8 @@ pin = (1, Sight) ∷ (1, Announce) ∷ (1, Sight) ∷ (1, Look 2 (EdgeOn Left)) 
 -- worker 0 deletes 5, and cuts 6 and 7 off
 abbrev delete : List (ℕ × Event)
 delete =
-    (0, Announce) ∷ (0, SightFor Delete 5) ∷ (0, Look 2 (EdgeOn Left)) ∷ (0, Look 6 Key) ∷ (0, Look 6 (EdgeOn Left)) ∷ (0, Look 7 Key) ∷ (0, Look 7 (EdgeOn Right)) ∷ (0, Flag 6 Left 7) ∷ (0, Tag 6 Right)
+    (0, Announce) ∷ (0, SightFor Delete 5) ∷ (0, Look 2 (EdgeOn Left)) ∷ (0, Look 6 Key) ∷ (0, Look 6 (EdgeOn Left))
+    ∷ (0, Look 7 Key) ∷ (0, Look 7 (EdgeOn Right)) ∷ (0, Flag 6 Left 7) ∷ (0, Tag 6 Right)
     ∷ (0, Splice 2 Left 6 6 Right) ∷ (0, Sight) ∷ (0, LeaveWith true) ∷ []
 
 -- worker 1 goes on from 6 to 7
@@ -64,7 +67,8 @@ no_call = refl
 comes : WalkComes 4 (log_under_pin L turns 1) 7 6 Left
 unfolding trace_in after_in outcome_in next_in refused_in applied_in searched refusal reply write learn refused applied
 comes = record {
-  looks = (Look 2 (EdgeOn Left), EdgeIs (to 6)) ∷ (Look 6 Key, KeyIs infinity_0) ∷ (Look 6 (EdgeOn Left), EdgeIs flagged) ∷ [];
+  looks = (Look 2 (EdgeOn Left), EdgeIs (to 6)) ∷ (Look 6 Key, KeyIs infinity_0)
+      ∷ (Look 6 (EdgeOn Left), EdgeIs flagged) ∷ [];
   leads = leads_on (begins (to 6) (λ z. absurd (omega (arith, z)))) infinity_0 flagged (λ z. absurd (omega (arith, z)));
   is_part = takes (takes (takes nothing));
 }
@@ -85,25 +89,29 @@ R = in_radix (dense 15 1)
 -- a new internal node with that router over two slots, of which one is a new leaf with that key
 abbrev made : ℕ → ℕ → ℕ → ℕ → ℕ → ℕ → List (ℕ × Event)
 made new router left right leaf key =
-    (0, Claim new) ∷ (0, Fill new Birth 1) ∷ (0, Claim leaf) ∷ (0, Fill leaf Birth 1) ∷ (0, Fill new Key router) ∷ (0, Fill new (EdgeOn Left) left) ∷ (0, Fill new (EdgeOn Right) right)
+    (0, Claim new) ∷ (0, Fill new Birth 1) ∷ (0, Claim leaf) ∷ (0, Fill leaf Birth 1) ∷ (0, Fill new Key router)
+    ∷ (0, Fill new (EdgeOn Left) left) ∷ (0, Fill new (EdgeOn Right) right)
     ∷ (0, Fill leaf Key key) ∷ (0, Fill leaf (EdgeOn Left) 0) ∷ (0, Fill leaf (EdgeOn Right) 0) ∷ []
 
 -- 5: the router between it and the key of slot 3, 2^64 - 3, is 2^63
 abbrev five : List (ℕ × Event)
 five =
-    (0, Sight) ∷ (0, Announce) ∷ (0, SightFor Insert 5) ∷ (0, Look 2 (EdgeOn Left)) ∷ (0, Look 3 Key) ∷ (0, Look 3 (EdgeOn Left)) ∷ []
+    (0, Sight) ∷ (0, Announce) ∷ (0, SightFor Insert 5) ∷ (0, Look 2 (EdgeOn Left)) ∷ (0, Look 3 Key)
+    ∷ (0, Look 3 (EdgeOn Left)) ∷ []
     ++ (made 6 9223372036854775808 7 3 7 5 ++ (0, Link 2 Left 3 6) ∷ (0, LeaveWith true) ∷ [])
 
 -- 6: the router between 5 and 6 is 6, with the range from 4 to 7
 abbrev six : List (ℕ × Event)
 six =
-    (0, Announce) ∷ (0, SightFor Insert 6) ∷ (0, Look 2 (EdgeOn Left)) ∷ (0, Look 6 Key) ∷ (0, Look 6 (EdgeOn Left)) ∷ (0, Look 7 Key) ∷ (0, Look 7 (EdgeOn Right)) ∷ []
+    (0, Announce) ∷ (0, SightFor Insert 6) ∷ (0, Look 2 (EdgeOn Left)) ∷ (0, Look 6 Key) ∷ (0, Look 6 (EdgeOn Left))
+    ∷ (0, Look 7 Key) ∷ (0, Look 7 (EdgeOn Right)) ∷ []
     ++ (made 8 6 7 9 9 6 ++ (0, Link 6 Left 7 8) ∷ (0, LeaveWith true) ∷ [])
 
 -- 12 is not in that range: the router between is 8, with the range from 0 to 15
 abbrev twelve : List (ℕ × Event)
 twelve =
-    (0, Announce) ∷ (0, SightFor Insert 12) ∷ (0, Look 2 (EdgeOn Left)) ∷ (0, Look 6 Key) ∷ (0, Look 6 (EdgeOn Left)) ∷ (0, Look 8 Key) ∷ []
+    (0, Announce) ∷ (0, SightFor Insert 12) ∷ (0, Look 2 (EdgeOn Left)) ∷ (0, Look 6 Key) ∷ (0, Look 6 (EdgeOn Left))
+    ∷ (0, Look 8 Key) ∷ []
     ++ (made 10 8 8 11 11 12 ++ (0, Link 6 Left 8 10) ∷ (0, LeaveWith true) ∷ [])
 
 abbrev inserts : List (ℕ × Event)
@@ -127,7 +135,8 @@ keys_are = refl
 -- 7 is in the range of 8, so it may not be put above it
 abbrev seven : List (ℕ × Event)
 seven =
-    (0, Announce) ∷ (0, SightFor Insert 7) ∷ (0, Look 2 (EdgeOn Left)) ∷ (0, Look 6 Key) ∷ (0, Look 6 (EdgeOn Left)) ∷ (0, Look 8 Key) ∷ []
+    (0, Announce) ∷ (0, SightFor Insert 7) ∷ (0, Look 2 (EdgeOn Left)) ∷ (0, Look 6 Key) ∷ (0, Look 6 (EdgeOn Left))
+    ∷ (0, Look 8 Key) ∷ []
     ++ made 10 7 8 11 11 7
 
 not_above : outcome_in (after_in (ordered R) (five ++ (six ++ seven))) (0, Link 6 Left 8 10) ≡ Err NotOrdered

@@ -67,7 +67,8 @@ pub record HasCome (c : Configuration) (u k : ℕ) (a : Arrival) : Type 0 where
 -- in the shape of Natarajan and Mittal: if an internal node to which a walk came is reached now,
 -- the walk's key is in its interval now
 abbrev pub WalksStayInOrder : Configuration → Type 0
-WalksStayInOrder c = c.state.layout.radix ≡ false → (u k : ℕ) (a : Arrival) → HasCome c u k a → Reached c.state.memory a.slot
+WalksStayInOrder c = c.state.layout.radix ≡ false → (u k : ℕ) (a : Arrival) → HasCome c u k a
+    → Reached c.state.memory a.slot
     → is_leaf (node c.state.memory a.slot) ≡ false → InInterval c.state.memory k a.slot
 
 -- the key that a walk read at a slot is that slot's key now

@@ -37,7 +37,8 @@ module _ (L : Layout) (w : ℕ) (log : List Entry) (s : ℕ) (least : 6 ≤ s) (
     unfolding refusal
     may_give = record {
       looked = tt;
-      allowed = λ m h. passes_then (outside 6 L.nodes s) NoSlot (first (cond (is_private k s) [] (free_checks k s))) (not_outside 6 L.nodes s least most) (ap (λ (x : Bool). first (cond x [] (free_checks k s))) own);
+      allowed = λ m h. passes_then (outside 6 L.nodes s) NoSlot (first (cond (is_private k s) [] (free_checks k s)))
+          (not_outside 6 L.nodes s least most) (ap (λ (x : Bool). first (cond x [] (free_checks k s))) own);
       ordered = refl;
       births = tt;
       key = tt;
@@ -55,9 +56,11 @@ module _ (L : Layout) (w : ℕ) (log : List Entry) (s : ℕ) (least : 6 ≤ s) (
       key = tt;
     }
 
-    module _ (b : ℕ) (looked : (draft_of k s).looked ≡ Some b) (unborn : (draft_of k s).birth ≡ None) (below : b < last_number) where
+    module _ (b : ℕ) (looked : (draft_of k s).looked ≡ Some b) (unborn : (draft_of k s).birth ≡ None)
+        (below : b < last_number) where
       in_time : (n : ℕ) → n ≡ b → is_early (draft_of k s) Birth (b + 1) n ≡ false
-      in_time n is = ap (λ (o : Option ℕ). is_some o || not (b + 1 == n + 1)) unborn ∙ ap not (eq-eqb (b + 1) (n + 1) (omega arith))
+      in_time n is = ap (λ (o : Option ℕ). is_some o || not (b + 1 == n + 1)) unborn
+          ∙ ap not (eq-eqb (b + 1) (n + 1) (omega arith))
 
       unspent : (n : ℕ) → n ≡ b → (n == last_number) ≡ false
       unspent n is = ne_eqb n last_number (λ at. let less = below in omega arith)
@@ -66,9 +69,11 @@ module _ (L : Layout) (w : ℕ) (log : List Entry) (s : ℕ) (least : 6 ≤ s) (
       unfolding refusal
       may_raise = record {
         looked = ap is_some looked;
-        allowed = λ m h. passes_then (outside 6 L.nodes s || false) NoSlot _ (ap (λ (x : Bool). x || false) (not_outside 6 L.nodes s least most))
+        allowed = λ m h. passes_then (outside 6 L.nodes s || false) NoSlot _
+            (ap (λ (x : Bool). x || false) (not_outside 6 L.nodes s least most))
             (passes_then (not (is_private k s)) NotPrivate _ (ap not own)
-            (passes_then (is_early (draft_of k s) Birth (b + 1) (node m s).birth) NotReady _ (in_time (node m s).birth (h b looked))
+            (passes_then (is_early (draft_of k s) Birth (b + 1) (node m s).birth) NotReady _
+            (in_time (node m s).birth (h b looked))
             (passes_then ((node m s).birth == last_number) Spent None (unspent (node m s).birth (h b looked)) refl)));
         ordered = refl;
         births = tt;

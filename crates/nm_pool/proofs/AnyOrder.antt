@@ -26,13 +26,19 @@ among_down s from (suc n) low high =
       | inr less ↦ inr (among_down s from n low less)
     ]
 
-listed : (nodes from n : ℕ) (old new : List Entry) → 5 < from → from + n ≤ nodes + 1 → DoneInTurn PassedOver from n old new → DoneAt (PassedWithin nodes) (down from n) old new
+listed : (nodes from n : ℕ) (old new : List Entry) → 5 < from → from + n ≤ nodes + 1
+    → DoneInTurn PassedOver from n old new → DoneAt (PassedWithin nodes) (down from n) old new
 listed nodes from zero old new low high done = done
-listed nodes from (suc n) old new low high done = (done.0, listed nodes from n old done.0 low (omega (arith, high)) done.1, (omega (arith, low), omega (arith, high), done.2))
+listed nodes from (suc n) old new low high done = (
+  done.0,
+  listed nodes from n old done.0 low (omega (arith, high)) done.1,
+  (omega (arith, low), omega (arith, high), done.2),
+)
 
 -- ---- one list behind another
 
-joined : (Done : Doing) (xs ys : List ℕ) (old mid new : List Entry) → DoneAt Done xs old mid → DoneAt Done ys mid new → DoneAt Done (ys ++ xs) old new
+joined : (Done : Doing) (xs ys : List ℕ) (old mid new : List Entry) → DoneAt Done xs old mid → DoneAt Done ys mid new
+    → DoneAt Done (ys ++ xs) old new
 joined Done xs [] old mid new a b = subst (DoneAt Done xs old) (sym b) a
 joined Done xs (y ∷ ys) old mid new a b = (b.0, joined Done xs ys old mid b.0 a b.1, b.2)
 
@@ -47,13 +53,23 @@ among_right s (x ∷ xs) ys among = inr (among_right s xs ys among)
 
 -- ---- claims of few tries
 
-pub wider : (limit more nodes : ℕ) (old new : List Entry) (o : Option NodeId) → limit ≤ more → IsClaimOfFew limit nodes old new o → IsClaimOfFew more nodes old new o
+pub wider : (limit more nodes : ℕ) (old new : List Entry) (o : Option NodeId) → limit ≤ more
+    → IsClaimOfFew limit nodes old new o → IsClaimOfFew more nodes old new o
 wider limit more nodes old new None le p = let few = p.1 in (p.0, omega (arith, le, few), p.2)
 wider limit more nodes old new (Some n) le c =
     let few = c.few in
-    record { least = c.least; most = c.most; slots = c.slots; few = omega (arith, le, few); before = c.before; passed = c.passed; made = c.made }
+    record {
+      least = c.least;
+      most = c.most;
+      slots = c.slots;
+      few = omega (arith, le, few);
+      before = c.before;
+      passed = c.passed;
+      made = c.made;
+    }
 
-pub few_then : (a b nodes : ℕ) (old mid new : List Entry) (o : Option NodeId) → IsClaimOfFew a nodes old mid None → IsClaimOfFew b nodes mid new o → IsClaimOfFew (a + b) nodes old new o
+pub few_then : (a b nodes : ℕ) (old mid new : List Entry) (o : Option NodeId) → IsClaimOfFew a nodes old mid None
+    → IsClaimOfFew b nodes mid new o → IsClaimOfFew (a + b) nodes old new o
 few_then a b nodes old mid new None p q =
     let sum = length-append q.0 p.0 in
     let first = p.1 in
@@ -73,10 +89,15 @@ few_then a b nodes old mid new (Some n) p c =
       made = c.made;
     }
 
-pub few_between : (from to nodes : ℕ) (old new : List Entry) (o : Option NodeId) → 5 < from → from ≤ to → to ≤ nodes + 1 → IsClaimBetween from to old new o → IsClaimOfFew (to - from) nodes old new o
+pub few_between : (from to nodes : ℕ) (old new : List Entry) (o : Option NodeId) → 5 < from → from ≤ to
+    → to ≤ nodes + 1 → IsClaimBetween from to old new o → IsClaimOfFew (to - from) nodes old new o
 few_between from to nodes old new None low order high done =
-    let long = length-down from (to - from) in
-    (down from (to - from), omega (arith, long), listed nodes from (to - from) old new low (omega (arith, order, high)) done)
+    let long = length-down from (to - from) in (
+      down from (to - from),
+      omega (arith, long),
+      listed nodes from (to - from) old new low
+          (omega (arith, order, high)) done,
+    )
 few_between from to nodes old new (Some n) low order high c =
     let long = length-down from (n.slot - from) in
     let least = c.least in
@@ -92,32 +113,41 @@ few_between from to nodes old new (Some n) low order high c =
     }
 
 -- a claim from slot 6 on is one of the lowest
-pub is_lowest : (nodes : ℕ) (old new : List Entry) (o : Option NodeId) → IsClaimBetween 6 (nodes + 1) old new o → IsClaim nodes old new o
+pub is_lowest : (nodes : ℕ) (old new : List Entry) (o : Option NodeId) → IsClaimBetween 6 (nodes + 1) old new o
+    → IsClaim nodes old new o
 is_lowest nodes old new None done = done
-is_lowest nodes old new (Some n) c = let below = c.below in record { least = c.least; most = omega (arith, below); before = c.before; passed = c.passed; made = c.made }
+is_lowest nodes old new (Some n) c = let below = c.below in
+    record { least = c.least; most = omega (arith, below); before = c.before; passed = c.passed; made = c.made }
 
 -- a node that was made is that of an answer, since its birth was raised
 pub in_answer : (n : NodeId) (old new : List Entry) → MadeNew n old new → node_in n ≡ Some n
-in_answer n old new made = let raised = made.raised in cond-false (n.birth == 0) nothing (Some n) (ne_eqb n.birth 0 (λ none'. omega (arith, none', raised)))
+in_answer n old new made = let raised = made.raised in
+    cond-false (n.birth == 0) nothing (Some n) (ne_eqb n.birth 0 (λ none'. omega (arith, none', raised)))
   where
     nothing : Option NodeId
     nothing = None
 
 -- ---- near claims
 
-module _ (nodes first : ℕ) (old a : List Entry) (low : 5 < first) (high : first ≤ nodes) (few : IsClaimOfFew 1 nodes old a None) where
+module _ (nodes first : ℕ) (old a : List Entry) (low : 5 < first) (high : first ≤ nodes)
+    (few : IsClaimOfFew 1 nodes old a None) where
   -- behind a hint, upwards from the cursor
-  upwards : (b : List Entry) (o : Option NodeId) → IsClaimBetween first (nodes + 1) a b o → IsClaimOfFew (1 + (nodes + 1 - first)) nodes old b o
-  upwards b o up = few_then 1 (nodes + 1 - first) nodes old a b o few (few_between first (nodes + 1) nodes a b o low (omega (arith, high)) (omega arith) up)
+  upwards : (b : List Entry) (o : Option NodeId) → IsClaimBetween first (nodes + 1) a b o
+      → IsClaimOfFew (1 + (nodes + 1 - first)) nodes old b o
+  upwards b o up = few_then 1 (nodes + 1 - first) nodes old a b o few
+      (few_between first (nodes + 1) nodes a b o low (omega (arith, high)) (omega arith) up)
 
-  pub near_above : (b : List Entry) (n : NodeId) → IsClaimBetween first (nodes + 1) a b (Some n) → IsNearClaim nodes old b (Some n)
-  near_above b n up = wider (1 + (nodes + 1 - first)) nodes nodes old b (Some n) (omega (arith, low, high)) (upwards b (Some n) up)
+  pub near_above : (b : List Entry) (n : NodeId) → IsClaimBetween first (nodes + 1) a b (Some n)
+      → IsNearClaim nodes old b (Some n)
+  near_above b n up = wider (1 + (nodes + 1 - first)) nodes nodes old b (Some n) (omega (arith, low, high))
+      (upwards b (Some n) up)
 
   module _ (b new : List Entry) (up : IsClaimBetween first (nodes + 1) a b None) where
     pub near_below : (n : NodeId) → IsClaimBetween 6 first b new (Some n) → IsNearClaim nodes old new (Some n)
     near_below n around =
         wider (1 + (nodes + 1 - first) + (first - 6)) nodes nodes old new (Some n) (omega (arith, low, high))
-        (few_then (1 + (nodes + 1 - first)) (first - 6) nodes old b new (Some n) (upwards b None up) (few_between 6 first nodes b new (Some n) (omega arith) (omega (arith, low)) (omega (arith, high)) around))
+        (few_then (1 + (nodes + 1 - first)) (first - 6) nodes old b new (Some n) (upwards b None up)
+        (few_between 6 first nodes b new (Some n) (omega arith) (omega (arith, low)) (omega (arith, high)) around))
 
     pub near_nowhere : IsClaimBetween 6 first b new None → IsNearClaim nodes old new None
     near_nowhere around =
@@ -132,10 +162,13 @@ module _ (nodes first : ℕ) (old a : List Entry) (low : 5 < first) (high : firs
           slots = below ++ (above ++ few.0);
           few = omega (arith, low, high, long_above, long_below, sum, part, one);
           all = λ s least most. elim (cases_lt s first) [
-            | inl less ↦ among_left s below (above ++ few.0) (among_down s 6 (first - 6) least (omega (arith, less, low)))
-            | inr more ↦ among_right s below (above ++ few.0) (among_left s above few.0 (among_down s first (nodes + 1 - first) more (omega (arith, most, high))))
+            | inl less ↦ among_left s below (above ++ few.0)
+                (among_down s 6 (first - 6) least (omega (arith, less, low)))
+            | inr more ↦ among_right s below (above ++ few.0)
+                (among_left s above few.0 (among_down s first (nodes + 1 - first) more (omega (arith, most, high))))
           ];
           passed = joined (PassedWithin nodes) (above ++ few.0) below old b new
-              (joined (PassedWithin nodes) few.0 above old a b few.2 (listed nodes first (nodes + 1 - first) a b low (omega (arith, high)) up))
+              (joined (PassedWithin nodes) few.0 above old a b few.2
+              (listed nodes first (nodes + 1 - first) a b low (omega (arith, high)) up))
               (listed nodes 6 (first - 6) b new (omega arith) (omega (arith, low, high)) around);
         }

@@ -21,7 +21,8 @@ use Rattle.nm_pool.specs.Claims.{Doing, DoneBelow, LearnsSlots}
 -- ---- lists of slots
 
 -- one slot more
-pub one_more : (Done : Doing) (from s : ℕ) (old mid new : List Entry) → from ≤ s → DoneBelow Done from s old mid → Done s mid new → DoneBelow Done from (s + 1) old new
+pub one_more : (Done : Doing) (from s : ℕ) (old mid new : List Entry) → from ≤ s → DoneBelow Done from s old mid
+    → Done s mid new → DoneBelow Done from (s + 1) old new
 one_more Done from s old mid new le each here =
     let count : s + 1 - from ≡ suc (s - from) = omega arith in
     let last : from + (s - from) ≡ s = omega arith in
@@ -35,26 +36,35 @@ with_draft k s d = record k { drafts = put k.drafts s d }
 after_taken : (p q : PassView) (s : ℕ) → Stepped p q (Claim s) Taken → knowledge q.view ≡ knowledge p.view
 after_taken p q s is = known_after_step p q (Claim s) Taken is ∙ learn_taken p.view.number (knowledge p.view) s
 
-after_claimed : (p q : PassView) (s t : ℕ) → Stepped p q (Claim s) (Claimed t) → knowledge q.view ≡ with_draft (knowledge p.view) s unfilled
-after_claimed p q s t is = known_after_step p q (Claim s) (Claimed t) is ∙ learn_claimed p.view.number (knowledge p.view) s t
+after_claimed : (p q : PassView) (s t : ℕ) → Stepped p q (Claim s) (Claimed t)
+    → knowledge q.view ≡ with_draft (knowledge p.view) s unfilled
+after_claimed p q s t is = known_after_step p q (Claim s) (Claimed t) is
+    ∙ learn_claimed p.view.number (knowledge p.view) s t
 
-after_returned : (p q : PassView) (s t : ℕ) → Stepped p q (Give s) (Returned t) → knowledge q.view ≡ record (knowledge p.view) { drafts = without (knowledge p.view).drafts s }
-after_returned p q s t is = known_after_step p q (Give s) (Returned t) is ∙ learn_returned p.view.number (knowledge p.view) s t
+after_returned : (p q : PassView) (s t : ℕ) → Stepped p q (Give s) (Returned t)
+    → knowledge q.view ≡ record (knowledge p.view) { drafts = without (knowledge p.view).drafts s }
+after_returned p q s t is = known_after_step p q (Give s) (Returned t) is
+    ∙ learn_returned p.view.number (knowledge p.view) s t
 
-after_look : (p q : PassView) (s b : ℕ) → is_private (knowledge p.view) s ≡ true → Stepped p q (Look s Birth) (BirthIs b)
+after_look : (p q : PassView) (s b : ℕ) → is_private (knowledge p.view) s ≡ true
+    → Stepped p q (Look s Birth) (BirthIs b)
     → knowledge q.view ≡ with_draft (knowledge p.view) s (record (draft_of (knowledge p.view) s) { looked = Some b })
 after_look p q s b own is =
     known_after_step p q (Look s Birth) (BirthIs b) is
     ∙ (learn_look p.view.number (knowledge p.view) s Birth (BirthIs b)
-    ∙ cond-true (is_private (knowledge p.view) s) (look_private (knowledge p.view) s Birth (BirthIs b)) (look_known (knowledge p.view) s Birth (BirthIs b)) own)
+    ∙ cond-true (is_private (knowledge p.view) s) (look_private (knowledge p.view) s Birth (BirthIs b))
+    (look_known (knowledge p.view) s Birth (BirthIs b)) own)
 
-after_filled : (p q : PassView) (s v : ℕ) → Stepped p q (Fill s Birth v) Filled → knowledge q.view ≡ with_draft (knowledge p.view) s (filled_in (draft_of (knowledge p.view) s) Birth v)
-after_filled p q s v is = known_after_step p q (Fill s Birth v) Filled is ∙ learn_filled p.view.number (knowledge p.view) s Birth v
+after_filled : (p q : PassView) (s v : ℕ) → Stepped p q (Fill s Birth v) Filled
+    → knowledge q.view ≡ with_draft (knowledge p.view) s (filled_in (draft_of (knowledge p.view) s) Birth v)
+after_filled p q s v is = known_after_step p q (Fill s Birth v) Filled is
+    ∙ learn_filled p.view.number (knowledge p.view) s Birth v
 
 -- ---- the layout
 
 -- a slot of the table's range is one of the pass's
-pub within_pass : (b : TreeView) (p q : PassView) (s : ℕ) → IsOf b p → IsSamePass p q → s ≤ b.layout.nodes → s ≤ q.view.layout.nodes
+pub within_pass : (b : TreeView) (p q : PassView) (s : ℕ) → IsOf b p → IsSamePass p q → s ≤ b.layout.nodes
+    → s ≤ q.view.layout.nodes
 within_pass b p q s own same most = rw (ap (λ (x : PassView). x.view.layout) same ∙ own.layout) most
 
 -- ---- drafts
@@ -78,19 +88,24 @@ has_draft k l s d is = ap (λ (x : Knowledge). get x.drafts s) is ∙ put_there 
 abbrev pub looked_at : ℕ → Draft
 looked_at b = record unfilled { looked = Some b }
 
-pub claimed_draft : (p q : PassView) (s t : ℕ) → Stepped p q (Claim s) (Claimed t) → HasDraft (knowledge q.view) s unfilled
+pub claimed_draft : (p q : PassView) (s t : ℕ) → Stepped p q (Claim s) (Claimed t)
+    → HasDraft (knowledge q.view) s unfilled
 claimed_draft p q s t is = has_draft (knowledge p.view) (knowledge q.view) s unfilled (after_claimed p q s t is)
 
-pub looked_draft : (p q : PassView) (s b : ℕ) → HasDraft (knowledge p.view) s unfilled → Stepped p q (Look s Birth) (BirthIs b) → HasDraft (knowledge q.view) s (looked_at b)
+pub looked_draft : (p q : PassView) (s b : ℕ) → HasDraft (knowledge p.view) s unfilled
+    → Stepped p q (Look s Birth) (BirthIs b) → HasDraft (knowledge q.view) s (looked_at b)
 looked_draft p q s b had is =
     has_draft (knowledge p.view) (knowledge q.view) s (looked_at b)
     (after_look p q s b (private_of (knowledge p.view) s unfilled had) is
-    ∙ ap (λ (d : Draft). with_draft (knowledge p.view) s (record d { looked = Some b })) (draft_is (knowledge p.view) s unfilled had))
+    ∙ ap (λ (d : Draft). with_draft (knowledge p.view) s (record d { looked = Some b }))
+    (draft_is (knowledge p.view) s unfilled had))
 
-pub filled_draft : (p q : PassView) (s b v : ℕ) → HasDraft (knowledge p.view) s (looked_at b) → Stepped p q (Fill s Birth v) Filled → HasDraft (knowledge q.view) s (record unfilled { birth = Some v })
+pub filled_draft : (p q : PassView) (s b v : ℕ) → HasDraft (knowledge p.view) s (looked_at b)
+    → Stepped p q (Fill s Birth v) Filled → HasDraft (knowledge q.view) s (record unfilled { birth = Some v })
 filled_draft p q s b v had is =
     has_draft (knowledge p.view) (knowledge q.view) s (record unfilled { birth = Some v })
-    (after_filled p q s v is ∙ ap (λ (d : Draft). with_draft (knowledge p.view) s (filled_in d Birth v)) (draft_is (knowledge p.view) s (looked_at b) had))
+    (after_filled p q s v is ∙ ap (λ (d : Draft). with_draft (knowledge p.view) s (filled_in d Birth v))
+    (draft_is (knowledge p.view) s (looked_at b) had))
 
 pub looked_is : (k : Knowledge) (s b : ℕ) → HasDraft k s (looked_at b) → (draft_of k s).looked ≡ Some b
 looked_is k s b has = ap (λ (d : Draft). d.looked) (draft_is k s (looked_at b) has)
@@ -105,8 +120,10 @@ without_other : (m : List (ℕ × Draft)) (s q : ℕ) → q ≢ s → get (witho
 without_other [] s q ne = refl
 without_other (e ∷ es) s q ne = by (is_eq (nat_cmp s e.0)) (at_eqb s e.0) (without_other es s q ne)
   where
-    by : (b : Bool) → b ≡ eqb s e.0 → get (without es s) q ≡ get es q → get (cond b es (e ∷ without es s)) q ≡ get (e ∷ es) q
-    by true is later = sym (ap (λ (b : Bool). cond b (Some e.1) (get es q)) (at_eqb q e.0) ∙ cond-false (eqb q e.0) (Some e.1) (get es q) (ne_eqb q e.0 (λ at. ne (at ∙ sym (eqb-true s e.0 (sym is))))))
+    by : (b : Bool) → b ≡ eqb s e.0 → get (without es s) q ≡ get es q
+        → get (cond b es (e ∷ without es s)) q ≡ get (e ∷ es) q
+    by true is later = sym (ap (λ (b : Bool). cond b (Some e.1) (get es q)) (at_eqb q e.0)
+        ∙ cond-false (eqb q e.0) (Some e.1) (get es q) (ne_eqb q e.0 (λ at. ne (at ∙ sym (eqb-true s e.0 (sym is))))))
     by false is later = ap (cond (is_eq (nat_cmp q e.0)) (Some e.1)) later
 
 pub put_another : (m : List (ℕ × Draft)) (s : ℕ) (d : Draft) (q : ℕ) → q ≢ s → get (put m s d) q ≡ get m q
@@ -121,7 +138,8 @@ pub record LearnsOf (t : ℕ) (before after : Knowledge) : Type 0 where
   pub gone : after.gone ≡ before.gone
   pub others : (s : ℕ) → s ≢ t → get after.drafts s ≡ get before.drafts s
 
-learns_drafts : (t : ℕ) (k l : Knowledge) (m : List (ℕ × Draft)) → l ≡ record k { drafts = m } → ((s : ℕ) → s ≢ t → get m s ≡ get k.drafts s) → LearnsOf t k l
+learns_drafts : (t : ℕ) (k l : Knowledge) (m : List (ℕ × Draft)) → l ≡ record k { drafts = m }
+    → ((s : ℕ) → s ≢ t → get m s ≡ get k.drafts s) → LearnsOf t k l
 learns_drafts t k l m is others = record {
   brief = ap (λ (x : Knowledge). x.brief) is;
   scanned = ap (λ (x : Knowledge). x.scanned) is;
@@ -134,16 +152,21 @@ learns_drafts t k l m is others = record {
 learns_put : (t : ℕ) (k l : Knowledge) (d : Draft) → l ≡ with_draft k t d → LearnsOf t k l
 learns_put t k l d is = learns_drafts t k l (put k.drafts t d) is (put_another k.drafts t d)
 
-pub learns_claim : (p q : PassView) (s t : ℕ) → Stepped p q (Claim s) (Claimed t) → LearnsOf s (knowledge p.view) (knowledge q.view)
+pub learns_claim : (p q : PassView) (s t : ℕ) → Stepped p q (Claim s) (Claimed t)
+    → LearnsOf s (knowledge p.view) (knowledge q.view)
 learns_claim p q s t is = learns_put s (knowledge p.view) (knowledge q.view) _ (after_claimed p q s t is)
 
-pub learns_give : (p q : PassView) (s t : ℕ) → Stepped p q (Give s) (Returned t) → LearnsOf s (knowledge p.view) (knowledge q.view)
-learns_give p q s t is = learns_drafts s (knowledge p.view) (knowledge q.view) _ (after_returned p q s t is) (without_other (knowledge p.view).drafts s)
+pub learns_give : (p q : PassView) (s t : ℕ) → Stepped p q (Give s) (Returned t)
+    → LearnsOf s (knowledge p.view) (knowledge q.view)
+learns_give p q s t is = learns_drafts s (knowledge p.view) (knowledge q.view) _ (after_returned p q s t is)
+    (without_other (knowledge p.view).drafts s)
 
-pub learns_look : (p q : PassView) (s b : ℕ) → is_private (knowledge p.view) s ≡ true → Stepped p q (Look s Birth) (BirthIs b) → LearnsOf s (knowledge p.view) (knowledge q.view)
+pub learns_look : (p q : PassView) (s b : ℕ) → is_private (knowledge p.view) s ≡ true
+    → Stepped p q (Look s Birth) (BirthIs b) → LearnsOf s (knowledge p.view) (knowledge q.view)
 learns_look p q s b own is = learns_put s (knowledge p.view) (knowledge q.view) _ (after_look p q s b own is)
 
-pub learns_fill : (p q : PassView) (s v : ℕ) → Stepped p q (Fill s Birth v) Filled → LearnsOf s (knowledge p.view) (knowledge q.view)
+pub learns_fill : (p q : PassView) (s v : ℕ) → Stepped p q (Fill s Birth v) Filled
+    → LearnsOf s (knowledge p.view) (knowledge q.view)
 learns_fill p q s v is = learns_put s (knowledge p.view) (knowledge q.view) _ (after_filled p q s v is)
 
 pub of_both : (t : ℕ) (k l m : Knowledge) → LearnsOf t k l → LearnsOf t l m → LearnsOf t k m
@@ -167,7 +190,8 @@ learns_of t k l new a = record {
   kept = λ s own. a.others s (λ at. true≢false (sym own ∙ (ap (is_private k) at ∙ new)));
 }
 
-pub learns_taken : (p q : PassView) (s : ℕ) → Stepped p q (Claim s) Taken → LearnsSlots (knowledge p.view) (knowledge q.view)
+pub learns_taken : (p q : PassView) (s : ℕ) → Stepped p q (Claim s) Taken
+    → LearnsSlots (knowledge p.view) (knowledge q.view)
 learns_taken p q s step =
     let is : knowledge q.view ≡ knowledge p.view = after_taken p q s step in
     record {

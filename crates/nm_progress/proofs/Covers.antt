@@ -36,12 +36,18 @@ module _ (Was Is : ℕ → Type 0) (added taken : Bool) where
     pub covers : (x : ℕ) → Is x → In list x
     pub paid : length list + one_if taken ≤ length slots + one_if added
 
-  pub next_list : (added ≡ true → taken ≡ false) → (added ≡ true → (new : ℕ) × ((x : ℕ) → Is x → (x ≡ new) ⊎ Was x)) → (added ≡ false → taken ≡ true → (gone : ℕ) × Was gone × ((x : ℕ) → Is x → (x ≢ gone) × Was x))
+  pub next_list : (added ≡ true → taken ≡ false) → (added ≡ true → (new : ℕ) × ((x : ℕ) → Is x → (x ≡ new) ⊎ Was x))
+      → (added ≡ false → taken ≡ true → (gone : ℕ) × Was gone × ((x : ℕ) → Is x → (x ≢ gone) × Was x))
       → (added ≡ false → (x : ℕ) → Is x → Was x) → (slots : List ℕ) → ((x : ℕ) → Was x → In slots x) → NextList slots
   next_list apart adds takes stays slots covers = go added refl taken refl
     where
       go : (a : Bool) → added ≡ a → (b : Bool) → taken ≡ b → NextList slots
-      go true adding b taking = record { list = new.0 ∷ slots; covers = λ x is. on x (new.1 x is); paid = let one = ap one_if adding in let none = ap one_if (apart adding) in omega (arith, one, none) }
+      go true adding b taking = record {
+        list = new.0 ∷ slots;
+        covers = λ x is. on x (new.1 x is);
+        paid =
+            let one = ap one_if adding in let none = ap one_if (apart adding) in omega (arith, one, none);
+      }
         where
           new : (new : ℕ) × ((x : ℕ) → Is x → (x ≡ new) ⊎ Was x)
           new = adds adding
@@ -49,11 +55,22 @@ module _ (Was Is : ℕ → Type 0) (added taken : Bool) where
           on : (x : ℕ) → (x ≡ new.0) ⊎ Was x → (x ≡ new.0) ⊎ In slots x
           on x (inl at) = inl at
           on x (inr was) = inr (covers x was)
-      go false adding true taking = record { list = w.rest; covers = λ x is. let b = gone.2 x is in w.others x b.0 (covers x b.1); paid = let one = ap one_if taking in let size = w.shorter in omega (arith, one, size) }
+      go false adding true taking = record {
+        list = w.rest;
+        covers = λ x is. let b = gone.2 x is in
+            w.others x b.0 (covers x b.1);
+        paid = let one = ap one_if taking in let size = w.shorter in
+            omega (arith, one, size);
+      }
         where
           gone : (gone : ℕ) × Was gone × ((x : ℕ) → Is x → (x ≢ gone) × Was x)
           gone = takes adding taking
 
           w : Without slots gone.0
           w = taken_out slots gone.0 (covers gone.0 gone.1)
-      go false adding false taking = record { list = slots; covers = λ x is. covers x (stays adding x is); paid = let none = ap one_if taking in omega (arith, none) }
+      go false adding false taking = record {
+        list = slots;
+        covers = λ x is. covers x (stays adding x is);
+        paid =
+            let none = ap one_if taking in omega (arith, none);
+      }

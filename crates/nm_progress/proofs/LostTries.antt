@@ -37,14 +37,16 @@ use Rattle.nm_progress.proofs.EdgeFates.TurnFate.{Refuses, Makes}
 -- ---- lists
 
 -- the keys of a later part of a run
-pub later_keys : (before since : List (ℕ × Event)) → All (λ t. HasKey t.1) (before ++ since) → All (λ t. HasKey t.1) since
+pub later_keys : (before since : List (ℕ × Event)) → All (λ t. HasKey t.1) (before ++ since)
+    → All (λ t. HasKey t.1) since
 later_keys [] since keys = keys
 later_keys (t ∷ ts) since keys = later_keys ts since (λ i d below. keys (suc i) d (omega (arith, below)))
 
 -- ---- what a worker answered
 
 -- the reply of a turn that was answered
-pub answered_so : (c : Configuration) (w : ℕ) (e : Event) (r : Reply) → outcome_in c (w, e) ≡ Ok r → (refused_in c w e ≡ None) × (reply_of c.state w e ≡ r)
+pub answered_so : (c : Configuration) (w : ℕ) (e : Event) (r : Reply) → outcome_in c (w, e) ≡ Ok r
+    → (refused_in c w e ≡ None) × (reply_of c.state w e ≡ r)
 answered_so c w e r is = go (refused_in c w e) refl
   where
     go : (q : Option Refused) → refused_in c w e ≡ q → (refused_in c w e ≡ None) × (reply_of c.state w e ≡ r)
@@ -59,21 +61,26 @@ same_edge : (a b : Edge) → EdgeIs a ≡ EdgeIs b → a ≡ b
 same_edge a b e = cc
 
 -- an exchange whose edge is the one that it expects is not lost
-pub never_lost : (s : State) (w x : ℕ) (d : Side) (v : ℕ) (e : Event) (found : Edge) → Expects x d v e → edge s.memory x d ≡ to v → reply_of s w e ≡ Lost found → ⊥
+pub never_lost : (s : State) (w x : ℕ) (d : Side) (v : ℕ) (e : Event) (found : Edge) → Expects x d v e
+    → edge s.memory x d ≡ to v → reply_of s w e ≡ Lost found → ⊥
 unfolding reply
-never_lost s w x d v _ found (ToLink new) is lost = by (is_to (edge s.memory x d) v) (ap (λ (e : Edge). is_to e v) is ∙ and_from (v == v) true (eq-eqb v v refl) refl) lost
+never_lost s w x d v _ found (ToLink new) is lost = by (is_to (edge s.memory x d) v)
+    (ap (λ (e : Edge). is_to e v) is ∙ and_from (v == v) true (eq-eqb v v refl) refl) lost
   where
     by : (b : Bool) → b ≡ true → cond b (Linked (node_linked (of s w) new)) (Lost (edge s.memory x d)) ≡ Lost found → ⊥
     by true t e = cc
     by false t e = true≢false (sym t)
-never_lost s w x d v _ found ToFlag is lost = by (is_to (edge s.memory x d) v) (ap (λ (e : Edge). is_to e v) is ∙ and_from (v == v) true (eq-eqb v v refl) refl) lost
+never_lost s w x d v _ found ToFlag is lost = by (is_to (edge s.memory x d) v)
+    (ap (λ (e : Edge). is_to e v) is ∙ and_from (v == v) true (eq-eqb v v refl) refl) lost
   where
     by : (b : Bool) → b ≡ true → cond b (Flagged (named s.memory v)) (Lost (edge s.memory x d)) ≡ Lost found → ⊥
     by true t e = cc
     by false t e = true≢false (sym t)
-never_lost s w x d v _ found (ToCut p keep) is lost = by (is_to (edge s.memory x d) v) (ap (λ (e : Edge). is_to e v) is ∙ and_from (v == v) true (eq-eqb v v refl) refl) lost
+never_lost s w x d v _ found (ToCut p keep) is lost = by (is_to (edge s.memory x d) v)
+    (ap (λ (e : Edge). is_to e v) is ∙ and_from (v == v) true (eq-eqb v v refl) refl) lost
   where
-    by : (b : Bool) → b ≡ true → cond b (Cut (cut_nodes s.layout s.memory (of s w) v p keep)) (Lost (edge s.memory x d)) ≡ Lost found → ⊥
+    by : (b : Bool) → b ≡ true → cond b (Cut (cut_nodes s.layout s.memory (of s w) v p keep))
+        (Lost (edge s.memory x d)) ≡ Lost found → ⊥
     by true t e = cc
     by false t e = true≢false (sym t)
 never_lost s w x d v _ found (ToSwap new) is lost =
@@ -88,18 +95,30 @@ never_lost s w x d v _ found (ToSwap new) is lost =
 
 module _ (L : Layout) (enough : 5 ≤ L.nodes) (w x : ℕ) (d : Side) (v : ℕ) where
   -- what a worker knows is private to nobody
-  pub not_private : (c : Configuration) → IsOrdered L c → knows (of c.state w) x ≡ true → (u : ℕ) → is_private (of c.state u) x ≡ false
+  pub not_private : (c : Configuration) → IsOrdered L c → knows (of c.state w) x ≡ true → (u : ℕ)
+      → is_private (of c.state u) x ≡ false
   not_private c o known u = let l = law_of_state L enough c o in (live_then c.state l.0 l.1 w x known).shared u
 
-  changed_or_not : (c : Configuration) (t : ℕ × Event) → IsOrdered L c → knows (of c.state w) x ≡ true → edge c.state.memory x d ≡ to v → (changes x d t.1 (outcome_in c t) ≡ true) ⊎ (edge (next_in c t).state.memory x d ≡ to v)
+  changed_or_not : (c : Configuration) (t : ℕ × Event) → IsOrdered L c → knows (of c.state w) x ≡ true
+      → edge c.state.memory x d ≡ to v → (changes x d t.1 (outcome_in c t) ≡ true)
+      ⊎ (edge (next_in c t).state.memory x d ≡ to v)
   changed_or_not c t o known is = by (turn_fates L enough c t o x d (not_private c o known t.0))
     where
-      on : (r : Reply) → outcome_in c t ≡ Ok r → EdgeFate c.state t.0 t.1 (next_in c t).state.memory r x d → (changes x d t.1 (outcome_in c t) ≡ true) ⊎ (edge (next_in c t).state.memory x d ≡ to v)
+      on : (r : Reply) → outcome_in c t ≡ Ok r → EdgeFate c.state t.0 t.1 (next_in c t).state.memory r x d
+          → (changes x d t.1 (outcome_in c t) ≡ true) ⊎ (edge (next_in c t).state.memory x d ≡ to v)
       on r told (Kept same) = inr (same ∙ is)
-      on r told (IsLinked leaf new n event reply was now) = inl ((λ i. changes x d (event i) (told i)) ∙ (ap (λ (r : Reply). changes x d (Link x d leaf new) (Ok r)) reply ∙ same_place x d))
-      on r told (IsFlagged leaf n event reply was now) = inl ((λ i. changes x d (event i) (told i)) ∙ (ap (λ (r : Reply). changes x d (Flag x d leaf) (Ok r)) reply ∙ same_place x d))
-      on r told (IsTagged event reply now) = inl ((λ i. changes x d (event i) (told i)) ∙ (ap (λ (r : Reply). changes x d (Tag x d) (Ok r)) (reply ∙ ap (λ (e : Edge). Was e) is) ∙ and_from (is_at x d x d) true (same_place x d) refl))
-      on r told (IsSpliced y p keep ns event reply was now) = inl ((λ i. changes x d (event i) (told i)) ∙ (ap (λ (r : Reply). changes x d (Splice x d y p keep) (Ok r)) reply ∙ same_place x d))
+      on r told (IsLinked leaf new n event reply was now) = inl
+          ((λ i. changes x d (event i) (told i)) ∙ (ap (λ (r : Reply). changes x d (Link x d leaf new) (Ok r)) reply
+          ∙ same_place x d))
+      on r told (IsFlagged leaf n event reply was now) = inl
+          ((λ i. changes x d (event i) (told i)) ∙ (ap (λ (r : Reply). changes x d (Flag x d leaf) (Ok r)) reply
+          ∙ same_place x d))
+      on r told (IsTagged event reply now) = inl ((λ i. changes x d (event i) (told i))
+          ∙ (ap (λ (r : Reply). changes x d (Tag x d) (Ok r)) (reply ∙ ap (λ (e : Edge). Was e) is)
+          ∙ and_from (is_at x d x d) true (same_place x d) refl))
+      on r told (IsSpliced y p keep ns event reply was now) = inl
+          ((λ i. changes x d (event i) (told i)) ∙ (ap (λ (r : Reply). changes x d (Splice x d y p keep) (Ok r)) reply
+          ∙ same_place x d))
       on r told (IsSwapped leaf new ns event reply was now) =
           inl ((λ i. changes x d (event i) (told i))
           ∙ (ap (λ (r : Reply). changes x d (Swap x d leaf new) (Ok r)) reply ∙ same_place x d))
@@ -109,7 +128,8 @@ module _ (L : Layout) (enough : 5 ≤ L.nodes) (w x : ℕ) (d : Side) (v : ℕ) 
       by (Makes r told fate) = on r told fate
 
   -- a turn that is one of w's own stands in its log
-  own_change : (c : Configuration) (t : ℕ × Event) → changes x d t.1 (outcome_in c t) ≡ true → t.0 ≡ w → list_any (is_change x d) (entries w c t) ≡ false → ⊥
+  own_change : (c : Configuration) (t : ℕ × Event) → changes x d t.1 (outcome_in c t) ≡ true → t.0 ≡ w
+      → list_any (is_change x d) (entries w c t) ≡ false → ⊥
   own_change c t changed own none = by (outcome_in c t) refl changed
     where
       refused_changes : (e : Event) (q : Refused) → changes x d e (Err q) ≡ true → ⊥
@@ -122,43 +142,80 @@ module _ (L : Layout) (enough : 5 ≤ L.nodes) (w x : ℕ) (d : Side) (v : ℕ) 
 
       by : (o : Result Reply Refused) → outcome_in c t ≡ o → changes x d t.1 o ≡ true → ⊥
       by (Err q) told is = refused_changes t.1 q is
-      by (Ok r) told is = true≢false (sym is ∙ (or_parts (changes x d t.1 (Ok r)) false (sym (ap (list_any (is_change x d)) (allowed_entries w c t r told ∙ ap (λ (b : Bool). cond b ((t.1, r) ∷ []) []) (eq-eqb t.0 w own))) ∙ none)).0)
+      by (Ok r) told is = true≢false (sym is ∙ (or_parts (changes x d t.1 (Ok r)) false
+          (sym (ap (list_any (is_change x d)) (allowed_entries w c t r told
+          ∙ ap (λ (b : Bool). cond b ((t.1, r) ∷ []) []) (eq-eqb t.0 w own))) ∙ none)).0)
 
   -- the edge is as it was, or another worker has changed it
-  pub stays_or_changed : (ts : List (ℕ × Event)) → All (λ t. HasKey t.1) ts → (c : Configuration) → IsOrdered L c → knows (of c.state w) x ≡ true → edge c.state.memory x d ≡ to v → PinStands w (trace_in c ts) → list_any (is_change x d) (log_of w (trace_in c ts)) ≡ false
+  pub stays_or_changed : (ts : List (ℕ × Event)) → All (λ t. HasKey t.1) ts → (c : Configuration) → IsOrdered L c
+      → knows (of c.state w) x ≡ true → edge c.state.memory x d ≡ to v → PinStands w (trace_in c ts)
+      → list_any (is_change x d) (log_of w (trace_in c ts)) ≡ false
       → IsChangedByAnother c ts w x d v ⊎ (edge (after_in c ts).state.memory x d ≡ to v)
   unfolding after_in trace_in
   stays_or_changed [] keys c o known is stands none = inr is
-  stays_or_changed (t ∷ ts) keys c o known is stands none = by (changed_or_not c t o known is) (stays_or_changed ts (λ i e below. keys (suc i) e (omega (arith, below))) (next_in c t) (ordered_next L enough c t (keys 0 t (omega arith)) o))
+  stays_or_changed (t ∷ ts) keys c o known is stands none = by (changed_or_not c t o known is)
+      (stays_or_changed ts (λ i e below. keys (suc i) e (omega (arith, below))) (next_in c t)
+      (ordered_next L enough c t (keys 0 t (omega arith)) o))
     where
       pins : (list_any begins_anew (entries w c t) ≡ false) × PinStands w (trace_in (next_in c t) ts)
       pins = stands_parts L w c t ts stands
 
-      nones : (list_any (is_change x d) (entries w c t) ≡ false) × (list_any (is_change x d) (log_of w (trace_in (next_in c t) ts)) ≡ false)
-      nones = or_parts (list_any (is_change x d) (entries w c t)) (list_any (is_change x d) (log_of w (trace_in (next_in c t) ts))) (sym (list_any-append (is_change x d) (entries w c t) (log_of w (trace_in (next_in c t) ts))) ∙ none)
+      nones : (list_any (is_change x d) (entries w c t) ≡ false)
+          × (list_any (is_change x d) (log_of w (trace_in (next_in c t) ts)) ≡ false)
+      nones = or_parts (list_any (is_change x d) (entries w c t))
+          (list_any (is_change x d) (log_of w (trace_in (next_in c t) ts)))
+          (sym (list_any-append (is_change x d) (entries w c t) (log_of w (trace_in (next_in c t) ts))) ∙ none)
 
       longer : IsChangedByAnother (next_in c t) ts w x d v → IsChangedByAnother c (t ∷ ts) w x d v
-      longer b = record { before = t ∷ b.before; turn = b.turn; since = b.since; is_run = ap (λ (l : List (ℕ × Event)). t ∷ l) b.is_run; another = b.another; was = b.was; changes = b.changes }
+      longer b = record {
+        before = t ∷ b.before;
+        turn = b.turn;
+        since = b.since;
+        is_run = ap
+            (λ (l : List (ℕ × Event)). t ∷ l) b.is_run;
+        another = b.another;
+        was = b.was;
+        changes = b.changes;
+      }
 
       by : (changes x d t.1 (outcome_in c t) ≡ true) ⊎ (edge (next_in c t).state.memory x d ≡ to v)
-          → (knows (of (next_in c t).state w) x ≡ true → edge (next_in c t).state.memory x d ≡ to v → PinStands w (trace_in (next_in c t) ts) → list_any (is_change x d) (log_of w (trace_in (next_in c t) ts)) ≡ false → IsChangedByAnother (next_in c t) ts w x d v ⊎ (edge (after_in (next_in c t) ts).state.memory x d ≡ to v))
+          → (knows (of (next_in c t).state w) x ≡ true → edge (next_in c t).state.memory x d ≡ to v
+          → PinStands w (trace_in (next_in c t) ts) → list_any (is_change x d)
+          (log_of w (trace_in (next_in c t) ts)) ≡ false
+          → IsChangedByAnother (next_in c t) ts w x d v ⊎ (edge (after_in (next_in c t) ts).state.memory x d ≡ to v))
           → IsChangedByAnother c (t ∷ ts) w x d v ⊎ (edge (after_in (next_in c t) ts).state.memory x d ≡ to v)
-      by (inl changed) rest = inl (record { before = []; turn = t; since = ts; is_run = refl; another = λ own. own_change c t changed own nones.0; was = is; changes = changed })
+      by (inl changed) rest = inl (record {
+        before = [];
+        turn = t;
+        since = ts;
+        is_run = refl;
+        another = λ own.
+            own_change c t changed own nones.0;
+        was = is;
+        changes = changed;
+      })
       by (inr same) rest = elim (rest (known_still L enough c t o w x pins.0 known) same pins.1 nones.1) [
         | inl b ↦ inl (longer b)
         | inr e ↦ inr e
       ]
 
 -- a look that answered an edge without a mark leaves that edge, and what its worker knows
-pub look_leaves : (L : Layout) (enough : 5 ≤ L.nodes) (c : Configuration) (o : IsOrdered L c) (w x : ℕ) (d : Side) (v : ℕ) → knows (of c.state w) x ≡ true → outcome_in c (w, Look x (EdgeOn d)) ≡ Ok (EdgeIs (to v))
-    → (knows (of (next_in c (w, Look x (EdgeOn d))).state w) x ≡ true) × (edge (next_in c (w, Look x (EdgeOn d))).state.memory x d ≡ to v)
-look_leaves L enough c o w x d v known read = (known_still L enough c look o w x quiet known, by (turn_fates L enough c look o x d (not_private L enough w x d v c o known w)))
+pub look_leaves : (L : Layout) (enough : 5 ≤ L.nodes) (c : Configuration) (o : IsOrdered L c) (w x : ℕ) (d : Side)
+    (v : ℕ) → knows (of c.state w) x ≡ true → outcome_in c (w, Look x (EdgeOn d)) ≡ Ok (EdgeIs (to v))
+    → (knows (of (next_in c (w, Look x (EdgeOn d))).state w) x ≡ true)
+    × (edge (next_in c (w, Look x (EdgeOn d))).state.memory x d ≡ to v)
+look_leaves L enough c o w x d v known read = (
+  known_still L enough c look o w x quiet known,
+  by
+      (turn_fates L enough c look o x d (not_private L enough w x d v c o known w)),
+)
   where
     look : ℕ × Event
     look = (w, Look x (EdgeOn d))
 
     read0 : edge c.state.memory x d ≡ to v
-    read0 = same_edge _ (to v) (sym (look_told c.state w x d) ∙ (answered_so c w (Look x (EdgeOn d)) (EdgeIs (to v)) read).1)
+    read0 = same_edge _ (to v) (sym (look_told c.state w x d)
+        ∙ (answered_so c w (Look x (EdgeOn d)) (EdgeIs (to v)) read).1)
 
     none : (b : Bool) → list_any begins_anew (cond b ((Look x (EdgeOn d), EdgeIs (to v)) ∷ []) []) ≡ false
     none true = refl
@@ -167,7 +224,8 @@ look_leaves L enough c o w x d v known read = (known_still L enough c look o w x
     quiet : list_any begins_anew (entries w c (w, Look x (EdgeOn d))) ≡ false
     quiet = ap (list_any begins_anew) (allowed_entries w c (w, Look x (EdgeOn d)) (EdgeIs (to v)) read) ∙ none (w == w)
 
-    on : (r : Reply) → EdgeFate c.state w (Look x (EdgeOn d)) (next_in c (w, Look x (EdgeOn d))).state.memory r x d → edge (next_in c (w, Look x (EdgeOn d))).state.memory x d ≡ to v
+    on : (r : Reply) → EdgeFate c.state w (Look x (EdgeOn d)) (next_in c (w, Look x (EdgeOn d))).state.memory r x d
+        → edge (next_in c (w, Look x (EdgeOn d))).state.memory x d ≡ to v
     on r (Kept same) = same ∙ read0
     on r (IsLinked leaf new n event reply was now) = absurd (differ event)
       where
@@ -195,7 +253,8 @@ look_leaves L enough c o w x d v known read = (known_still L enough c look o w x
     by (Makes r told fate) = on r fate
 
 pub lost_tries_are_to_others : OfEachOrderedRun LostTriesAreToOthers
-lost_tries_are_to_others L enough turns keys w x d v t = go (stays_or_changed L enough w x d v t.between between_keys c1 o1 left.0 left.1 t.stands t.not_own)
+lost_tries_are_to_others L enough turns keys w x d v t = go
+    (stays_or_changed L enough w x d v t.between between_keys c1 o1 left.0 left.1 t.stands t.not_own)
   where
     c0 : Configuration
     c0 = after_in (ordered L) t.before
@@ -213,11 +272,16 @@ lost_tries_are_to_others L enough turns keys w x d v t = go (stays_or_changed L 
     o1 = ordered_next L enough c0 (w, Look x (EdgeOn d)) tt o0
 
     between_keys : All (λ t. HasKey t.1) t.between
-    between_keys = first_keys t.between ((w, t.exchange) ∷ t.since) (λ i e below. later_keys t.before _ run_keys (suc i) e (omega (arith, below)))
+    between_keys = first_keys t.between ((w, t.exchange) ∷ t.since)
+        (λ i e below. later_keys t.before _ run_keys (suc i) e (omega (arith, below)))
 
-    left : (knows (of (behind_look L t.before w x d).state w) x ≡ true) × (edge (behind_look L t.before w x d).state.memory x d ≡ to v)
+    left : (knows (of (behind_look L t.before w x d).state w) x ≡ true)
+        × (edge (behind_look L t.before w x d).state.memory x d ≡ to v)
     left = look_leaves L enough c0 o0 w x d v t.known t.read
 
-    go : IsChangedByAnother (behind_look L t.before w x d) t.between w x d v ⊎ (edge (after_in (behind_look L t.before w x d) t.between).state.memory x d ≡ to v) → IsChangedByAnother (behind_look L t.before w x d) t.between w x d v
+    go : IsChangedByAnother (behind_look L t.before w x d) t.between w x d v
+        ⊎ (edge (after_in (behind_look L t.before w x d) t.between).state.memory x d ≡ to v)
+        → IsChangedByAnother (behind_look L t.before w x d) t.between w x d v
     go (inl changed) = changed
-    go (inr same) = absurd (never_lost (after_in c1 t.between).state w x d v t.exchange t.found t.expects same (answered_so (after_in c1 t.between) w t.exchange (Lost t.found) t.lost).1)
+    go (inr same) = absurd (never_lost (after_in c1 t.between).state w x d v t.exchange t.found t.expects same
+        (answered_so (after_in c1 t.between) w t.exchange (Lost t.found) t.lost).1)

@@ -40,11 +40,16 @@ same_front (a ∷ p) (b ∷ q) d g is = by (parts is) (same_front p q d g (parts
     by one rest = (λ i. one.0 i ∷ rest.0 i, rest.1)
 
 module _ (L : Layout) (enough : 5 ≤ L.nodes) (c : Configuration) (o : IsOrdered L c) where
-  to_child : (x : ℕ) (d : Side) (r : Reached c.state.memory x) → follow (child c.state.memory) 1 (r.path ++ d ∷ []) ≡ child c.state.memory x d
-  to_child x d r = follow-append (child c.state.memory) 1 r.path (d ∷ []) ∙ ap (λ (y : ℕ). child c.state.memory y d) r.ends
+  to_child : (x : ℕ) (d : Side) (r : Reached c.state.memory x)
+      → follow (child c.state.memory) 1 (r.path ++ d ∷ []) ≡ child c.state.memory x d
+  to_child x d r = follow-append (child c.state.memory) 1 r.path (d ∷ [])
+      ∙ ap (λ (y : ℕ). child c.state.memory y d) r.ends
 
-  pub one_parent : (x y : ℕ) (d g : Side) → Reached c.state.memory x → Reached c.state.memory y → child c.state.memory x d ≢ 0 → child c.state.memory x d ≡ child c.state.memory y g → (x ≡ y) × (d ≡ g)
+  pub one_parent : (x y : ℕ) (d g : Side) → Reached c.state.memory x → Reached c.state.memory y
+      → child c.state.memory x d ≢ 0 → child c.state.memory x d ≡ child c.state.memory y g → (x ≡ y) × (d ≡ g)
   one_parent x y d g r q some same = (sym r.ends ∙ (ap (follow (child c.state.memory) 1) paths.0 ∙ q.ends), paths.1)
     where
       paths : (r.path ≡ q.path) × (d ≡ g)
-      paths = same_front r.path q.path d g (alone c.state.layout.nodes (picture c.state (law_of_state L enough c o).0) (law_of_state L enough c o).1.tree (r.path ++ d ∷ []) (q.path ++ g ∷ []) (λ z. some (sym (to_child x d r) ∙ z)) (to_child x d r ∙ (same ∙ sym (to_child y g q))))
+      paths = same_front r.path q.path d g (alone c.state.layout.nodes
+          (picture c.state (law_of_state L enough c o).0) (law_of_state L enough c o).1.tree (r.path ++ d ∷ [])
+          (q.path ++ g ∷ []) (λ z. some (sym (to_child x d r) ∙ z)) (to_child x d r ∙ (same ∙ sym (to_child y g q))))

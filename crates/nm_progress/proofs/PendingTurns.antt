@@ -21,7 +21,8 @@ use Rattle.nm_order.proofs.NothingPends.{nothing_pends}
 use Rattle.nm_order.proofs.PartsOfRuns.{part_tells_search}
 use Rattle.nm_progress.specs.Pending.{NonePends, leaf_after, leaf_by}
 
-looked_for : (s : Search) (c : Option Call) (slot : ℕ) (f : Field) (r : Reply) → (look_for s c slot f r).flagged ≡ s.flagged
+looked_for : (s : Search) (c : Option Call) (slot : ℕ) (f : Field) (r : Reply)
+    → (look_for s c slot f r).flagged ≡ s.flagged
 looked_for s None slot f r = refl
 looked_for s _ slot f r = refl
 
@@ -51,16 +52,23 @@ by_log : (w : ℕ) (s : Search) (ts : List Turn) → leaf_after w s.flagged ts �
 by_log w s [] = refl
 by_log w s (t ∷ ts) = go (t.worker == w) t.outcome (λ s'. by_log w s' ts)
   where
-    go : (b : Bool) (o : Result Reply Refused) → ((s' : Search) → leaf_after w s'.flagged ts ≡ (search_after s' (log_of w ts)).flagged)
-        → leaf_after w (cond b (leaf_by s.flagged t.event o) s.flagged) ts ≡ (search_after s (cond b (logged_by (record { worker = t.worker; event = t.event; outcome = o })) [] ++ log_of w ts)).flagged
-    go true (Ok r) rest = ap (λ (f : Option NodeId). leaf_after w f ts) (leaf_own s t.event r) ∙ rest (searched s t.event r)
+    go : (b : Bool) (o : Result Reply Refused) → ((s' : Search)
+        → leaf_after w s'.flagged ts ≡ (search_after s' (log_of w ts)).flagged)
+        → leaf_after w (cond b (leaf_by s.flagged t.event o) s.flagged) ts
+        ≡ (search_after s (cond b (logged_by (record { worker = t.worker; event = t.event; outcome = o })) []
+        ++ log_of w ts)).flagged
+    go true (Ok r) rest = ap (λ (f : Option NodeId). leaf_after w f ts) (leaf_own s t.event r)
+        ∙ rest (searched s t.event r)
     go true (Err x) rest = ap (λ (f : Option NodeId). leaf_after w f ts) (leaf_refused s.flagged t.event x) ∙ rest s
     go false o rest = rest s
 
 -- the leaf that a worker's turns tell is that of its part
-pub leaf_is_told : (w : ℕ) (s : Search) (ts : List Turn) → leaf_after w s.flagged ts ≡ (search_after s (part_of w ts)).flagged
+pub leaf_is_told : (w : ℕ) (s : Search) (ts : List Turn)
+    → leaf_after w s.flagged ts ≡ (search_after s (part_of w ts)).flagged
 leaf_is_told w s ts = by_log w s ts ∙ sym (ap (λ (x : Search). x.flagged) (part_tells_search w ts s))
 
 -- so where none is pending by the turns of a run, none is in the run
-pub nothing_is_pending : (L : Layout) → 5 ≤ L.nodes → (events : List (ℕ × Event)) → All (λ t. HasKey t.1) events → NonePends L (trace_in (ordered L) events) → NothingIsPending L events
-nothing_is_pending L enough events keys none = nothing_pends L enough events keys (λ w less. sym (leaf_is_told w idle (trace_in (ordered L) events)) ∙ none w less)
+pub nothing_is_pending : (L : Layout) → 5 ≤ L.nodes → (events : List (ℕ × Event)) → All (λ t. HasKey t.1) events
+    → NonePends L (trace_in (ordered L) events) → NothingIsPending L events
+nothing_is_pending L enough events keys none = nothing_pends L enough events keys
+    (λ w less. sym (leaf_is_told w idle (trace_in (ordered L) events)) ∙ none w less)

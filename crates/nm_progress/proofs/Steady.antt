@@ -34,8 +34,10 @@ steady_then = adds_then is_turning
 quiet_steady : (es : List Entry) → list_any is_loud es ≡ false → list_any is_turning es ≡ false
 quiet_steady = none_within is_loud is_turning (λ e quiet.
     let both = or_parts (begins_anew e) (changes_edge e.0 (Ok e.1)) quiet in
-    let links = or_parts (links_on e.0 (Ok e.1)) (flags_on e.0 (Ok e.1) || (cuts_on e.0 (Ok e.1) || tags_on e.0 (Ok e.1))) both.1 in
-    let flags = or_parts (flags_on e.0 (Ok e.1)) (cuts_on e.0 (Ok e.1) || tags_on e.0 (Ok e.1)) links.1 in ap (λ (b : Bool). b || flags_on e.0 (Ok e.1)) both.0 ∙ flags.0)
+    let links = or_parts (links_on e.0 (Ok e.1)) (flags_on e.0 (Ok e.1)
+    || (cuts_on e.0 (Ok e.1) || tags_on e.0 (Ok e.1))) both.1 in
+    let flags = or_parts (flags_on e.0 (Ok e.1)) (cuts_on e.0 (Ok e.1) || tags_on e.0 (Ok e.1)) links.1 in
+    ap (λ (b : Bool). b || flags_on e.0 (Ok e.1)) both.0 ∙ flags.0)
 
 pub plain_steady : (old new : List Entry) → Plain old new → Steady old new
 plain_steady old new p = record { entries = p.entries; are = p.are; quiet = quiet_steady p.entries p.quiet }
@@ -45,7 +47,9 @@ abbrev pub SameCall : Search → Search → Type 0
 SameCall s t = (t.call ≡ s.call) × (t.flagged ≡ s.flagged)
 
 searched_same : (s : Search) (e : Event) (r : Reply) → is_turning (e, r) ≡ false → SameCall s (searched s e r)
-searched_same s e r steady = search_goes (λ e r t. is_turning (e, r) ≡ false → SameCall s t) s (λ slot f r steady. let is = look_beside s s.call slot f r in (ap (λ (t : Search). t.call) is, ap (λ (t : Search). t.flagged) is))
+searched_same s e r steady = search_goes (λ e r t. is_turning (e, r) ≡ false → SameCall s t) s
+    (λ slot f r steady. let is = look_beside s s.call slot f r in
+    (ap (λ (t : Search). t.call) is, ap (λ (t : Search). t.flagged) is))
     (λ p side leaf new n steady. (refl, refl)) (λ p side leaf n steady. absurd (true≢false steady))
     (λ a side x p keep ns steady. (refl, refl))
     (λ p side leaf new ns steady. (refl, refl)) (λ e r steady. (refl, refl)) e r
@@ -64,7 +68,9 @@ search_on s [] ys = refl
 search_on s (x ∷ xs) ys = search_on (searched s x.0 x.1) xs ys
 
 pub steady_call : (old new : List Entry) → Steady old new → SameCall (search_after idle old) (search_after idle new)
-steady_call old new s = subst (λ (t : Search). SameCall (search_after idle old) t) (sym (ap (search_after idle) s.are ∙ search_on idle old s.entries)) (search_same (search_after idle old) s.entries s.quiet)
+steady_call old new s = subst (λ (t : Search). SameCall (search_after idle old) t)
+    (sym (ap (search_after idle) s.are ∙ search_on idle old s.entries))
+    (search_same (search_after idle old) s.entries s.quiet)
 
 -- ---- the key that a call is for
 
@@ -76,13 +82,17 @@ pub record IsFor (k : ℕ) (log : List Entry) : Type 0 where
 pub for_on : (k : ℕ) (old new : List Entry) → Steady old new → IsFor k old → IsFor k new
 for_on k old new s f = record { call = f.call; is = (steady_call old new s).0 ∙ f.is; has_key = f.has_key }
 
-pinned_call : (s : Search) (op : Op) (k epoch : ℕ) → (searched s (SightFor op k) (Pinned epoch)).call ≡ Some (record { op = op; key = k })
+pinned_call : (s : Search) (op : Op) (k epoch : ℕ)
+    → (searched s (SightFor op k) (Pinned epoch)).call ≡ Some (record { op = op; key = k })
 unfolding searched
 pinned_call s op k epoch = refl
 
-pub pinned_for : (op : Op) (k tries : ℕ) (old new : List Entry) (epoch : ℕ) → IsPinnedBy (SightFor op k) tries old new epoch → IsFor k new
+pub pinned_for : (op : Op) (k tries : ℕ) (old new : List Entry) (epoch : ℕ)
+    → IsPinnedBy (SightFor op k) tries old new epoch → IsFor k new
 pinned_for op k tries old new epoch h = record {
   call = record { op = op; key = k };
-  is = ap (λ (l : List Entry). (search_after idle l).call) h.5.1 ∙ (ap (λ (s : Search). s.call) (search_on idle (h.2 ++ (Announce, Announced h.5.0) ∷ []) ((SightFor op k, Pinned epoch) ∷ [])) ∙ pinned_call _ op k epoch);
+  is = ap (λ (l : List Entry). (search_after idle l).call) h.5.1
+      ∙ (ap (λ (s : Search). s.call) (search_on idle (h.2 ++ (Announce, Announced h.5.0) ∷ [])
+      ((SightFor op k, Pinned epoch) ∷ [])) ∙ pinned_call _ op k epoch);
   has_key = refl;
 }

@@ -75,15 +75,18 @@ bare_parts e bare = by (and_parts (not e.flag) (not e.tag) bare)
     by : (not e.flag ≡ true) × (not e.tag ≡ true) → e ≡ to e.slot
     by parts = λ i. record { slot = e.slot; flag = no e.flag parts.0 i; tag = no e.tag parts.1 i }
 
-tags_shown : (e : Event) (o : Result Reply Refused) → tags_on e o ≡ true → (p : ℕ) × (d : Side) × (was : Edge) × (e ≡ Tag p d) × (o ≡ Ok (Was was)) × (is_bare was ≡ true)
+tags_shown : (e : Event) (o : Result Reply Refused) → tags_on e o ≡ true
+    → (p : ℕ) × (d : Side) × (was : Edge) × (e ≡ Tag p d) × (o ≡ Ok (Was was)) × (is_bare was ≡ true)
 tags_shown (Tag p d) (Ok (Was e)) is = (p, d, e, refl, refl, is)
 tags_shown e o is = absurd (true≢false (sym is))
 
 -- such a leaf, but where the edge beside is tagged and not flagged
 abbrev pub IsUncutLeaf : Configuration → ℕ → Type 0
-IsUncutLeaf c x = (y : ℕ) × (g : Side) × Reached c.state.memory y × ((edge c.state.memory y g).flag ≡ true) × (is_pure (edge c.state.memory y (other g)) ≡ false) × (child c.state.memory y g ≡ x)
+IsUncutLeaf c x = (y : ℕ) × (g : Side) × Reached c.state.memory y × ((edge c.state.memory y g).flag ≡ true)
+    × (is_pure (edge c.state.memory y (other g)) ≡ false) × (child c.state.memory y g ≡ x)
 
-tag_writes : (s : State) (w p : ℕ) (d : Side) → write s.memory (of s w) w (Tag p d) ≡ put_edge s.memory p d (tagged (edge s.memory p d))
+tag_writes : (s : State) (w p : ℕ) (d : Side) → write s.memory (of s w) w (Tag p d)
+    ≡ put_edge s.memory p d (tagged (edge s.memory p d))
 unfolding write
 tag_writes s w p d = refl
 
@@ -91,15 +94,19 @@ tag_told : (s : State) (w p : ℕ) (d : Side) → reply_of s w (Tag p d) ≡ Was
 unfolding reply
 tag_told s w p d = refl
 
-applied_memory : (c : Configuration) (t : ℕ × Event) → (applied_in c t.0 t.1).state.memory ≡ write c.state.memory (of c.state t.0) t.0 t.1
+applied_memory : (c : Configuration) (t : ℕ × Event)
+    → (applied_in c t.0 t.1).state.memory ≡ write c.state.memory (of c.state t.0) t.0 t.1
 unfolding applied_in applied
 applied_memory c t = refl
 
-splice_wins : (s : State) (w a x p : ℕ) (d keep : Side) (ns : List NodeId) → reply_of s w (Splice a d x p keep) ≡ Cut ns → is_to (edge s.memory a d) x ≡ true
+splice_wins : (s : State) (w a x p : ℕ) (d keep : Side) (ns : List NodeId)
+    → reply_of s w (Splice a d x p keep) ≡ Cut ns → is_to (edge s.memory a d) x ≡ true
 unfolding reply
 splice_wins s w a x p d keep ns told = by (is_to (edge s.memory a d) x) refl told
   where
-    by : (b : Bool) → is_to (edge s.memory a d) x ≡ b → cond b (Cut (cut_nodes s.layout s.memory (of s w) x p keep)) (Lost (edge s.memory a d)) ≡ Cut ns → is_to (edge s.memory a d) x ≡ true
+    by : (b : Bool) → is_to (edge s.memory a d) x ≡ b
+        → cond b (Cut (cut_nodes s.layout s.memory (of s w) x p keep)) (Lost (edge s.memory a d)) ≡ Cut ns
+        → is_to (edge s.memory a d) x ≡ true
     by true is e = is
     by false is e = absurd (differ e)
       where
@@ -125,7 +132,8 @@ swap_wins s w p leaf new d ns told = by (is_to (edge s.memory p d) leaf) refl to
 
 -- ---- one turn
 
-module _ (L : Layout) (enough : 5 ≤ L.nodes) (c : Configuration) (t : ℕ × Event) (has : HasKey t.1) (o : IsOrdered L c) where
+module _ (L : Layout) (enough : 5 ≤ L.nodes) (c : Configuration) (t : ℕ × Event) (has : HasKey t.1)
+    (o : IsOrdered L c) where
   after : IsOrdered L (next_in c t)
   after = ordered_next L enough c t has o
 
@@ -140,7 +148,8 @@ module _ (L : Layout) (enough : 5 ≤ L.nodes) (c : Configuration) (t : ℕ × E
   unheld y r = false_from_ne_true _ (λ own. off_root c.state law.0 law.1 t.0 y own r.path r.ends)
 
   -- a node with a flagged edge that is reached then was reached
-  was_reached : (y : ℕ) (g : Side) → Reached (next_in c t).state.memory y → (edge (next_in c t).state.memory y g).flag ≡ true → Reached c.state.memory y
+  was_reached : (y : ℕ) (g : Side) → Reached (next_in c t).state.memory y
+      → (edge (next_in c t).state.memory y g).flag ≡ true → Reached c.state.memory y
   was_reached y g r flag = by (outcome_in c t) refl
     where
       -- if the turn leaves reached each node with a flagged edge
@@ -148,7 +157,8 @@ module _ (L : Layout) (enough : 5 ≤ L.nodes) (c : Configuration) (t : ℕ × E
           → Reached (next_in c t).state.memory p') → Reached c.state.memory y
       as_was stays = or_held (turn_reached L enough c t o (nothing_below L enough (next_in c t) t after) y r)
         where
-          two : (p' : ℕ) (d' : Side) → Reached c.state.memory p' → (edge c.state.memory p' d').flag ≡ true → child c.state.memory p' d' ≡ child (next_in c t).state.memory y g → Reached c.state.memory y
+          two : (p' : ℕ) (d' : Side) → Reached c.state.memory p' → (edge c.state.memory p' d').flag ≡ true
+              → child c.state.memory p' d' ≡ child (next_in c t).state.memory y g → Reached c.state.memory y
           two p' d' reached flag' leads =
               subst (Reached c.state.memory)
               (one_parent L enough (next_in c t) after p' y d' g (stays p' d' reached flag') r
@@ -157,12 +167,14 @@ module _ (L : Layout) (enough : 5 ≤ L.nodes) (c : Configuration) (t : ℕ × E
               some : child c.state.memory p' d' ≢ 0
               some z = let high = flag_leads_high L enough c o p' d' reached flag' in absurd (omega (arith, high, z))
 
-              on : (q : Reply) → EdgeFate c.state t.0 t.1 (next_in c t).state.memory q p' d' → child (next_in c t).state.memory p' d' ≡ child c.state.memory p' d'
+              on : (q : Reply) → EdgeFate c.state t.0 t.1 (next_in c t).state.memory q p' d'
+                  → child (next_in c t).state.memory p' d' ≡ child c.state.memory p' d'
               on q (Kept same) = ap (λ (e : Edge). e.slot) same
               on q (IsLinked l m k e reply was now) = absurd (true≢false (sym flag' ∙ ap (λ (e : Edge). e.flag) was))
               on q (IsFlagged l k e reply was now) = absurd (true≢false (sym flag' ∙ ap (λ (e : Edge). e.flag) was))
               on q (IsTagged e reply now) = ap (λ (e : Edge). e.slot) now
-              on q (IsSpliced a b k ns e reply was now) = absurd (true≢false (sym flag' ∙ ap (λ (e : Edge). e.flag) was))
+              on q (IsSpliced a b k ns e reply was now) = absurd
+                  (true≢false (sym flag' ∙ ap (λ (e : Edge). e.flag) was))
               on q (IsSwapped l m ns e reply was now) = absurd (true≢false (sym flag' ∙ ap (λ (e : Edge). e.flag) was))
 
               now : child (next_in c t).state.memory p' d' ≡ child c.state.memory p' d'
@@ -176,7 +188,8 @@ module _ (L : Layout) (enough : 5 ≤ L.nodes) (c : Configuration) (t : ℕ × E
           origin (WasThere p' d' reached leads same) = two p' d' reached (same ∙ flag) leads
           origin (IsFlaggedNow l is reached unmarked marked) = reached
           origin (LeadsToNew p' d' l m is unmarked held none) = absurd (true≢false (sym flag ∙ none))
-          origin (LeadsNowhere none) = absurd (let high = flag_leads_high L enough (next_in c t) after y g r flag in omega (arith, high, none))
+          origin (LeadsNowhere none) = absurd (let high = flag_leads_high L enough (next_in c t) after y g r flag in
+              omega (arith, high, none))
 
           or_held : Reached c.state.memory y ⊎ (is_private (of c.state t.0) y ≡ true) → Reached c.state.memory y
           or_held (inl was) = was
@@ -242,10 +255,15 @@ module _ (L : Layout) (enough : 5 ≤ L.nodes) (c : Configuration) (t : ℕ × E
 
   -- where a flagged edge of a reached node comes from, beside which is no edge that is tagged alone
   data UncutOrigin (y : ℕ) (g : Side) : Type 0 where
-    Before : (p : ℕ) (d : Side) → Reached c.state.memory p → (edge c.state.memory p d).flag ≡ true → is_pure (edge c.state.memory p (other d)) ≡ false → child c.state.memory p d ≡ child (next_in c t).state.memory y g → UncutOrigin y g
-    Now : (leaf : ℕ) → t.1 ≡ Flag y g leaf → child (next_in c t).state.memory y g ≡ leaf → flags_on t.1 (outcome_in c t) ≡ true → UncutOrigin y g
+    Before : (p : ℕ) (d : Side) → Reached c.state.memory p → (edge c.state.memory p d).flag ≡ true
+        → is_pure (edge c.state.memory p (other d)) ≡ false
+        → child c.state.memory p d ≡ child (next_in c t).state.memory y g → UncutOrigin y g
+    Now : (leaf : ℕ) → t.1 ≡ Flag y g leaf → child (next_in c t).state.memory y g ≡ leaf
+        → flags_on t.1 (outcome_in c t) ≡ true → UncutOrigin y g
 
-  module _ (y : ℕ) (g : Side) (r : Reached (next_in c t).state.memory y) (flag : (edge (next_in c t).state.memory y g).flag ≡ true) (uncut : is_pure (edge (next_in c t).state.memory y (other g)) ≡ false) where
+  module _ (y : ℕ) (g : Side) (r : Reached (next_in c t).state.memory y)
+      (flag : (edge (next_in c t).state.memory y g).flag ≡ true)
+      (uncut : is_pure (edge (next_in c t).state.memory y (other g)) ≡ false) where
     once : Reached c.state.memory y
     once = was_reached y g r flag
 
@@ -257,10 +275,13 @@ module _ (L : Layout) (enough : 5 ≤ L.nodes) (c : Configuration) (t : ℕ × E
         high = flag_leads_high L enough c o y g once flag'
 
         some : child c.state.memory y (other g) ≢ 0
-        some z = absurd (let null = ap (child c.state.memory y) (sym (twice_other g)) ∙ law.1.tree.twins y (other g) live z in omega (arith, high, null))
+        some z = absurd (let null = ap (child c.state.memory y) (sym (twice_other g))
+            ∙ law.1.tree.twins y (other g) live z in omega (arith, high, null))
           where
             live : IsLive (picture c.state law.0) y
-            live = subst (IsLive (picture c.state law.0)) once.ends (reached_live c.state.layout.nodes (picture c.state law.0) law.1.tree once.path (λ z. once.is_slot (sym once.ends ∙ z)))
+            live = subst (IsLive (picture c.state law.0)) once.ends
+                (reached_live c.state.layout.nodes (picture c.state law.0) law.1.tree once.path
+                (λ z. once.is_slot (sym once.ends ∙ z)))
 
         retagged : (e : Edge) → e.slot ≢ 0 → is_pure (tagged e) ≡ false → is_pure e ≡ false
         retagged e there is = go (e.slot == 0) refl is
@@ -273,7 +294,8 @@ module _ (L : Layout) (enough : 5 ≤ L.nodes) (c : Configuration) (t : ℕ × E
                 on true = k
                 on false = refl
 
-        on : (q : Reply) → EdgeFate c.state t.0 t.1 (next_in c t).state.memory q y (other g) → is_pure (edge c.state.memory y (other g)) ≡ false
+        on : (q : Reply) → EdgeFate c.state t.0 t.1 (next_in c t).state.memory q y (other g)
+            → is_pure (edge c.state.memory y (other g)) ≡ false
         on q (Kept same) = ap is_pure (sym same) ∙ uncut
         on q (IsLinked l m k e reply was now) = ap is_pure was
         on q (IsFlagged l k e reply was now) = ap is_pure was
@@ -282,12 +304,16 @@ module _ (L : Layout) (enough : 5 ≤ L.nodes) (c : Configuration) (t : ℕ × E
         on q (IsSwapped l m ns e reply was now) = ap is_pure was
 
         fate : TurnFate c t y (other g) → is_pure (edge c.state.memory y (other g)) ≡ false
-        fate (Refuses q e same) = ap (λ (d : Configuration). is_pure (edge d.state.memory y (other g))) (sym same) ∙ uncut
+        fate (Refuses q e same) = ap (λ (d : Configuration). is_pure (edge d.state.memory y (other g))) (sym same)
+            ∙ uncut
         fate (Makes q e f) = on q f
 
     -- a splice that puts a flagged edge there
-    spliced : (q : Reply) → outcome_in c t ≡ Ok q → (x p : ℕ) (keep : Side) (ns : List NodeId) → t.1 ≡ Splice y g x p keep → q ≡ Cut ns → edge (next_in c t).state.memory y g ≡ kept (read (of c.state t.0) p keep) → UncutOrigin y g
-    spliced q told x p keep ns event reply now = made (read (of c.state t.0) p keep) refl k.tag (read (of c.state t.0) p (other keep)) refl k.flag
+    spliced : (q : Reply) → outcome_in c t ≡ Ok q → (x p : ℕ) (keep : Side) (ns : List NodeId)
+        → t.1 ≡ Splice y g x p keep → q ≡ Cut ns → edge (next_in c t).state.memory y g
+        ≡ kept (read (of c.state t.0) p keep) → UncutOrigin y g
+    spliced q told x p keep ns event reply now = made (read (of c.state t.0) p keep) refl k.tag
+        (read (of c.state t.0) p (other keep)) refl k.flag
       where
         ok : Allowed c.state t.0 (Splice y g x p keep)
         ok = subst (Allowed c.state t.0) event (may q told)
@@ -298,24 +324,32 @@ module _ (L : Layout) (enough : 5 ≤ L.nodes) (c : Configuration) (t : ℕ × E
         k : Shown c.state law.0 t.0 y g x p keep
         k = shown c.state law.0 law.1 t.0 y g x p keep ok (splice_wins c.state t.0 y x p g keep ns answer)
 
-        so : (z : ℕ) (f : Side) → is_tagged (read (of c.state t.0) z f) ≡ true → slot_read (read (of c.state t.0) z f) ≡ child c.state.memory z f
+        so : (z : ℕ) (f : Side) → is_tagged (read (of c.state t.0) z f) ≡ true
+            → slot_read (read (of c.state t.0) z f) ≡ child c.state.memory z f
         so z f = go (read (of c.state t.0) z f) refl
           where
-            go : (o : Option Edge) → read (of c.state t.0) z f ≡ o → is_tagged o ≡ true → slot_read o ≡ child c.state.memory z f
+            go : (o : Option Edge) → read (of c.state t.0) z f ≡ o → is_tagged o ≡ true
+                → slot_read o ≡ child c.state.memory z f
             go None is tag = absurd (true≢false (sym tag))
             go (Some e) is tag = ap (λ (x : Edge). x.slot) (sym (law.1.tree.tag_read t.0 z f e is tag))
 
         to_p : On (child c.state.memory) 1 p
         to_p = (
           once.path ++ g ∷ k.sides,
-          follow-append (child c.state.memory) 1 once.path (g ∷ k.sides) ∙ (ap (λ (z : ℕ). follow (child c.state.memory) (child c.state.memory z g) k.sides) once.ends
-              ∙ (ap (λ (z : ℕ). follow (child c.state.memory) z k.sides) (ap (λ (e : Edge). e.slot) k.is) ∙ way_ends (child c.state.memory) (of c.state t.0) so c.state.layout.nodes x p k.sides k.found)),
+          follow-append (child c.state.memory) 1 once.path (g ∷ k.sides)
+              ∙ (ap (λ (z : ℕ). follow (child c.state.memory) (child c.state.memory z g) k.sides) once.ends
+              ∙ (ap (λ (z : ℕ). follow (child c.state.memory) z k.sides) (ap (λ (e : Edge). e.slot) k.is)
+              ∙ way_ends (child c.state.memory) (of c.state t.0) so c.state.layout.nodes x p k.sides k.found)),
         )
 
-        made : (a : Option Edge) → read (of c.state t.0) p keep ≡ a → is_tagged a ≡ true → (b : Option Edge) → read (of c.state t.0) p (other keep) ≡ b → is_flagged b ≡ true → UncutOrigin y g
+        made : (a : Option Edge) → read (of c.state t.0) p keep ≡ a → is_tagged a ≡ true → (b : Option Edge)
+            → read (of c.state t.0) p (other keep) ≡ b → is_flagged b ≡ true → UncutOrigin y g
         made None is tag b is' flag' = absurd (true≢false (sym tag))
         made (Some e) is tag None is' flag' = absurd (true≢false (sym flag'))
-        made (Some e) is tag (Some f) is' flag' = Before p keep p_reached (ap (λ (x : Edge). x.flag) kept_edge ∙ (sym (ap (λ (x : Edge). x.flag) now_is) ∙ flag)) (pure_flagged (edge c.state.memory p (other keep)) (law.1.tree.flag_read t.0 p (other keep) f is' flag').0) (ap (λ (x : Edge). x.slot) kept_edge ∙ sym (ap (λ (x : Edge). x.slot) now_is))
+        made (Some e) is tag (Some f) is' flag' = Before p keep p_reached
+            (ap (λ (x : Edge). x.flag) kept_edge ∙ (sym (ap (λ (x : Edge). x.flag) now_is) ∙ flag))
+            (pure_flagged (edge c.state.memory p (other keep)) (law.1.tree.flag_read t.0 p (other keep) f is' flag').0)
+            (ap (λ (x : Edge). x.slot) kept_edge ∙ sym (ap (λ (x : Edge). x.slot) now_is))
           where
             kept_edge : edge c.state.memory p keep ≡ e
             kept_edge = law.1.tree.tag_read t.0 p keep e is tag
@@ -324,24 +358,36 @@ module _ (L : Layout) (enough : 5 ≤ L.nodes) (c : Configuration) (t : ℕ × E
             now_is = now ∙ ap kept is
 
             p_reached : Reached c.state.memory p
-            p_reached = record { path = to_p.0; ends = to_p.1; is_slot = λ z. (let range = law.1.tree.known t.0 p (law.1.tree.reads t.0 p keep e is) in absurd (omega (arith, range, z))) }
+            p_reached = record {
+              path = to_p.0;
+              ends = to_p.1;
+              is_slot = λ z.
+                  (let range = law.1.tree.known t.0 p (law.1.tree.reads t.0 p keep e is) in
+                  absurd (omega (arith, range, z)));
+            }
 
     uncut_origin : UncutOrigin y g
     uncut_origin = fate (turn_fates L enough c t o y g (unheld y once))
       where
-        still : (edge c.state.memory y g).flag ≡ true → child c.state.memory y g ≡ child (next_in c t).state.memory y g → UncutOrigin y g
+        still : (edge c.state.memory y g).flag ≡ true
+            → child c.state.memory y g ≡ child (next_in c t).state.memory y g → UncutOrigin y g
         still flag' leads = Before y g once flag' (twin flag') leads
 
-        on : (q : Reply) → outcome_in c t ≡ Ok q → EdgeFate c.state t.0 t.1 (next_in c t).state.memory q y g → UncutOrigin y g
-        on q told (Kept same) = still (sym (ap (λ (e : Edge). e.flag) same) ∙ flag) (sym (ap (λ (e : Edge). e.slot) same))
+        on : (q : Reply) → outcome_in c t ≡ Ok q → EdgeFate c.state t.0 t.1 (next_in c t).state.memory q y g
+            → UncutOrigin y g
+        on q told (Kept same) = still (sym (ap (λ (e : Edge). e.flag) same) ∙ flag)
+            (sym (ap (λ (e : Edge). e.slot) same))
         on q told (IsLinked l m k e reply was now) = absurd (true≢false (sym flag ∙ ap (λ (e : Edge). e.flag) now))
         on q told (IsSwapped l m ns e reply was now) = absurd (true≢false (sym flag ∙ ap (λ (e : Edge). e.flag) now))
-        on q told (IsFlagged l k e reply was now) = Now l e (ap (λ (e : Edge). e.slot) now) (λ i. flags_on (e i) ((told ∙ ap (λ (q : Reply). Ok q) reply) i))
-        on q told (IsTagged e reply now) = still (sym (ap (λ (e : Edge). e.flag) now) ∙ flag) (sym (ap (λ (e : Edge). e.slot) now))
+        on q told (IsFlagged l k e reply was now) = Now l e (ap (λ (e : Edge). e.slot) now)
+            (λ i. flags_on (e i) ((told ∙ ap (λ (q : Reply). Ok q) reply) i))
+        on q told (IsTagged e reply now) = still (sym (ap (λ (e : Edge). e.flag) now) ∙ flag)
+            (sym (ap (λ (e : Edge). e.slot) now))
         on q told (IsSpliced x p keep ns e reply was now) = spliced q told x p keep ns e reply now
 
         fate : TurnFate c t y g → UncutOrigin y g
-        fate (Refuses q e same) = still (ap (λ (d : Configuration). (edge d.state.memory y g).flag) (sym same) ∙ flag) (ap (λ (d : Configuration). child d.state.memory y g) (sym same))
+        fate (Refuses q e same) = still (ap (λ (d : Configuration). (edge d.state.memory y g).flag) (sym same)
+            ∙ flag) (ap (λ (d : Configuration). child d.state.memory y g) (sym same))
         fate (Makes q e f) = on q e f
 
   -- ---- a tag of an edge without a mark
@@ -360,14 +406,16 @@ module _ (L : Layout) (enough : 5 ≤ L.nodes) (c : Configuration) (t : ℕ × E
   pays_tag : tags_on t.1 (outcome_in c t) ≡ true → PaysTag
   pays_tag is = tag (tags_shown t.1 (outcome_in c t) is)
     where
-      tag : (p : ℕ) × (d : Side) × (was : Edge) × (t.1 ≡ Tag p d) × (outcome_in c t ≡ Ok (Was was)) × (is_bare was ≡ true) → PaysTag
+      tag : (p : ℕ) × (d : Side) × (was : Edge) × (t.1 ≡ Tag p d) × (outcome_in c t ≡ Ok (Was was))
+          × (is_bare was ≡ true) → PaysTag
       tag k = record {
         node = x;
         side = d;
         reached = reached;
         flagged = flagged;
         uncut = ap is_pure (ap (edge c.state.memory x) (twice_other d) ∙ unmarked);
-        stays = uncut_stays L enough c t o (λ ns cut. differ ns (same_reply (Was k.2) (Cut ns) (sym k.4 ∙ cut))) x reached;
+        stays = uncut_stays L enough c t o (λ ns cut. differ ns (same_reply (Was k.2) (Cut ns) (sym k.4 ∙ cut))) x
+            reached;
         same = beside (turn_fates L enough c t o x (other d) (unheld x reached));
         cut = ap is_pure now ∙ pure;
       }
@@ -391,13 +439,15 @@ module _ (L : Layout) (enough : 5 ≤ L.nodes) (c : Configuration) (t : ℕ × E
           same_was a b e = cc
 
           was_is : k.2 ≡ edge c.state.memory k.0 k.1
-          was_is = same_was k.2 _ (sym (answered_so c t.0 t.1 (Was k.2) k.4).1 ∙ (ap (reply_of c.state t.0) k.3 ∙ tag_told c.state t.0 k.0 k.1))
+          was_is = same_was k.2 _ (sym (answered_so c t.0 t.1 (Was k.2) k.4).1
+              ∙ (ap (reply_of c.state t.0) k.3 ∙ tag_told c.state t.0 k.0 k.1))
 
           unmarked : edge c.state.memory k.0 k.1 ≡ to (child c.state.memory k.0 k.1)
           unmarked = bare_parts (edge c.state.memory k.0 k.1) (ap is_bare (sym was_is) ∙ k.5)
 
           flagged : (edge c.state.memory k.0 (other k.1)).flag ≡ true
-          flagged = (flag_known c.state.layout.nodes c.state.memory (of c.state) law.0 t.0 k.0 (other k.1) law.1.tree asks.1).0
+          flagged = (flag_known c.state.layout.nodes c.state.memory (of c.state) law.0 t.0 k.0 (other k.1) law.1.tree
+              asks.1).0
 
           live : IsLive (picture c.state law.0) k.0
           live = live_then c.state law.0 law.1 t.0 k.0 asks.0
@@ -409,7 +459,10 @@ module _ (L : Layout) (enough : 5 ≤ L.nodes) (c : Configuration) (t : ℕ × E
           there = tag_not_null c.state law.0 law.1 t.0 k.0 k.1 ok.event
 
           on_path : IsOnPath (picture c.state law.0) k.0
-          on_path = live_on_path c.state.layout.nodes (picture c.state law.0) k.0 law.1.tree live (λ z. absurd (omega (arith, range, z))) range.1 (unmarked_not_queued c.state.layout.nodes (picture c.state law.0) k.0 k.1 (child c.state.memory k.0 k.1) law.1.tree unmarked there)
+          on_path = live_on_path c.state.layout.nodes (picture c.state law.0) k.0 law.1.tree live
+              (λ z. absurd (omega (arith, range, z))) range.1
+              (unmarked_not_queued c.state.layout.nodes (picture c.state law.0) k.0 k.1 (child c.state.memory k.0 k.1)
+              law.1.tree unmarked there)
 
           reached : Reached c.state.memory k.0
           reached = record { path = on_path.path; ends = on_path.ends; is_slot = on_path.is_slot }
@@ -417,15 +470,22 @@ module _ (L : Layout) (enough : 5 ≤ L.nodes) (c : Configuration) (t : ℕ × E
           inside : k.0 < length c.state.memory.nodes
           inside = let size = law.1.roomy.nodes in omega (arith, range, size)
 
-          now_memory : (next_in c t).state.memory ≡ put_edge c.state.memory k.0 k.1 (tagged (edge c.state.memory k.0 k.1))
+          now_memory : (next_in c t).state.memory ≡ put_edge c.state.memory k.0 k.1
+              (tagged (edge c.state.memory k.0 k.1))
           now_memory = by (answered_so c t.0 t.1 (Was k.2) k.4).0
             where
-              by : refused_in c t.0 t.1 ≡ None → (next_in c t).state.memory ≡ put_edge c.state.memory k.0 k.1 (tagged (edge c.state.memory k.0 k.1))
-              by why = ap (λ (d : Configuration). d.state.memory) (allowed_next c t why) ∙ (applied_memory c t ∙ (ap (λ (e : Event). write c.state.memory (of c.state t.0) t.0 e) k.3 ∙ tag_writes c.state t.0 k.0 k.1))
+              by : refused_in c t.0 t.1 ≡ None → (next_in c t).state.memory
+                  ≡ put_edge c.state.memory k.0 k.1 (tagged (edge c.state.memory k.0 k.1))
+              by why = ap (λ (d : Configuration). d.state.memory) (allowed_next c t why)
+                  ∙ (applied_memory c t ∙ (ap (λ (e : Event). write c.state.memory (of c.state t.0) t.0 e) k.3
+                  ∙ tag_writes c.state t.0 k.0 k.1))
 
           now : edge (next_in c t).state.memory k.0 k.1 ≡ tagged (edge c.state.memory k.0 k.1)
-          now = ap (λ (m : Memory). edge m k.0 k.1) now_memory ∙ (edge_put c.state.memory k.0 k.1 (tagged (edge c.state.memory k.0 k.1)) inside k.0 k.1
-              ∙ cond-true (eqb k.0 k.0 && same_side k.1 k.1) (tagged (edge c.state.memory k.0 k.1)) (edge c.state.memory k.0 k.1) (and_from (eqb k.0 k.0) (same_side k.1 k.1) (eq-eqb k.0 k.0 refl) (same_side-refl k.1)))
+          now = ap (λ (m : Memory). edge m k.0 k.1) now_memory
+              ∙ (edge_put c.state.memory k.0 k.1 (tagged (edge c.state.memory k.0 k.1)) inside k.0 k.1
+              ∙ cond-true (eqb k.0 k.0 && same_side k.1 k.1) (tagged (edge c.state.memory k.0 k.1))
+              (edge c.state.memory k.0 k.1) (and_from (eqb k.0 k.0) (same_side k.1 k.1) (eq-eqb k.0 k.0 refl)
+              (same_side-refl k.1)))
 
           pure : is_pure (tagged (edge c.state.memory k.0 k.1)) ≡ true
           pure = ap (λ (e : Edge). is_pure (tagged e)) unmarked ∙ by (child c.state.memory k.0 k.1 == 0) refl
@@ -434,16 +494,19 @@ module _ (L : Layout) (enough : 5 ≤ L.nodes) (c : Configuration) (t : ℕ × E
               by true null = absurd (there (eqb-true (child c.state.memory k.0 k.1) 0 null))
               by false null = refl
 
-          beside : TurnFate c t k.0 (other k.1) → child (next_in c t).state.memory k.0 (other k.1) ≡ child c.state.memory k.0 (other k.1)
+          beside : TurnFate c t k.0 (other k.1) → child (next_in c t).state.memory k.0 (other k.1)
+              ≡ child c.state.memory k.0 (other k.1)
           beside (Refuses q e same) = ap (λ (d : Configuration). child d.state.memory k.0 (other k.1)) same
           beside (Makes q e f) = on f
             where
-              on : EdgeFate c.state t.0 t.1 (next_in c t).state.memory q k.0 (other k.1) → child (next_in c t).state.memory k.0 (other k.1) ≡ child c.state.memory k.0 (other k.1)
+              on : EdgeFate c.state t.0 t.1 (next_in c t).state.memory q k.0 (other k.1)
+                  → child (next_in c t).state.memory k.0 (other k.1) ≡ child c.state.memory k.0 (other k.1)
               on (Kept same) = ap (λ (e : Edge). e.slot) same
               on (IsLinked l m n e reply was now) = absurd (true≢false (sym flagged ∙ ap (λ (e : Edge). e.flag) was))
               on (IsFlagged l n e reply was now) = absurd (true≢false (sym flagged ∙ ap (λ (e : Edge). e.flag) was))
               on (IsTagged e reply now) = ap (λ (e : Edge). e.slot) now
-              on (IsSpliced a b n ns e reply was now) = absurd (true≢false (sym flagged ∙ ap (λ (e : Edge). e.flag) was))
+              on (IsSpliced a b n ns e reply was now) = absurd
+                  (true≢false (sym flagged ∙ ap (λ (e : Edge). e.flag) was))
               on (IsSwapped l m ns e reply was now) = absurd (true≢false (sym flagged ∙ ap (λ (e : Edge). e.flag) was))
 
   -- ---- a list behind the turn
@@ -452,13 +515,18 @@ module _ (L : Layout) (enough : 5 ≤ L.nodes) (c : Configuration) (t : ℕ × E
   flags_or_tags (Flag p d leaf) (Ok (Flagged n)) is = refl
   flags_or_tags e r is = absurd (true≢false (sym is))
 
-  pub next_uncut : (slots : List ℕ) → ((x : ℕ) → IsUncutLeaf c x → In slots x) → NextList (IsUncutLeaf c) (IsUncutLeaf (next_in c t)) (flags_on t.1 (outcome_in c t)) (tags_on t.1 (outcome_in c t)) slots
-  next_uncut = next_list (IsUncutLeaf c) (IsUncutLeaf (next_in c t)) (flags_on t.1 (outcome_in c t)) (tags_on t.1 (outcome_in c t)) (flags_or_tags t.1 (outcome_in c t)) adds takes stays
+  pub next_uncut : (slots : List ℕ) → ((x : ℕ) → IsUncutLeaf c x → In slots x)
+      → NextList (IsUncutLeaf c) (IsUncutLeaf (next_in c t)) (flags_on t.1 (outcome_in c t))
+      (tags_on t.1 (outcome_in c t)) slots
+  next_uncut = next_list (IsUncutLeaf c) (IsUncutLeaf (next_in c t)) (flags_on t.1 (outcome_in c t))
+      (tags_on t.1 (outcome_in c t)) (flags_or_tags t.1 (outcome_in c t)) adds takes stays
     where
-      adds : flags_on t.1 (outcome_in c t) ≡ true → (new : ℕ) × ((x : ℕ) → IsUncutLeaf (next_in c t) x → (x ≡ new) ⊎ IsUncutLeaf c x)
+      adds : flags_on t.1 (outcome_in c t) ≡ true → (new : ℕ)
+          × ((x : ℕ) → IsUncutLeaf (next_in c t) x → (x ≡ new) ⊎ IsUncutLeaf c x)
       adds flags = (f.2, λ x is. on x is (uncut_origin is.0 is.1 is.2 is.3 is.4))
         where
-          f : (p : ℕ) × (d : Side) × (leaf : ℕ) × (n : NodeId) × (t.1 ≡ Flag p d leaf) × (outcome_in c t ≡ Ok (Flagged n))
+          f : (p : ℕ) × (d : Side) × (leaf : ℕ) × (n : NodeId) × (t.1 ≡ Flag p d leaf)
+              × (outcome_in c t ≡ Ok (Flagged n))
           f = flags_shown t.1 (outcome_in c t) flags
 
           same_leaf : (a b : ℕ) (x y : ℕ) (d g : Side) → Flag x d a ≡ Flag y g b → b ≡ a
@@ -466,7 +534,8 @@ module _ (L : Layout) (enough : 5 ≤ L.nodes) (c : Configuration) (t : ℕ × E
 
           on : (x : ℕ) (is : IsUncutLeaf (next_in c t) x) → UncutOrigin is.0 is.1 → (x ≡ f.2) ⊎ IsUncutLeaf c x
           on x is (Before p d reached flag uncut leads) = inr (p, d, reached, flag, uncut, leads ∙ is.5)
-          on x is (Now leaf event at won) = inl (sym is.5 ∙ (at ∙ same_leaf f.2 leaf f.0 is.0 f.1 is.1 (sym f.4 ∙ event)))
+          on x is (Now leaf event at won) = inl (sym is.5
+              ∙ (at ∙ same_leaf f.2 leaf f.0 is.0 f.1 is.1 (sym f.4 ∙ event)))
 
       stays : flags_on t.1 (outcome_in c t) ≡ false → (x : ℕ) → IsUncutLeaf (next_in c t) x → IsUncutLeaf c x
       stays flags x is = on (uncut_origin is.0 is.1 is.2 is.3 is.4)
@@ -475,31 +544,45 @@ module _ (L : Layout) (enough : 5 ≤ L.nodes) (c : Configuration) (t : ℕ × E
           on (Before p d reached was pure leads) = (p, d, reached, was, pure, leads ∙ is.5)
           on (Now leaf event at won) = absurd (true≢false (sym won ∙ flags))
 
-      takes : flags_on t.1 (outcome_in c t) ≡ false → tags_on t.1 (outcome_in c t) ≡ true → (gone : ℕ) × IsUncutLeaf c gone × ((x : ℕ) → IsUncutLeaf (next_in c t) x → (x ≢ gone) × IsUncutLeaf c x)
-      takes flags tags = (child c.state.memory k.node (other k.side), (k.node, other k.side, k.reached, k.flagged, k.uncut, refl), λ x is. (apart x is, stays flags x is))
+      takes : flags_on t.1 (outcome_in c t) ≡ false → tags_on t.1 (outcome_in c t) ≡ true
+          → (gone : ℕ) × IsUncutLeaf c gone × ((x : ℕ) → IsUncutLeaf (next_in c t) x → (x ≢ gone) × IsUncutLeaf c x)
+      takes flags tags = (
+        child c.state.memory k.node (other k.side),
+        (k.node, other k.side, k.reached, k.flagged, k.uncut, refl),
+        λ x is. (apart x is, stays flags x is),
+      )
         where
           k : PaysTag
           k = pays_tag tags
 
           apart : (x : ℕ) → IsUncutLeaf (next_in c t) x → x ≢ child c.state.memory k.node (other k.side)
-          apart x is at = true≢false (sym k.cut ∙ (ap (λ (z : ℕ). is_pure (edge (next_in c t).state.memory z k.side)) (sym one.0) ∙ (ap (λ (f : Side). is_pure (edge (next_in c t).state.memory is.0 f)) (sym (ap other one.1 ∙ twice_other k.side)) ∙ is.4)))
+          apart x is at = true≢false (sym k.cut ∙ (ap (λ (z : ℕ). is_pure (edge (next_in c t).state.memory z k.side))
+              (sym one.0) ∙ (ap (λ (f : Side). is_pure (edge (next_in c t).state.memory is.0 f))
+              (sym (ap other one.1 ∙ twice_other k.side)) ∙ is.4)))
             where
               some_child : child (next_in c t).state.memory is.0 is.1 ≢ 0
-              some_child z = let high = flag_leads_high L enough (next_in c t) after is.0 is.1 is.2 is.3 in absurd (omega (arith, high, z))
+              some_child z = let high = flag_leads_high L enough (next_in c t) after is.0 is.1 is.2 is.3 in
+                  absurd (omega (arith, high, z))
 
               one : (is.0 ≡ k.node) × (is.1 ≡ other k.side)
-              one = one_parent L enough (next_in c t) after is.0 k.node is.1 (other k.side) is.2 k.stays some_child (is.5 ∙ (at ∙ sym k.same))
+              one = one_parent L enough (next_in c t) after is.0 k.node is.1 (other k.side) is.2 k.stays some_child
+                  (is.5 ∙ (at ∙ sym k.same))
 
 -- ---- over a run
 
 pub tags_are_paid : OfEachOrderedRun TagsArePaid
 unfolding after_in
 tags_are_paid L enough turns keys =
-    let all = paid_over L enough IsUncutLeaf tags_on (next_uncut L enough) turns keys (ordered L) (each_ordered L enough [] (λ i d below. absurd (omega (arith, below)))) [] (λ x is. no_flags L enough x (is.0, is.1, is.2, is.3, is.5)) in omega (arith, all)
+    let all = paid_over L enough IsUncutLeaf tags_on (next_uncut L enough) turns keys (ordered L)
+    (each_ordered L enough [] (λ i d below. absurd (omega (arith, below)))) []
+    (λ x is. no_flags L enough x (is.0, is.1, is.2, is.3, is.5)) in omega (arith, all)
 
 pub tags_are_paid_since : TagsArePaidSince
 tags_are_paid_since L enough past turns keys =
     let before : All (λ t. HasKey t.1) past = first_keys past turns keys in
-    let all = paid_over L enough IsUncutLeaf tags_on (next_uncut L enough) turns (later_keys past turns keys) (after_in (ordered L) past) (each_ordered L enough past before) (pending (after_in (ordered L) past) L.workers) (λ x is. covered L enough past before x (is.0, is.1, is.2, is.3, is.5)) in
+    let all = paid_over L enough IsUncutLeaf tags_on (next_uncut L enough) turns (later_keys past turns keys)
+    (after_in (ordered L) past) (each_ordered L enough past before)
+    (pending (after_in (ordered L) past) L.workers)
+    (λ x is. covered L enough past before x (is.0, is.1, is.2, is.3, is.5)) in
     let few = few_pending (after_in (ordered L) past) L.workers in
     omega (arith, all, few)

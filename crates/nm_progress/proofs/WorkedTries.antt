@@ -25,7 +25,8 @@ unfolding learn
 known = refl
 
 loses : LosesTries layout 1 (part_of 1 inserting) (part_of 1 (reads ++ helps)) 1
-loses = OneTry 0 6 Left 7 (take 2 (part_of 1 reads)) (drop 3 (part_of 1 reads)) (drop 1 (part_of 1 helps)) (Link 6 Left 7 8) (e 7 true false) known (ToLink 8) refl refl NoTry
+loses = OneTry 0 6 Left 7 (take 2 (part_of 1 reads)) (drop 3 (part_of 1 reads)) (drop 1 (part_of 1 helps))
+    (Link 6 Left 7 8) (e 7 true false) known (ToLink 8) refl refl NoTry
 
 pub is_worked : IsWorked
 is_worked = record {

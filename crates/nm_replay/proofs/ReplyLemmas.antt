@@ -8,7 +8,9 @@ pub no_replies : (lines : List (List ℕ)) → lines_with lines [] ≡ []
 no_replies [] = refl
 no_replies (line ∷ lines) = refl
 
-pub all_replied : (out : List ℕ) (lines : List (List ℕ)) (turns : List Turn) (i : ℕ) (total : List ℕ) → length turns ≤ i → out ++ lines_with lines (drop i turns) ≡ total → out ≡ total
+pub all_replied : (out : List ℕ) (lines : List (List ℕ)) (turns : List Turn) (i : ℕ) (total : List ℕ)
+    → length turns ≤ i → out ++ lines_with lines (drop i turns) ≡ total → out ≡ total
 all_replied out lines turns i total le told =
-    let one : out ++ lines_with lines (drop i turns) ≡ out = rw (drop_all i turns le, no_replies lines) (append-nil out) in
+    let one : out ++ lines_with lines (drop i turns)
+    ≡ out = rw (drop_all i turns le, no_replies lines) (append-nil out) in
     sym one ∙ told

@@ -46,11 +46,14 @@ module _ (L : Layout) (w : ℕ) (log : List Entry) where
 
   pub announce_seen : May L w log Announce → IsSome k.brief.seen
   unfolding refusal
-  announce_seen may = some_of k.brief.seen (or_parts (is_none k.brief.seen) (is_some k.brief.pin) (passed _ _ _ (may.allowed (opening L) tt)).0).0
+  announce_seen may = some_of k.brief.seen (or_parts (is_none k.brief.seen) (is_some k.brief.pin)
+      (passed _ _ _ (may.allowed (opening L) tt)).0).0
 
   pub advance_seen : May L w log Advance → IsSome k.brief.seen
   unfolding refusal
-  advance_seen may = some_of k.brief.seen (or_parts (is_none k.brief.seen) (not (others_scanned w k.scanned) || is_held_back k.brief.pin k.brief.seen) (passed _ _ _ (may.allowed (opening L) tt)).0).0
+  advance_seen may = some_of k.brief.seen (or_parts (is_none k.brief.seen)
+      (not (others_scanned w k.scanned) || is_held_back k.brief.pin k.brief.seen)
+      (passed _ _ _ (may.allowed (opening L) tt)).0).0
 
   pub scan_below : (u : ℕ) → May L w log (Scan u) → u < L.workers
   unfolding refusal
@@ -61,9 +64,13 @@ module _ (L : Layout) (w : ℕ) (log : List Entry) where
   seen_small fits l e is =
       let enough : 5 ≤ L.nodes = (let least = fits.least in omega arith) in
       let o : IsOrdered L (after_in (ordered L) l.turns) = each_ordered L enough l.turns l.keys in
-      let agree : EpochsAgree (after_in (ordered L) l.turns).state = subst EpochsAgree (sym o.leads) (each_epoch_agrees L enough o.events) in
-      let range : StateIsInRange (after_in (ordered L) l.turns).state = subst StateIsInRange (sym o.leads) (each_state_in_range L enough o.events) in
-      let at : (of (after_in (ordered L) l.turns).state w).brief.seen ≡ Some e = ap (λ (x : Knowledge). x.brief.seen) (logs_tell L l.turns w l.worker ∙ ap (known_by L w) l.is_part) ∙ is in
+      let agree : EpochsAgree (after_in (ordered L) l.turns).state = subst EpochsAgree (sym o.leads)
+      (each_epoch_agrees L enough o.events) in
+      let range : StateIsInRange (after_in (ordered L) l.turns).state = subst StateIsInRange (sym o.leads)
+      (each_state_in_range L enough o.events) in
+      let at : (of (after_in (ordered L) l.turns).state w).brief.seen
+      ≡ Some e = ap (λ (x : Knowledge). x.brief.seen)
+      (logs_tell L l.turns w l.worker ∙ ap (known_by L w) l.is_part) ∙ is in
       let below = agree.sights w e at in let top = range.epoch in omega (arith, below, top)
 
   -- private slots are ones of the pool's range
@@ -90,11 +97,14 @@ module _ (L : Layout) (w : ℕ) (log : List Entry) where
 
   pub link_slot : (p : ℕ) (side : Side) (leaf new : ℕ) → May L w log (Link p side leaf new) → IsSlot L p
   unfolding refusal
-  link_slot p side leaf new may = slot_of 1 L.nodes p (omega arith) (or_parts (outside 1 L.nodes p) (outside 1 L.nodes leaf || outside 6 L.nodes new) (passed _ _ _ (may.allowed (opening L) tt)).0).0
+  link_slot p side leaf new may = slot_of 1 L.nodes p (omega arith)
+      (or_parts (outside 1 L.nodes p) (outside 1 L.nodes leaf || outside 6 L.nodes new)
+      (passed _ _ _ (may.allowed (opening L) tt)).0).0
 
   pub flag_slot : (p : ℕ) (side : Side) (leaf : ℕ) → May L w log (Flag p side leaf) → IsSlot L p
   unfolding refusal
-  flag_slot p side leaf may = slot_of 1 L.nodes p (omega arith) (or_parts (outside 1 L.nodes p) (outside 6 L.nodes leaf) (passed _ _ _ (may.allowed (opening L) tt)).0).0
+  flag_slot p side leaf may = slot_of 1 L.nodes p (omega arith)
+      (or_parts (outside 1 L.nodes p) (outside 6 L.nodes leaf) (passed _ _ _ (may.allowed (opening L) tt)).0).0
 
   pub tag_slot : (p : ℕ) (side : Side) → May L w log (Tag p side) → IsSlot L p
   unfolding refusal
@@ -102,7 +112,9 @@ module _ (L : Layout) (w : ℕ) (log : List Entry) where
 
   pub splice_slot : (a : ℕ) (side : Side) (s p : ℕ) (keep : Side) → May L w log (Splice a side s p keep) → IsSlot L a
   unfolding refusal
-  splice_slot a side s p keep may = slot_of 1 L.nodes a (omega arith) (or_parts (outside 1 L.nodes a) (outside 6 L.nodes s || outside 6 L.nodes p) (passed _ _ _ (may.allowed (opening L) tt)).0).0
+  splice_slot a side s p keep may = slot_of 1 L.nodes a (omega arith)
+      (or_parts (outside 1 L.nodes a) (outside 6 L.nodes s || outside 6 L.nodes p)
+      (passed _ _ _ (may.allowed (opening L) tt)).0).0
 
   pub swap_slot : (p : ℕ) (side : Side) (leaf new : ℕ) → May L w log (Swap p side leaf new) → IsSlot L p
   unfolding refusal
@@ -122,31 +134,40 @@ at_last (suc s) n = at_last s n
 module _ (L : Layout) (w : ℕ) (log : List Entry) where
   -- a fill is allowed in a memory in which its slot has the birth that was looked at
   abbrev looked_at : ℕ → Memory
-  looked_at s = record (opening L) { nodes = last_of s (record blank { birth = unwrap_or (draft_of (known_by L w log) s).looked 0 }) }
+  looked_at s = record (opening L) {
+    nodes = last_of s
+        (record blank { birth = unwrap_or (draft_of (known_by L w log) s).looked 0 });
+  }
 
   is_as_looked : (s : ℕ) (f : Field) (v : ℕ) → IsAsLooked (known_by L w log) (looked_at s) (Fill s f v)
   is_as_looked s Key v = tt
   is_as_looked s (EdgeOn side) v = tt
   is_as_looked s Birth v = λ b is. ap (λ (n : Node). n.birth) (at_last s _) ∙ ap (λ o. unwrap_or o 0) is
 
-  fill_allowed : (s : ℕ) (f : Field) (v : ℕ) → May L w log (Fill s f v) → (outside 6 L.nodes s || (is_edge f && nat_lt L.nodes v)) ≡ false
+  fill_allowed : (s : ℕ) (f : Field) (v : ℕ) → May L w log (Fill s f v)
+      → (outside 6 L.nodes s || (is_edge f && nat_lt L.nodes v)) ≡ false
   unfolding refusal
   fill_allowed s f v may = (passed _ _ _ (may.allowed (looked_at s) (is_as_looked s f v))).0
 
   pub fill_slot : (s : ℕ) (f : Field) (v : ℕ) → May L w log (Fill s f v) → IsSlot L s
-  fill_slot s f v may = slot_of 6 L.nodes s (omega arith) (or_parts (outside 6 L.nodes s) (is_edge f && nat_lt L.nodes v) (fill_allowed s f v may)).0
+  fill_slot s f v may = slot_of 6 L.nodes s (omega arith)
+      (or_parts (outside 6 L.nodes s) (is_edge f && nat_lt L.nodes v) (fill_allowed s f v may)).0
 
   -- the leaf of a flag is a slot
   pub flag_leaf : (p : ℕ) (side : Side) (leaf : ℕ) → May L w log (Flag p side leaf) → 1 ≤ leaf
   unfolding refusal
-  flag_leaf p side leaf may = (slot_of 6 L.nodes leaf (omega arith) (or_parts (outside 1 L.nodes p) (outside 6 L.nodes leaf) (passed _ _ _ (may.allowed (opening L) tt)).0).1).0
+  flag_leaf p side leaf may = (slot_of 6 L.nodes leaf (omega arith)
+      (or_parts (outside 1 L.nodes p) (outside 6 L.nodes leaf) (passed _ _ _ (may.allowed (opening L) tt)).0).1).0
 
 -- ---- words of edges
 
 -- where an edge's word is found, it is that of an edge
-pub finds_edge : (L : Layout) (w : ℕ) (log : List Entry) (e : Event) (n x : ℕ) (side : Side) → IsFound L w log e n → is_store e ≡ false → touched_field w e ≡ at_edge x side → IsSlot L x → is_word n ≡ true
+pub finds_edge : (L : Layout) (w : ℕ) (log : List Entry) (e : Event) (n x : ℕ) (side : Side) → IsFound L w log e n
+    → is_store e ≡ false → touched_field w e ≡ at_edge x side → IsSlot L x → is_word n ≡ true
 finds_edge L w log e n x side f loads at slot = is_some_true (is_word n) (edge_in n) (edge r.memory x side)
-    (ap unpacked found_is ∙ unpacked_word (edge r.memory x side) (r.marks x side) (let size = r.range.edges x side in let most = f.fits.most in let below : (edge r.memory x side).slot < 2 ^ 32 = omega (arith, size, most) in below))
+    (ap unpacked found_is ∙ unpacked_word (edge r.memory x side) (r.marks x side)
+    (let size = r.range.edges x side in let most = f.fits.most in
+    let below : (edge r.memory x side).slot < 2 ^ 32 = omega (arith, size, most) in below))
   where
     r : ReadOf L w e n
     r = read_of L w log e n f loads

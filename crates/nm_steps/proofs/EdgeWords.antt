@@ -38,9 +38,11 @@ or_two s false false = with_two s 0 _ _ (lit< tt) (omega arith) (omega arith)
 
 -- of an edge that is not null, the tag is one bit of its word
 pub word_tagged : (e : Edge) → e.slot ≢ 0 → word_of (tagged e) ≡ bit_or (word_of e) 2
-word_tagged e some = ap (λ b. 4 * e.slot + cond (not b) 2 0 + cond e.flag 1 0) (ne_eqb e.slot 0 some) ∙ or_two e.slot e.flag e.tag
+word_tagged e some = ap (λ b. 4 * e.slot + cond (not b) 2 0 + cond e.flag 1 0) (ne_eqb e.slot 0 some)
+    ∙ or_two e.slot e.flag e.tag
 
-edge_parts : (s : ℕ) (f t : Bool) → ((4 * s + cond t 2 0 + cond f 1 0) / 4 ≡ s) × (((4 * s + cond t 2 0 + cond f 1 0) % 2 == 1) ≡ f) × (((4 * s + cond t 2 0 + cond f 1 0) / 2 % 2 == 1) ≡ t)
+edge_parts : (s : ℕ) (f t : Bool) → ((4 * s + cond t 2 0 + cond f 1 0) / 4 ≡ s)
+    × (((4 * s + cond t 2 0 + cond f 1 0) % 2 == 1) ≡ f) × (((4 * s + cond t 2 0 + cond f 1 0) / 2 % 2 == 1) ≡ t)
 edge_parts s true true = (omega arith, grind (arith, nat_tests), grind (arith, nat_tests))
 edge_parts s true false = (omega arith, grind (arith, nat_tests), grind (arith, nat_tests))
 edge_parts s false true = (omega arith, grind (arith, nat_tests), grind (arith, nat_tests))

@@ -35,12 +35,14 @@ module _ (L : Layout) (tree : List ℕ) (v : View) (e : Ends L tree v) where
   layout_is = ap (λ (s : State). s.layout) o.leads ∙ layout_kept (start L) o.events
 
   fits : Fits L c.state.memory
-  fits = subst (λ (l : Layout). Fits l c.state.memory) layout_is (subst StateFits (sym o.leads) (each_state_fits L enough o.events))
+  fits = subst (λ (l : Layout). Fits l c.state.memory) layout_is
+      (subst StateFits (sym o.leads) (each_state_fits L enough o.events))
 
   pub ended_long : length tree ≡ words L
   ended_long = ap (λ (l : List ℕ). length l) e.words_are ∙ each_field_has_a_word L c.state.memory fits
 
-module _ (L : Layout) (id : ℕ) (v : View) (all : List ℕ) (slots : List Unit) (count : ℕ) (is : count ≡ words L) (f : Final (Seen (Kept L) id v) all slots) where
+module _ (L : Layout) (id : ℕ) (v : View) (all : List ℕ) (slots : List Unit) (count : ℕ) (is : count ≡ words L)
+    (f : Final (Seen (Kept L) id v) all slots) where
   abbrev kept : Kept L f.0
   kept = f.1.0
 
@@ -68,7 +70,8 @@ module _ (L : Layout) (id : ℕ) (v : View) (all : List ℕ) (slots : List Unit)
       }
 
   -- the values come after them
-  pub ended_with_values : length slots ≡ L.nodes → EndsWithValues L (record { core = take count all; values = drop count all }) v
+  pub ended_with_values : length slots ≡ L.nodes → EndsWithValues L
+      (record { core = take count all; values = drop count all }) v
   unfolding ended
   ended_with_values many =
       let long : length kept.values ≡ L.nodes = kept.long ∙ (f.3 ∙ many) in

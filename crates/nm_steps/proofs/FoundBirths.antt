@@ -27,11 +27,14 @@ pub record ReadOf (L : Layout) (w : ℕ) (e : Event) (n : ℕ) : Type 0 where
   pub marks : (x : ℕ) (side : Side) → IsEdge (edge memory x side)
   pub is : n ≡ word_at L memory (touched_field w e)
 
-pub read_of : (L : Layout) (w : ℕ) (log : List Entry) (e : Event) (n : ℕ) → IsFound L w log e n → is_store e ≡ false → ReadOf L w e n
+pub read_of : (L : Layout) (w : ℕ) (log : List Entry) (e : Event) (n : ℕ) → IsFound L w log e n → is_store e ≡ false
+    → ReadOf L w e n
 read_of L w log e n f loads = record {
   memory = s.memory;
-  fits = subst (λ (l : Layout). Fits l s.memory) same (subst StateFits (sym o.leads) (each_state_fits L enough o.events));
-  range = subst (λ (l : Layout). InRange l s.memory) same (subst StateIsInRange (sym o.leads) (each_state_in_range L enough o.events));
+  fits = subst (λ (l : Layout). Fits l s.memory) same
+      (subst StateFits (sym o.leads) (each_state_fits L enough o.events));
+  range = subst (λ (l : Layout). InRange l s.memory) same
+      (subst StateIsInRange (sym o.leads) (each_state_in_range L enough o.events));
   marks = subst NullEdgesAreUnmarked (sym o.leads) (each_null_unmarked L enough o.events);
   is = f.word loads;
 }
@@ -48,8 +51,10 @@ read_of L w log e n f loads = record {
     same : s.layout ≡ L
     same = ap (λ (t : State). t.layout) o.leads ∙ layout_kept (start L) o.events
 
-pub finds_birth : (L : Layout) (w : ℕ) (log : List Entry) (e : Event) (n x : ℕ) → IsFound L w log e n → is_store e ≡ false → touched_field w e ≡ at_birth x → IsSlot L x → n ≤ last_number
+pub finds_birth : (L : Layout) (w : ℕ) (log : List Entry) (e : Event) (n x : ℕ) → IsFound L w log e n
+    → is_store e ≡ false → touched_field w e ≡ at_birth x → IsSlot L x → n ≤ last_number
 finds_birth L w log e n x f loads at slot =
     let r = read_of L w log e n f loads in
-    let is : n ≡ (node r.memory x).birth = r.is ∙ (ap (word_at L r.memory) at ∙ each_word_is_its_field L r.memory (at_birth x) r.fits slot) in
+    let is : n ≡ (node r.memory x).birth = r.is ∙ (ap (word_at L r.memory) at
+    ∙ each_word_is_its_field L r.memory (at_birth x) r.fits slot) in
     let most = r.range.births x in omega (arith, most, is)

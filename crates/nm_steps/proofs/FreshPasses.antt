@@ -28,7 +28,9 @@ empty_log L w h = record { worker = h; turns = []; keys = λ i d below. absurd (
 abbrev pub no_epochs : Brief
 no_epochs = record { seen = None; announcement = None; pin = None; unlabelled = false }
 
-pub fresh_tied : (L : Layout) (it : Seat Unit View) (w announcement : ℕ) → IsLayout L → w < L.workers → announcement ≡ word L (at_announcement w) → it.me.0 ≡ fresh_view L w → it.me.1 ≡ [] → Tied it w announcement no_epochs
+pub fresh_tied : (L : Layout) (it : Seat Unit View) (w announcement : ℕ) → IsLayout L → w < L.workers
+    → announcement ≡ word L (at_announcement w) → it.me.0 ≡ fresh_view L w → it.me.1 ≡ []
+    → Tied it w announcement no_epochs
 unfolding empty_log trace_in
 fresh_tied L it w announcement fits below at view empty = record {
   empty = empty;
@@ -39,9 +41,12 @@ fresh_tied L it w announcement fits below at view empty = record {
   fits = subst (λ (v : View). IsLayout v.layout) (sym view) fits;
   worker = subst (λ (v : View). w < v.layout.workers) (sym view) below;
   small = tt;
-  private = subst (λ (v : View). (x : ℕ) → is_private (knowledge v) x ≡ true → IsPooled v.layout x) (sym view) (λ x h. absurd (true≢false (sym h)));
-  seen = subst HasSeen (sym view) (let log = empty_log L w below in record { worker = below; events = []; keys = log.keys; are = refl; is_part = refl; here = refl });
+  private = subst (λ (v : View). (x : ℕ) → is_private (knowledge v) x ≡ true → IsPooled v.layout x) (sym view)
+      (λ x h. absurd (true≢false (sym h)));
+  seen = subst HasSeen (sym view) (let log = empty_log L w below in
+      record { worker = below; events = []; keys = log.keys; are = refl; is_part = refl; here = refl });
   heard = ap (λ (v : View). v.heard) view;
   heard_stores = ap (λ (v : View). v.heard_stores) view;
-  stored = subst (λ (v : View). StoredBefore v.number (length v.log + 1) v.stores) (sym view) (All-nil (λ (x : Stored). x.worker ≡ w → x.own < 1));
+  stored = subst (λ (v : View). StoredBefore v.number (length v.log + 1) v.stores) (sym view)
+      (All-nil (λ (x : Stored). x.worker ≡ w → x.own < 1));
 }

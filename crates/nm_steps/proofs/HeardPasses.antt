@@ -14,7 +14,9 @@ use Rattle.nm_steps.specs.Steps.{Tied, HasSeen}
 use Rattle.nm_steps.specs.Ties.{HasSeenBoth}
 
 -- the seat after it was told, and after the read behind it
-module _ (it mid after : Seat Unit View) (number announcement : ℕ) (brief : Brief) (w : View) (tied : Tied it number announcement brief) (me : mid.me ≡ (informed it.me.0 w, it.me.1)) (slots : after.me.1 ≡ mid.me.1) (both : HasSeenBoth mid.me.0 after.me.0) where
+module _ (it mid after : Seat Unit View) (number announcement : ℕ) (brief : Brief) (w : View)
+    (tied : Tied it number announcement brief) (me : mid.me ≡ (informed it.me.0 w, it.me.1))
+    (slots : after.me.1 ≡ mid.me.1) (both : HasSeenBoth mid.me.0 after.me.0) where
   abbrev now : List Turn
   now = after.me.0.past
 
@@ -22,9 +24,11 @@ module _ (it mid after : Seat Unit View) (number announcement : ℕ) (brief : Br
   st = after.me.0.stores
 
   view : after.me.0 ≡ record it.me.0 { past = now; heard = []; stores = st; heard_stores = [] }
-  view = both.is ∙ ap (λ (m : View × List (ℕ × Unit)). record m.0 { past = now; heard = []; stores = st; heard_stores = [] }) me
+  view = both.is ∙ ap (λ (m : View × List (ℕ × Unit)). record m.0
+      { past = now; heard = []; stores = st; heard_stores = [] }) me
 
-  pub heard_tied : HasSeen after.me.0 → StoredBefore after.me.0.number (length after.me.0.log + 1) after.me.0.stores → Tied after number announcement brief
+  pub heard_tied : HasSeen after.me.0 → StoredBefore after.me.0.number (length after.me.0.log + 1) after.me.0.stores
+      → Tied after number announcement brief
   heard_tied seen stored = record {
     empty = slots ∙ (ap (λ m. m.1) me ∙ tied.empty);
     alive = ap (λ (v : View). v.resigned) view ∙ tied.alive;
@@ -34,7 +38,8 @@ module _ (it mid after : Seat Unit View) (number announcement : ℕ) (brief : Br
     fits = subst (λ (v : View). IsLayout v.layout) (sym view) tied.fits;
     worker = subst (λ (v : View). number < v.layout.workers) (sym view) tied.worker;
     small = tied.small;
-    private = subst (λ (v : View). (x : ℕ) → is_private (knowledge v) x ≡ true → IsPooled v.layout x) (sym view) tied.private;
+    private = subst (λ (v : View). (x : ℕ) → is_private (knowledge v) x ≡ true → IsPooled v.layout x) (sym view)
+        tied.private;
     seen = seen;
     heard = ap (λ (v : View). v.heard) view;
     heard_stores = ap (λ (v : View). v.heard_stores) view;
@@ -42,7 +47,13 @@ module _ (it mid after : Seat Unit View) (number announcement : ℕ) (brief : Br
   }
 
   pub heard_view : after.me.0 ≡ record it.me.0 { past = now; stores = st }
-  heard_view = view ∙ (λ i. record it.me.0 { past = now; heard = sym tied.heard i; stores = st; heard_stores = sym tied.heard_stores i })
+  heard_view = view ∙ (λ i. record it.me.0 {
+    past = now;
+    heard = sym tied.heard i;
+    stores = st;
+    heard_stores = sym
+        tied.heard_stores i;
+  })
 
   pub heard_past : Extends now it.me.0.past
   heard_past = subst (λ (m : View × List (ℕ × Unit)). Extends now m.0.past) me both.past

@@ -54,11 +54,13 @@ once_is w n = cases (ltb w n) refl
 pub live : (v : View) → v.resigned ≡ false → holdings v ≡ held_log v.number v.log ∷ v.others
 live v h = ap (λ (b : Bool). cond b [] (held_log v.number v.log ∷ v.others)) h
 
-pub stands_live : (v : View) → v.resigned ≡ false → stands v.number v ≡ 1 + count_by (λ h. eqb v.number h.number) v.others
+pub stands_live : (v : View) → v.resigned ≡ false
+    → stands v.number v ≡ 1 + count_by (λ h. eqb v.number h.number) v.others
 stands_live v h =
     ap (count_by (λ (x : Held). eqb v.number x.number)) (live v h)
     ∙ sum_by-cons (λ (x : Held). cond (eqb v.number x.number) 1 0) (held_log v.number v.log) v.others
-    ∙ ap (λ (b : Bool). cond b 1 0 + count_by (λ (x : Held). eqb v.number x.number) v.others) (eq-eqb v.number v.number refl)
+    ∙ ap (λ (b : Bool). cond b 1 0 + count_by (λ (x : Held). eqb v.number x.number) v.others)
+    (eq-eqb v.number v.number refl)
 
 -- ---- the part of a trace with one turn more
 
@@ -67,33 +69,50 @@ pub no_leaver : (L : Layout) (w : ℕ) (log : List Entry) (e : Event) → May L 
 no_leaver L w log (Join v) may u = absurd may.births
 no_leaver L w log e may u = refl
 
-pub part_grows : (u : ℕ) (ts : List Turn) (w : ℕ) (e : Event) (r : Reply) → takes_part u w e ≡ true → part_of u (ts ++ answered_turn w e r ∷ []) ≡ part_of u ts ++ (e, r) ∷ []
-part_grows u ts w e r takes = part-append u ts (answered_turn w e r ∷ []) ∙ ap (λ (b : Bool). part_of u ts ++ (cond b ((e, r) ∷ []) [] ++ [])) takes
+pub part_grows : (u : ℕ) (ts : List Turn) (w : ℕ) (e : Event) (r : Reply) → takes_part u w e ≡ true
+    → part_of u (ts ++ answered_turn w e r ∷ []) ≡ part_of u ts ++ (e, r) ∷ []
+part_grows u ts w e r takes = part-append u ts (answered_turn w e r ∷ [])
+    ∙ ap (λ (b : Bool). part_of u ts ++ (cond b ((e, r) ∷ []) [] ++ [])) takes
 
-pub part_stays : (u : ℕ) (ts : List Turn) (w : ℕ) (e : Event) (r : Reply) → takes_part u w e ≡ false → part_of u (ts ++ answered_turn w e r ∷ []) ≡ part_of u ts
-part_stays u ts w e r apart = part-append u ts (answered_turn w e r ∷ []) ∙ (ap (λ (b : Bool). part_of u ts ++ (cond b ((e, r) ∷ []) [] ++ [])) apart ∙ append-nil (part_of u ts))
+pub part_stays : (u : ℕ) (ts : List Turn) (w : ℕ) (e : Event) (r : Reply) → takes_part u w e ≡ false
+    → part_of u (ts ++ answered_turn w e r ∷ []) ≡ part_of u ts
+part_stays u ts w e r apart = part-append u ts (answered_turn w e r ∷ [])
+    ∙ (ap (λ (b : Bool). part_of u ts ++ (cond b ((e, r) ∷ []) [] ++ [])) apart ∙ append-nil (part_of u ts))
 
 -- the logs of other numbers are as they were
-pub others_kept : (l L : Layout) (t t' : List Turn) (w : ℕ) → ((u : ℕ) → eqb w u ≡ false → part_of u t' ≡ part_of u t) → (hs : List Held) → count_by (λ h. eqb w h.number) hs ≡ 0 → LogsAre l L t hs → LogsAre l L t' hs
+pub others_kept : (l L : Layout) (t t' : List Turn) (w : ℕ)
+    → ((u : ℕ) → eqb w u ≡ false → part_of u t' ≡ part_of u t) → (hs : List Held)
+    → count_by (λ h. eqb w h.number) hs ≡ 0 → LogsAre l L t hs → LogsAre l L t' hs
 others_kept l L t t' w same [] c a = tt
 others_kept l L t t' w same (h ∷ hs) c a = cases (eqb w h.number) refl (λ q. others_kept l L t t' w same hs q a.2)
   where
     sum : cond (eqb w h.number) 1 0 + count_by (λ h. eqb w h.number) hs ≡ 0
     sum = sym (sum_by-cons (λ (x : Held). cond (eqb w x.number) 1 0) h hs) ∙ c
 
-    cases : (b : Bool) → eqb w h.number ≡ b → (count_by (λ h. eqb w h.number) hs ≡ 0 → LogsAre l L t' hs) → LogsAre l L t' (h ∷ hs)
-    cases true is rec = absurd (let q : 1 + count_by (λ (x : Held). eqb w x.number) hs ≡ 0 = rw is at sum in omega arith)
-    cases false is rec = (a.0, a.1 ∙ sym (same h.number is), rec (let q : 0 + count_by (λ (x : Held). eqb w x.number) hs ≡ 0 = rw is at sum in omega arith))
+    cases : (b : Bool) → eqb w h.number ≡ b → (count_by (λ h. eqb w h.number) hs ≡ 0 → LogsAre l L t' hs)
+        → LogsAre l L t' (h ∷ hs)
+    cases true is rec = absurd (let q : 1 + count_by (λ (x : Held). eqb w x.number) hs ≡ 0 = rw is at sum in
+        omega arith)
+    cases false is rec = (
+      a.0,
+      a.1 ∙ sym (same h.number is),
+      rec
+          (let q : 0 + count_by (λ (x : Held). eqb w x.number) hs ≡ 0 = rw is at sum in omega arith),
+    )
 
 -- ---- one step
 
-left_same : (L : Layout) (w : ℕ) (log : List Entry) (e : Event) (r : Reply) → May L w log e → (learn w (known_by L w log) e r).gone ≡ (known_by L w log).gone
+left_same : (L : Layout) (w : ℕ) (log : List Entry) (e : Event) (r : Reply) → May L w log e
+    → (learn w (known_by L w log) e r).gone ≡ (known_by L w log).gone
 left_same L w log e r may = gone_kept w (known_by L w log) e r (no_leaver L w log e may w)
 
 -- what holds of a view that is set, and of each other, holds of each
-pub each_set : (P : View → Type 0) (views : List View) (id : ℕ) (now : View) → P now → ((j : ℕ) (u : View) → j ≢ id → get_elem? views j ≡ some u → P u) → (j : ℕ) (u : View) → get_elem? (set views id now) j ≡ some u → P u
+pub each_set : (P : View → Type 0) (views : List View) (id : ℕ) (now : View) → P now
+    → ((j : ℕ) (u : View) → j ≢ id → get_elem? views j ≡ some u → P u) → (j : ℕ) (u : View)
+    → get_elem? (set views id now) j ≡ some u → P u
 each_set P views id now own others j u is =
-    ⊎_elim (λ (x : (j ≡ id) × (now ≡ u)). subst P x.1 own) (λ (x : (j ≢ id) × (get_elem? views j ≡ some u)). others j u x.0 x.1) (at_set views id j now u is)
+    ⊎_elim (λ (x : (j ≡ id) × (now ≡ u)). subst P x.1 own)
+    (λ (x : (j ≢ id) × (get_elem? views j ≡ some u)). others j u x.0 x.1) (at_set views id j now u is)
 
 module _ (L : Layout) (words : List ℕ) (views : List View) (id : ℕ) (v : View) (e : Event) (i : ℕ)
     (k : Runs L words views) (at : get_elem? views id ≡ some v) (alive : v.resigned ≡ false) (layout : v.layout ≡ L)
@@ -113,7 +132,14 @@ module _ (L : Layout) (words : List ℕ) (views : List View) (id : ℕ) (v : Vie
       (omega arith, one.1 (omega arith))
 
   part : IsPartOf L v.number v.log k.turns
-  part = record { fits = k.fits; keys = k.keys; worker = counted.1; is_part = mine.1; here = subst (λ (l : Layout). (known_by l v.number v.log).gone ≡ false) layout (k.here id v at alive) }
+  part = record {
+    fits = k.fits;
+    keys = k.keys;
+    worker = counted.1;
+    is_part = mine.1;
+    here = subst
+        (λ (l : Layout). (known_by l v.number v.log).gone ≡ false) layout (k.here id v at alive);
+  }
 
   abbrev more : List (ℕ × Event)
   more = k.turns ++ (v.number, e) ∷ []
@@ -125,7 +151,16 @@ module _ (L : Layout) (words : List ℕ) (views : List View) (id : ℕ) (v : Vie
   found_is = λ j. slice_index (k.words_are j) (index j)
 
   pub is_found : IsFound L v.number v.log e found
-  is_found = record { fits = k.fits; worker = counted.1; turns = k.turns; keys = k.keys; is_part = mine.1; here = part.here; word = λ _. found_is }
+  is_found = record {
+    fits = k.fits;
+    worker = counted.1;
+    turns = k.turns;
+    keys = k.keys;
+    is_part = mine.1;
+    here =
+        part.here;
+    word = λ _. found_is;
+  }
 
   abbrev reply : Reply
   reply = told v.layout (knowledge v) (known_births v) e found
@@ -133,17 +168,23 @@ module _ (L : Layout) (words : List ℕ) (views : List View) (id : ℕ) (v : Vie
   abbrev now : View
   now = logged v e found trace
 
-  reply_is : told L (known_by L v.number v.log) (births_by L v.number v.log) e (word_at L (after_in (ordered L) k.turns).state.memory (touched_field v.number e)) ≡ reply
-  reply_is = ap (λ (l : Layout). told l (known_by l v.number v.log) (births_by l v.number v.log) e (word_at L (after_in (ordered L) k.turns).state.memory (touched_field v.number e))) (sym layout) ∙ ap (told v.layout (knowledge v) (known_births v) e) (sym found_is)
+  reply_is : told L (known_by L v.number v.log) (births_by L v.number v.log) e
+      (word_at L (after_in (ordered L) k.turns).state.memory (touched_field v.number e)) ≡ reply
+  reply_is = ap (λ (l : Layout). told l (known_by l v.number v.log) (births_by l v.number v.log) e
+      (word_at L (after_in (ordered L) k.turns).state.memory (touched_field v.number e))) (sym layout)
+      ∙ ap (told v.layout (knowledge v) (known_births v) e) (sym found_is)
 
   trace_is : trace_in (ordered L) more ≡ trace ++ answered_turn v.number e reply ∷ []
-  trace_is = trace_after L v.number v.log k.turns part e may ∙ ap (λ (r : Reply). trace ++ answered_turn v.number e r ∷ []) reply_is
+  trace_is = trace_after L v.number v.log k.turns part e may
+      ∙ ap (λ (r : Reply). trace ++ answered_turn v.number e r ∷ []) reply_is
 
   own_part : part_of v.number (trace_in (ordered L) more) ≡ part_of v.number trace ++ (e, reply) ∷ []
-  own_part = ap (part_of v.number) trace_is ∙ part_grows v.number trace v.number e reply (ap (λ (b : Bool). b || is_leaver v.number e) (eq-eqb v.number v.number refl))
+  own_part = ap (part_of v.number) trace_is ∙ part_grows v.number trace v.number e reply
+      (ap (λ (b : Bool). b || is_leaver v.number e) (eq-eqb v.number v.number refl))
 
   other_part : (u : ℕ) → eqb v.number u ≡ false → part_of u (trace_in (ordered L) more) ≡ part_of u trace
-  other_part u ne = ap (part_of u) trace_is ∙ part_stays u trace v.number e reply ((λ j. ne j || no_leaver L v.number v.log e may u j))
+  other_part u ne = ap (part_of u) trace_is ∙ part_stays u trace v.number e reply
+      ((λ j. ne j || no_leaver L v.number v.log e may u j))
 
   shown_own : IsShown L (trace_in (ordered L) more) now
   shown_own =
@@ -152,19 +193,22 @@ module _ (L : Layout) (words : List ℕ) (views : List View) (id : ℕ) (v : Vie
       subst (LogsAre v.layout L (trace_in (ordered L) more)) (sym (live now alive)) (
         mine.0,
         ap (λ (l : List Entry). l ++ (e, reply) ∷ []) mine.1 ∙ sym own_part,
-        others_kept v.layout L trace (trace_in (ordered L) more) v.number other_part v.others (omega (arith, counted.0)) mine.2,
+        others_kept v.layout L trace (trace_in (ordered L) more) v.number other_part v.others
+            (omega (arith, counted.0)) mine.2,
       )
 
   shown_other : (j : ℕ) (u : View) → j ≢ id → get_elem? views j ≡ some u → IsShown L (trace_in (ordered L) more) u
   shown_other j u ne is =
       let both = both_at_most_sum (stands v.number) views j id u v ne is at in
       let self = stands_live v alive in
-      others_kept u.layout L trace (trace_in (ordered L) more) v.number other_part (holdings u) (omega (arith, counted.0)) (k.shown j u is)
+      others_kept u.layout L trace (trace_in (ordered L) more) v.number other_part (holdings u)
+      (omega (arith, counted.0)) (k.shown j u is)
 
   here_now : (knowledge now).gone ≡ false
   here_now =
       ap (λ (l : Layout). (known_by l v.number now.log).gone) layout
-      ∙ (ap (λ x. x.gone) (known_push v.number L v.log (e, reply)) ∙ (left_same L v.number v.log e reply may ∙ part.here))
+      ∙ (ap (λ x. x.gone) (known_push v.number L v.log (e, reply))
+      ∙ (left_same L v.number v.log e reply may ∙ part.here))
 
   longer : (P : List Turn → Type 0) → P (trace ++ answered_turn v.number e reply ∷ []) → P (trace_in (ordered L) more)
   longer P = subst P (sym trace_is)
@@ -176,10 +220,12 @@ module _ (L : Layout) (words : List ℕ) (views : List View) (id : ℕ) (v : Vie
       ∙ sym (sum_by-cons (λ (x : Held). cond (eqb w x.number) 1 0) (held_log v.number v.log) v.others)
       ∙ sym (ap (count_by (λ (x : Held). eqb w x.number)) (live v alive))
 
-  words_now : slice_set words i (left_word v.layout (knowledge v) e found) ≡ words_of L (after_in (ordered L) more).state.memory
+  words_now : slice_set words i (left_word v.layout (knowledge v) e found)
+      ≡ words_of L (after_in (ordered L) more).state.memory
   words_now =
       ap (λ (l : Layout). slice_set words i (left_word l (known_by l v.number v.log) e found)) layout
-      ∙ ((λ j. slice_set (k.words_are j) (index j) (left_word L (known_by L v.number v.log) e (found_is j))) ∙ sym (words_after L v.number v.log k.turns part e may))
+      ∙ ((λ j. slice_set (k.words_are j) (index j) (left_word L (known_by L v.number v.log) e (found_is j)))
+      ∙ sym (words_after L v.number v.log k.turns part e may))
 
   abbrev next : Runs L (slice_set words i (left_word v.layout (knowledge v) e found)) (set views id now)
   next = record {
@@ -188,11 +234,17 @@ module _ (L : Layout) (words : List ℕ) (views : List View) (id : ℕ) (v : Vie
     keys = keys_more k.turns (v.number, e) k.keys may.key;
     words_are = words_now;
     shown = each_set (IsShown L (trace_in (ordered L) more)) views id now shown_own shown_other;
-    here = each_set (λ (u : View). u.resigned ≡ false → (knowledge u).gone ≡ false) views id now (λ _. here_now) (λ j u _. k.here j u);
+    here = each_set (λ (u : View). u.resigned ≡ false → (knowledge u).gone ≡ false) views id now (λ _. here_now)
+        (λ j u _. k.here j u);
     once = λ w. omega (arith, sum_after (stands w) views id v now at, same_stands w, k.once w);
     lags = each_set (LagsBehind (trace_in (ordered L) more)) views id now
-        (longer (λ ts. LagsBehind ts now) (record { past = goes_on_itself now.past; heard = goes_on_by trace v.heard (answered_turn v.number e reply) (k.lags id v at).heard }))
-        (λ j u _ is. longer (λ ts. LagsBehind ts u) (behind_by trace (answered_turn v.number e reply) u (k.lags j u is)));
+        (longer (λ ts. LagsBehind ts now) (record {
+          past = goes_on_itself now.past;
+          heard = goes_on_by trace v.heard
+              (answered_turn v.number e reply) (k.lags id v at).heard;
+        }))
+        (λ j u _ is. longer (λ ts. LagsBehind ts u) (behind_by trace (answered_turn v.number e reply) u
+        (k.lags j u is)));
   }
 
   -- ---- values
@@ -203,7 +255,8 @@ module _ (L : Layout) (words : List ℕ) (views : List View) (id : ℕ) (v : Vie
       ∙ (ap (known_by L v.number) mine.1 ∙ sym (logs_tell L k.turns v.number counted.1))
 
   -- each new leaf still has a store
-  pub links_on : (slots : ℕ) (st : List Stored) → ExtendsStores st v.stores → LinkHasValue slots v e → IfValued L slots k.turns st → IfValued L slots more st
+  pub links_on : (slots : ℕ) (st : List Stored) → ExtendsStores st v.stores → LinkHasValue slots v e
+      → IfValued L slots k.turns st → IfValued L slots more st
   links_on slots st had stored (inl plain) = inl plain
   links_on slots st had stored (inr links) = elim (ℕ_discrete slots 0) [
     | yes none' ↦ inl none'
@@ -237,23 +290,48 @@ no_step = step 0 0 0 0 none
 
 -- one event more, by a word that was found: the view behind it, with the rule, and what the step
 -- tells; m is the word that it is told of
-pub goes_on : (L : Layout) (words : List ℕ) (views : List View) (id : ℕ) (v : View) (e : Event) (i m : ℕ) (k : Runs L words views)
-    → get_elem? views id ≡ some v → v.resigned ≡ false → v.layout ≡ L → i ≡ word L (touched_field v.number e) → May L v.number v.log e
-    → told v.layout (knowledge v) (known_births v) e m ≡ told v.layout (knowledge v) (known_births v) e (slice_index words i)
+pub goes_on : (L : Layout) (words : List ℕ) (views : List View) (id : ℕ) (v : View) (e : Event) (i m : ℕ)
+    (k : Runs L words views)
+    → get_elem? views id ≡ some v → v.resigned ≡ false → v.layout ≡ L → i ≡ word L (touched_field v.number e)
+    → May L v.number v.log e
+    → told v.layout (knowledge v) (known_births v) e m
+    ≡ told v.layout (knowledge v) (known_births v) e (slice_index words i)
     → (is_store e ≡ false → m ≡ slice_index words i)
     → (slots : ℕ) (st : List Stored) → ExtendsStores st v.stores → LinkHasValue slots v e
-    → (w : View) × (r : Runs L (slice_set words i (left_word v.layout (knowledge v) e (slice_index words i))) (set views id w)) × Grows L slots st k.turns r.turns × SameStores v w × Did e no_step (v, []) m (w, [])
+    → (w : View) × (r : Runs L (slice_set words i (left_word v.layout (knowledge v) e (slice_index words i)))
+    (set views id w)) × Grows L slots st k.turns r.turns × SameStores v w × Did e no_step (v, []) m (w, [])
 unfolding is_found
 goes_on L words views id v e i m k at alive layout index may same is slots st had stored =
     let n : ℕ = slice_index words i in
     let was = is_found L words views id v e i k at alive layout index may in (
       logged v e n (trace_in (ordered L) k.turns),
       next L words views id v e i k at alive layout index may,
-      record { rest = (v.number, e) ∷ []; is = refl; linked = links_on L words views id v e i k at alive layout index may slots st had stored },
+      record {
+        rest = (v.number, e) ∷ [];
+        is = refl;
+        linked = links_on L words views id v e i k at alive layout index
+            may slots st had stored;
+      },
       record { stores = refl; heard = refl; number = refl; resigned = refl },
       (
-        found_by v.layout (sym layout) (record { fits = was.fits; worker = was.worker; turns = was.turns; keys = was.keys; is_part = was.is_part; here = was.here; word = λ h. is h ∙ was.word h }),
-        (λ j. (record v { log = v.log ++ (e, sym same j) ∷ []; past = trace_in (ordered (sym layout j)) k.turns ++ answered_turn v.number e (sym same j) ∷ [] }, [])),
+        found_by v.layout (sym layout) (record {
+          fits = was.fits;
+          worker = was.worker;
+          turns = was.turns;
+          keys =
+              was.keys;
+          is_part = was.is_part;
+          here = was.here;
+          word = λ h. is h ∙ was.word h;
+        }),
+        (λ j. (
+          record v {
+            log = v.log ++ (e, sym same j) ∷ [];
+            past = trace_in (ordered (sym layout j)) k.turns
+                ++ answered_turn v.number e (sym same j) ∷ [];
+          },
+          [],
+        )),
         subst (λ (l : Layout). Extends (trace_in (ordered l) k.turns) v.past) (sym layout) (k.lags id v at).past,
       ),
     )
@@ -267,27 +345,36 @@ goes_on L words views id v e i m k at alive layout index may same is slots st ha
       keys = f.keys;
       is_part = subst (λ (x : Layout). v.log ≡ part_of v.number (trace_in (ordered x) f.turns)) same f.is_part;
       here = subst (λ (x : Layout). (known_by x v.number v.log).gone ≡ false) same f.here;
-      word = subst (λ (x : Layout). is_store e ≡ false → m ≡ word_at x (after_in (ordered x) f.turns).state.memory (touched_field v.number e)) same f.word;
+      word = subst (λ (x : Layout). is_store e ≡ false
+          → m ≡ word_at x (after_in (ordered x) f.turns).state.memory (touched_field v.number e)) same f.word;
     }
 
 -- where the core's words take a step, so do all
-pub lifts : (L : Layout) (slots id : ℕ) (v : View) (i : ℕ) (f : ℕ → ℕ) (then' : ℕ → Me Unit View → Type 0) → i < all_words L
-    → ((core : List ℕ) (views : List View) (k : Runs L core views) → get_elem? views id ≡ some v → slice_index core i < 18446744073709551616 → (st : List Stored) → AreStoresOf L slots k.turns st → LagsInStores st v
-    → (w : View) × (r : Runs L (slice_set core i (f (slice_index core i))) (set views id w)) × Grows L slots st k.turns r.turns × LagsInStores st w × then' (slice_index core i) (w, []))
+pub lifts : (L : Layout) (slots id : ℕ) (v : View) (i : ℕ) (f : ℕ → ℕ) (then' : ℕ → Me Unit View → Type 0)
+    → i < all_words L
+    → ((core : List ℕ) (views : List View) (k : Runs L core views) → get_elem? views id ≡ some v
+    → slice_index core i < 18446744073709551616 → (st : List Stored) → AreStoresOf L slots k.turns st
+    → LagsInStores st v
+    → (w : View) × (r : Runs L (slice_set core i (f (slice_index core i))) (set views id w))
+    × Grows L slots st k.turns r.turns × LagsInStores st w × then' (slice_index core i) (w, []))
     → Allows (Kept L) slots id (v, []) i f then'
 lifts L slots id v i f then' below go s k homes at small =
     let long = run_long L k.core s.views k.runs in
     let inside : i < length k.core = omega (arith, long, below) in
-    let same : slice_index s.words i ≡ slice_index k.core i = ap (λ (l : List ℕ). slice_index l i) k.words_are ∙ get_or_append_left k.core k.values 0 i inside in
-    let linked : IfValued L slots k.runs.turns k.stores = subst (λ (n : ℕ). IfValued L n k.runs.turns k.stores) (k.long ∙ homes) k.valued.linked in
-    let g = go k.core s.views k.runs at (subst (λ (n : ℕ). n < 18446744073709551616) same small) k.stores (record { held = k.valued.held; linked = linked; order = k.valued.order }) (k.valued.seen id v at) in (
+    let same : slice_index s.words i ≡ slice_index k.core i = ap (λ (l : List ℕ). slice_index l i) k.words_are
+    ∙ get_or_append_left k.core k.values 0 i inside in
+    let linked : IfValued L slots k.runs.turns k.stores = subst (λ (n : ℕ). IfValued L n k.runs.turns k.stores)
+    (k.long ∙ homes) k.valued.linked in
+    let g = go k.core s.views k.runs at (subst (λ (n : ℕ). n < 18446744073709551616) same small) k.stores
+    (record { held = k.valued.held; linked = linked; order = k.valued.order }) (k.valued.seen id v at) in (
       g.0,
       keeps,
       tt,
       record {
         core = slice_set k.core i (f (slice_index k.core i));
         values = k.values;
-        words_are = (λ j. slice_set (k.words_are j) i (f (same j))) ∙ set-append_left k.core k.values i (f (slice_index k.core i)) inside;
+        words_are = (λ j. slice_set (k.words_are j) i (f (same j)))
+            ∙ set-append_left k.core k.values i (f (slice_index k.core i)) inside;
         long = k.long;
         runs = g.1;
         stores = k.stores;
@@ -307,39 +394,54 @@ lifts L slots id v i f then' below go s k homes at small =
 pub allows : (L : Layout) (slots id : ℕ) (v : View) (e : Event) (i : ℕ) (f said : ℕ → ℕ)
     → v.resigned ≡ false → v.layout ≡ L → i ≡ word L (touched_field v.number e) → May L v.number v.log e
     → ((n : ℕ) → f n ≡ left_word v.layout (knowledge v) e n)
-    → ((n : ℕ) → (told v.layout (knowledge v) (known_births v) e (said n) ≡ told v.layout (knowledge v) (known_births v) e n) × (is_store e ≡ false → said n ≡ n))
+    → ((n : ℕ) → (told v.layout (knowledge v) (known_births v) e (said n)
+    ≡ told v.layout (knowledge v) (known_births v) e n) × (is_store e ≡ false → said n ≡ n))
     → i < all_words L → LinkHasValue slots v e
     → Allows (Kept L) slots id (v, []) i f (λ n. Did e no_step (v, []) (said n))
-allows L slots id v e i f said alive layout index may change tell below stored = lifts L slots id v i f (λ n. Did e no_step (v, []) (said n)) below by
+allows L slots id v e i f said alive layout index may change tell below stored = lifts L slots id v i f
+    (λ n. Did e no_step (v, []) (said n)) below by
   where
-    by : (core : List ℕ) (views : List View) (k : Runs L core views) → get_elem? views id ≡ some v → slice_index core i < 18446744073709551616 → (st : List Stored) → AreStoresOf L slots k.turns st → LagsInStores st v
-        → (w : View) × (r : Runs L (slice_set core i (f (slice_index core i))) (set views id w)) × Grows L slots st k.turns r.turns × LagsInStores st w × Did e no_step (v, []) (said (slice_index core i)) (w, [])
+    by : (core : List ℕ) (views : List View) (k : Runs L core views) → get_elem? views id ≡ some v
+        → slice_index core i < 18446744073709551616 → (st : List Stored) → AreStoresOf L slots k.turns st
+        → LagsInStores st v
+        → (w : View) × (r : Runs L (slice_set core i (f (slice_index core i))) (set views id w))
+        × Grows L slots st k.turns r.turns × LagsInStores st w
+        × Did e no_step (v, []) (said (slice_index core i)) (w, [])
     by core views k at small st are lag =
         let n : ℕ = slice_index core i in
-        let g = goes_on L core views id v e i (said n) k at alive layout index may (tell n).0 (tell n).1 slots st lag.seen stored in
+        let g = goes_on L core views id v e i (said n) k at alive layout index may (tell n).0 (tell n).1 slots st
+        lag.seen stored in
         (g.0, reworded (ap (λ (m : ℕ). slice_set core i m) (sym (change n))) g.1, g.2, lags_kept st v g.0 lag g.3, g.4)
 
 -- the word that an event touches is one of the core
-pub field_below : (L : Layout) (w : ℕ) (e : Event) (i : ℕ) → i ≡ word L (touched_field w e) → IsField L (touched_field w e) → i < all_words L
-field_below L w e i index within = subst (λ (k : ℕ). k < all_words L) (sym index) (fields_within L (touched_field w e) within)
+pub field_below : (L : Layout) (w : ℕ) (e : Event) (i : ℕ) → i ≡ word L (touched_field w e)
+    → IsField L (touched_field w e) → i < all_words L
+field_below L w e i index within = subst (λ (k : ℕ). k < all_words L) (sym index)
+    (fields_within L (touched_field w e) within)
 
 -- what every operation asks of its caller, where the pass is ready; d is the event that the `Play`
 -- names
 asked : (L : Layout) (z : TableId) (it : Seat Unit View) (d e : Event) (i : ℕ) (f said : ℕ → ℕ)
     → d ≡ e → IsReadyFor (record { table = z; layout = L }) it e i → Changes e it.me.0 f
-    → ((n : ℕ) → (told it.me.0.layout (knowledge it.me.0) (known_births it.me.0) e (said n) ≡ told it.me.0.layout (knowledge it.me.0) (known_births it.me.0) e n) × (is_store e ≡ false → said n ≡ n))
+    → ((n : ℕ) → (told it.me.0.layout (knowledge it.me.0) (known_births it.me.0) e (said n)
+    ≡ told it.me.0.layout (knowledge it.me.0) (known_births it.me.0) e n) × (is_store e ≡ false → said n ≡ n))
     → (it.table_id ≡ z) × (i < z.words) × Allows (Kept L) z.slots it.id it.me i f (λ n. Did d no_step it.me (said n))
 asked L z it d e i f said pick r change tell = (
   r.table,
-  (let below = field_below L it.me.0.number e i r.word r.within in let within = r.words in omega (arith, below, within)),
+  (let below = field_below L it.me.0.number e i r.word r.within in let within = r.words in
+      omega (arith, below, within)),
   subst (λ (x : Event). Allows (Kept L) z.slots it.id it.me i f (λ n. Did x no_step it.me (said n))) (sym pick)
-      (subst (λ (c : List (ℕ × Unit)). Allows (Kept L) z.slots it.id (it.me.0, c) i f (λ n. Did e no_step (it.me.0, c) (said n))) (sym r.empty)
-      (allows L z.slots it.id it.me.0 e i f said r.alive r.layout r.word r.may change tell (field_below L it.me.0.number e i r.word r.within) r.stored)),
+      (subst (λ (c : List (ℕ × Unit)). Allows (Kept L) z.slots it.id (it.me.0, c) i f
+      (λ n. Did e no_step (it.me.0, c) (said n))) (sym r.empty)
+      (allows L z.slots it.id it.me.0 e i f said r.alive r.layout r.word r.may change tell
+      (field_below L it.me.0.number e i r.word r.within) r.stored)),
 )
 
 -- what the `Play` tells, as clauses say it
-pub is_done : (it after : Seat Unit View) (d e : Event) (n : ℕ) → d ≡ e → after.table_id ≡ it.table_id → after.id ≡ it.id → Did d no_step it.me n after.me → IsDone it after e n
-is_done it after d e n pick table seat did = subst (λ (x : Event). IsDone it after x n) pick (record { table = table; seat = seat; found = did.0; me = did.1; past = did.2 })
+pub is_done : (it after : Seat Unit View) (d e : Event) (n : ℕ) → d ≡ e → after.table_id ≡ it.table_id
+    → after.id ≡ it.id → Did d no_step it.me n after.me → IsDone it after e n
+is_done it after d e n pick table seat did = subst (λ (x : Event). IsDone it after x n) pick
+    (record { table = table; seat = seat; found = did.0; me = did.1; past = did.2 })
 
 -- the same where the `Play` is told the word that was found, and where it is told the one stored
 pub asked_plainly : (L : Layout) (z : TableId) (it : Seat Unit View) (d e : Event) (i : ℕ) (f : ℕ → ℕ)
@@ -349,5 +451,7 @@ asked_plainly L z it d e i f pick r change = asked L z it d e i f (λ n. n) pick
 
 pub asked_blind : (L : Layout) (z : TableId) (it : Seat Unit View) (d e : Event) (i new : ℕ)
     → d ≡ e → IsReadyFor (record { table = z; layout = L }) it e i → Changes e it.me.0 (λ _. new) → IsBlind e it.me.0
-    → (it.table_id ≡ z) × (i < z.words) × Allows (Kept L) z.slots it.id it.me i (λ _. new) (λ _. Did d no_step it.me new)
-asked_blind L z it d e i new pick r change blind = asked L z it d e i (λ _. new) (λ _. new) pick r change (λ n. (blind.same new n, λ h. absurd (true≢false (sym blind.store ∙ h))))
+    → (it.table_id ≡ z) × (i < z.words) × Allows (Kept L) z.slots it.id it.me i (λ _. new)
+    (λ _. Did d no_step it.me new)
+asked_blind L z it d e i new pick r change blind = asked L z it d e i (λ _. new) (λ _. new) pick r change
+    (λ n. (blind.same new n, λ h. absurd (true≢false (sym blind.store ∙ h))))

@@ -82,33 +82,42 @@ brief_is_noted w k (Splice a side s p keep) (Cut ns) = refl
 brief_is_noted w k (Splice a side s p keep) (Lost e) = refl
 brief_is_noted w k (Swap p side leaf new) (Cut ns) = refl
 brief_is_noted w k (Swap p side leaf new) (Lost e) = refl
-brief_is_noted w k (Join v) (Joined ls) = cond_both (w == v) (resigned k) (inheriting k ls) (λ x. x.brief ≡ k.brief) (λ _. refl) (λ _. refl)
+brief_is_noted w k (Join v) (Joined ls) = cond_both (w == v) (resigned k) (inheriting k ls) (λ x. x.brief ≡ k.brief)
+    (λ _. refl) (λ _. refl)
 brief_is_noted w k _ _ = refl
 
 -- ---- logs
 
 -- the reply to a store does not depend on the word
-store_is_blind : (L : Layout) (k : Knowledge) (births : ℕ → Option ℕ) (e : Event) (n m : ℕ) → is_store e ≡ true → told L k births e n ≡ told L k births e m
+store_is_blind : (L : Layout) (k : Knowledge) (births : ℕ → Option ℕ) (e : Event) (n m : ℕ) → is_store e ≡ true
+    → told L k births e n ≡ told L k births e m
 store_is_blind L k births Announce n m is = refl
 store_is_blind L k births Leave n m is = refl
 store_is_blind L k births (LeaveWith answer) n m is = refl
 store_is_blind L k births (Fill s f v) n m is = refl
 store_is_blind L k births e n m is = absurd (true≢false (sym is))
 
-module _ (L : Layout) (w : ℕ) (log : List Entry) (e : Event) (n : ℕ) (f : IsFound L w log e n) (may : May L w log e) where
+module _ (L : Layout) (w : ℕ) (log : List Entry) (e : Event) (n : ℕ) (f : IsFound L w log e n)
+    (may : May L w log e) where
   part : IsPartOf L w log f.turns
   part = record { fits = f.fits; keys = f.keys; worker = f.worker; is_part = f.is_part; here = f.here }
 
-  reply_is : told L (known_by L w log) (births_by L w log) e (word_at L (after_in (ordered L) f.turns).state.memory (touched_field w e)) ≡ told L (known_by L w log) (births_by L w log) e n
+  reply_is : told L (known_by L w log) (births_by L w log) e
+      (word_at L (after_in (ordered L) f.turns).state.memory (touched_field w e))
+      ≡ told L (known_by L w log) (births_by L w log) e n
   reply_is = go (is_store e) refl
     where
-      go : (b : Bool) → is_store e ≡ b → told L (known_by L w log) (births_by L w log) e (word_at L (after_in (ordered L) f.turns).state.memory (touched_field w e)) ≡ told L (known_by L w log) (births_by L w log) e n
+      go : (b : Bool) → is_store e ≡ b → told L (known_by L w log) (births_by L w log) e
+          (word_at L (after_in (ordered L) f.turns).state.memory (touched_field w e))
+          ≡ told L (known_by L w log) (births_by L w log) e n
       go true is = store_is_blind L (known_by L w log) (births_by L w log) e _ n is
       go false is = ap (told L (known_by L w log) (births_by L w log) e) (sym (f.word is))
 
   -- the turns of the longer run
-  pub seen_is : trace_in (ordered L) f.turns ++ answered_turn w e (told L (known_by L w log) (births_by L w log) e n) ∷ [] ≡ trace_in (ordered L) (f.turns ++ (w, e) ∷ [])
-  seen_is = sym (trace_after L w log f.turns part e may ∙ ap (λ (r : Reply). trace_in (ordered L) f.turns ++ answered_turn w e r ∷ []) reply_is)
+  pub seen_is : trace_in (ordered L) f.turns ++ answered_turn w e (told L (known_by L w log) (births_by L w log) e n)
+      ∷ [] ≡ trace_in (ordered L) (f.turns ++ (w, e) ∷ [])
+  seen_is = sym (trace_after L w log f.turns part e may
+      ∙ ap (λ (r : Reply). trace_in (ordered L) f.turns ++ answered_turn w e r ∷ []) reply_is)
 
   -- the longer log is a part of a run too
   pub log_grows : IsLogOf L w (log ++ (e, told L (known_by L w log) (births_by L w log) e n) ∷ [])
@@ -119,23 +128,35 @@ module _ (L : Layout) (w : ℕ) (log : List Entry) (e : Event) (n : ℕ) (f : Is
     is_part =
         ap (part_of w) (trace_after L w log f.turns part e may)
         ∙ (part_grows w (trace_in (ordered L) f.turns) w e _ (ap (λ (b : Bool). b || is_leaver w e) (eq-eqb w w refl))
-        ∙ (ap (λ (r : Reply). part_of w (trace_in (ordered L) f.turns) ++ (e, r) ∷ []) reply_is ∙ ap (λ (l : List Entry). l ++ (e, told L (known_by L w log) (births_by L w log) e n) ∷ []) (sym f.is_part)));
+        ∙ (ap (λ (r : Reply). part_of w (trace_in (ordered L) f.turns) ++ (e, r) ∷ []) reply_is
+        ∙ ap (λ (l : List Entry). l ++ (e, told L (known_by L w log) (births_by L w log) e n) ∷ []) (sym f.is_part)));
   }
 
   -- and its worker has not resigned in it
   pub run_grows : IsOfRun L w (log ++ (e, told L (known_by L w log) (births_by L w log) e n) ∷ [])
   run_grows = record {
     is_part = log_grows;
-    here = ap (λ (k : Knowledge). k.gone) (known_push w L log (e, told L (known_by L w log) (births_by L w log) e n)) ∙ (gone_kept w (known_by L w log) e (told L (known_by L w log) (births_by L w log) e n) (no_leaver L w log e may w) ∙ f.here);
+    here = ap (λ (k : Knowledge). k.gone) (known_push w L log (e, told L (known_by L w log) (births_by L w log) e n))
+        ∙ (gone_kept w (known_by L w log) e (told L (known_by L w log) (births_by L w log) e n)
+        (no_leaver L w log e may w) ∙ f.here);
   }
 
 -- what has been seen after a step has the log as its part
-seen_after : (v : View) (e : Event) (n : ℕ) (f : IsFound v.layout v.number v.log e n) → May v.layout v.number v.log e → HasSeen (logged v e n (trace_in (ordered v.layout) f.turns))
+seen_after : (v : View) (e : Event) (n : ℕ) (f : IsFound v.layout v.number v.log e n) → May v.layout v.number v.log e
+    → HasSeen (logged v e n (trace_in (ordered v.layout) f.turns))
 unfolding log_grows
 seen_after v e n f may =
     let longer = log_grows v.layout v.number v.log e n f may in
     let are = seen_is v.layout v.number v.log e n f may in
-    record { worker = longer.worker; events = longer.turns; keys = longer.keys; are = are; is_part = ap (part_of v.number) are ∙ longer.is_part; here = (run_grows v.layout v.number v.log e n f may).here }
+    record {
+      worker = longer.worker;
+      events = longer.turns;
+      keys = longer.keys;
+      are = are;
+      is_part = ap
+          (part_of v.number) are ∙ longer.is_part;
+      here = (run_grows v.layout v.number v.log e n f may).here;
+    }
 
 -- ---- a pass before and after a step
 
@@ -150,27 +171,39 @@ pub record HasTurned (p q : PassView) (e : Event) : Type 0 where
   pub turn : HasTurn p q e reply
 
 -- the turn of the step is the last that has been seen
-pub has_turned : (it after : Seat Unit View) (e : Event) (n : ℕ) → IsDone it after e n → HasTurned (standing it) (standing after) e
+pub has_turned : (it after : Seat Unit View) (e : Event) (n : ℕ) → IsDone it after e n
+    → HasTurned (standing it) (standing after) e
 has_turned it after e n done = record {
   reply = told it.me.0.layout (knowledge it.me.0) (known_births it.me.0) e n;
   log = ap (λ (m : View × List (ℕ × Unit)). m.0.log) done.me;
-  turn = record { before = trace_in (ordered it.me.0.layout) done.found.turns; extends = done.past; is = ap (λ (m : View × List (ℕ × Unit)). m.0.past) done.me };
+  turn = record {
+    before = trace_in (ordered it.me.0.layout) done.found.turns;
+    extends = done.past;
+    is = ap
+        (λ (m : View × List (ℕ × Unit)). m.0.past) done.me;
+  };
 }
 
 -- with the reply that the log tells
 pub has_turn : (p q : PassView) (e : Event) (r : Reply) → Stepped p q e r → HasTurned p q e → HasTurn p q e r
-has_turn p q e r step t = subst (HasTurn p q e) (ap (λ (x : Entry). x.1) (same_from_push p.view.log p.view.log (e, t.reply) (e, r) (sym t.log ∙ ap (λ (z : PassView). z.view.log) step)).1) t.turn
+has_turn p q e r step t = subst (HasTurn p q e) (ap (λ (x : Entry). x.1)
+    (same_from_push p.view.log p.view.log (e, t.reply) (e, r)
+    (sym t.log ∙ ap (λ (z : PassView). z.view.log) step)).1) t.turn
 
 -- the epoch last read, if there is one, is no greater than the greatest
 small_seen : (o : Option ℕ) → ((s : ℕ) → o ≡ Some s → s ≤ last_number) → IfSome o (λ e. e ≤ last_number)
 small_seen None small = tt
 small_seen (Some s) small = small s refl
 
-pub ready : (z : TableId) (key L : Layout) (it : Seat Unit View) (number announcement : ℕ) (brief : Brief) (e : Event) (i : ℕ)
-    → Laid z key L → Tied it number announcement brief → it.table_id ≡ z → it.me.0.layout ≡ L → May it.me.0.layout it.me.0.number it.me.0.log e → i ≡ word L (touched_field number e) → LinkHasValue z.slots it.me.0 e → IsReadyFor (record { table = z; layout = L }) it e i
+pub ready : (z : TableId) (key L : Layout) (it : Seat Unit View) (number announcement : ℕ) (brief : Brief)
+    (e : Event) (i : ℕ)
+    → Laid z key L → Tied it number announcement brief → it.table_id ≡ z → it.me.0.layout ≡ L
+    → May it.me.0.layout it.me.0.number it.me.0.log e → i ≡ word L (touched_field number e)
+    → LinkHasValue z.slots it.me.0 e → IsReadyFor (record { table = z; layout = L }) it e i
 ready z key L it number announcement brief e i laid tied table same may index stored =
     let k : May L it.me.0.number it.me.0.log e = subst (λ (l : Layout). May l it.me.0.number it.me.0.log e) same may in
-    let own : it.me.0.number < L.workers = subst (λ (n : ℕ). n < L.workers) tied.number_is (subst (λ (l : Layout). number < l.workers) same tied.worker) in
+    let own : it.me.0.number < L.workers = subst (λ (n : ℕ). n < L.workers) tied.number_is
+    (subst (λ (l : Layout). number < l.workers) same tied.worker) in
     record {
       table = table;
       words = laid.words_are;
@@ -184,38 +217,53 @@ ready z key L it number announcement brief e i laid tied table same may index st
     }
 
 -- the word of a pass's announcement is the one that its announcement has in the table
-pub announcement_in : (L : Layout) (it : Seat Unit View) (number announcement : ℕ) (brief : Brief) → Tied it number announcement brief → it.me.0.layout ≡ L → announcement ≡ word L (at_announcement number)
-announcement_in L it number announcement brief tied same = tied.announcement_is ∙ ap (λ (l : Layout). word l (at_announcement number)) same
+pub announcement_in : (L : Layout) (it : Seat Unit View) (number announcement : ℕ) (brief : Brief)
+    → Tied it number announcement brief → it.me.0.layout ≡ L → announcement ≡ word L (at_announcement number)
+announcement_in L it number announcement brief tied same = tied.announcement_is
+    ∙ ap (λ (l : Layout). word l (at_announcement number)) same
 
 -- the layout that the table was made for is the one of its rule
-pub ready_by_key : (z : TableId) (key L : Layout) (it : Seat Unit View) (e : Event) (i : ℕ) → Laid z key L → IsReadyFor (record { table = z; layout = L }) it e i → IsReadyFor (record { table = z; layout = key }) it e i
-ready_by_key z key L it e i laid r = subst (λ (l : Layout). IsReadyFor (record { table = z; layout = l }) it e i) (sym laid.key_is) r
+pub ready_by_key : (z : TableId) (key L : Layout) (it : Seat Unit View) (e : Event) (i : ℕ) → Laid z key L
+    → IsReadyFor (record { table = z; layout = L }) it e i → IsReadyFor (record { table = z; layout = key }) it e i
+ready_by_key z key L it e i laid r = subst (λ (l : Layout). IsReadyFor (record { table = z; layout = l }) it e i)
+    (sym laid.key_is) r
 
 -- after a step its log is of a run
-pub in_run_after : (it after : Seat Unit View) (number announcement : ℕ) (brief : Brief) (e : Event) (n : ℕ) → Tied it number announcement brief → May it.me.0.layout it.me.0.number it.me.0.log e → IsDone it after e n → IsInRun (standing after)
+pub in_run_after : (it after : Seat Unit View) (number announcement : ℕ) (brief : Brief) (e : Event) (n : ℕ)
+    → Tied it number announcement brief → May it.me.0.layout it.me.0.number it.me.0.log e → IsDone it after e n
+    → IsInRun (standing after)
 in_run_after it after number announcement brief e n tied may done =
-    let me : after.me.0 ≡ logged it.me.0 e n (trace_in (ordered it.me.0.layout) done.found.turns) = ap (λ m. m.0) done.me in
+    let me : after.me.0 ≡ logged it.me.0 e n (trace_in (ordered it.me.0.layout) done.found.turns) = ap (λ m. m.0)
+    done.me in
     record {
       fits = subst (λ (v : View). IsLayout v.layout) (sym me) tied.fits;
-      run = subst (λ (v : View). IsOfRun v.layout v.number v.log) (sym me) (run_grows it.me.0.layout it.me.0.number it.me.0.log e n done.found may);
+      run = subst (λ (v : View). IsOfRun v.layout v.number v.log) (sym me)
+          (run_grows it.me.0.layout it.me.0.number it.me.0.log e n done.found may);
     }
 
 -- what is done is a step of the pass, as clauses see it
-pub takes_step : (it after : Seat Unit View) (number announcement : ℕ) (brief : Brief) (e : Event) (n : ℕ) (p : PassView) (r : Reply) → Tied it number announcement brief → May it.me.0.layout it.me.0.number it.me.0.log e → IsDone it after e n
+pub takes_step : (it after : Seat Unit View) (number announcement : ℕ) (brief : Brief) (e : Event) (n : ℕ)
+    (p : PassView) (r : Reply) → Tied it number announcement brief → May it.me.0.layout it.me.0.number it.me.0.log e
+    → IsDone it after e n
     → Stepped p (standing after) e r → standing it ≡ p → TakesStep p (standing after) e r
 takes_step it after number announcement brief e n p r tied may done step is = record {
   step = step;
-  past = has_turn p (standing after) e r step (subst (λ (x : PassView). HasTurned x (standing after) e) is (has_turned it after e n done));
+  past = has_turn p (standing after) e r step (subst (λ (x : PassView). HasTurned x (standing after) e) is
+      (has_turned it after e n done));
   run = in_run_after it after number announcement brief e n tied may done;
   stores = ap (λ (m : Me Unit View). m.0.stores) done.me ∙ ap (λ (x : PassView). x.view.stores) is;
 }
 
-pub tied_after : (it after : Seat Unit View) (number announcement : ℕ) (brief new : Brief) (e : Event) (n : ℕ) → Tied it number announcement brief → May it.me.0.layout it.me.0.number it.me.0.log e → IsDone it after e n
-    → new ≡ noted brief e (told it.me.0.layout (knowledge it.me.0) (known_births it.me.0) e n) → Tied after number announcement new
+pub tied_after : (it after : Seat Unit View) (number announcement : ℕ) (brief new : Brief) (e : Event) (n : ℕ)
+    → Tied it number announcement brief → May it.me.0.layout it.me.0.number it.me.0.log e → IsDone it after e n
+    → new ≡ noted brief e (told it.me.0.layout (knowledge it.me.0) (known_births it.me.0) e n)
+    → Tied after number announcement new
 tied_after it after number announcement brief new e n tied may done is =
-    let me : after.me.0 ≡ logged it.me.0 e n (trace_in (ordered it.me.0.layout) done.found.turns) = ap (λ m. m.0) done.me in
+    let me : after.me.0 ≡ logged it.me.0 e n (trace_in (ordered it.me.0.layout) done.found.turns) = ap (λ m. m.0)
+    done.me in
     let r : Reply = told it.me.0.layout (knowledge it.me.0) (known_births it.me.0) e n in
-    let longer : IsLogOf it.me.0.layout it.me.0.number (it.me.0.log ++ (e, r) ∷ []) = log_grows it.me.0.layout it.me.0.number it.me.0.log e n done.found may in
+    let longer : IsLogOf it.me.0.layout it.me.0.number (it.me.0.log ++ (e, r) ∷ []) = log_grows it.me.0.layout
+    it.me.0.number it.me.0.log e n done.found may in
     let epochs : new ≡ (known_by it.me.0.layout it.me.0.number (it.me.0.log ++ (e, r) ∷ [])).brief =
     is ∙ (ap (λ (b : Brief). noted b e r) tied.brief_is
     ∙ (sym (brief_is_noted it.me.0.number (knowledge it.me.0) e r)
@@ -228,13 +276,16 @@ tied_after it after number announcement brief new e n tied may done is =
       brief_is = epochs ∙ sym (ap (λ (v : View). (knowledge v).brief) me);
       fits = subst (λ (v : View). IsLayout v.layout) (sym me) tied.fits;
       worker = subst (λ (v : View). number < v.layout.workers) (sym me) tied.worker;
-      small = small_seen new.seen (λ s at. seen_small it.me.0.layout it.me.0.number (it.me.0.log ++ (e, r) ∷ []) tied.fits longer s (sym (ap (λ (b : Brief). b.seen) epochs) ∙ at));
+      small = small_seen new.seen (λ s at. seen_small it.me.0.layout it.me.0.number (it.me.0.log ++ (e, r) ∷ [])
+          tied.fits longer s (sym (ap (λ (b : Brief). b.seen) epochs) ∙ at));
       private = subst (λ (v : View). (x : ℕ) → is_private (knowledge v) x ≡ true → IsPooled v.layout x) (sym me)
           (private_pooled it.me.0.layout it.me.0.number (it.me.0.log ++ (e, r) ∷ []) tied.fits longer);
       seen = subst HasSeen (sym me) (seen_after it.me.0 e n done.found may);
       heard = ap (λ (v : View). v.heard) me ∙ tied.heard;
       heard_stores = ap (λ (v : View). v.heard_stores) me ∙ tied.heard_stores;
-      stored = subst (λ (v : View). StoredBefore v.number (length v.log + 1) v.stores) (sym me) (stored_longer it.me.0.number (length it.me.0.log + 1) (length (it.me.0.log ++ (e, r) ∷ []) + 1) it.me.0.stores (let long = length-append it.me.0.log ((e, r) ∷ []) in omega (arith, long)) tied.stored);
+      stored = subst (λ (v : View). StoredBefore v.number (length v.log + 1) v.stores) (sym me)
+          (stored_longer it.me.0.number (length it.me.0.log + 1) (length (it.me.0.log ++ (e, r) ∷ []) + 1)
+          it.me.0.stores (let long = length-append it.me.0.log ((e, r) ∷ []) in omega (arith, long)) tied.stored);
     }
 
 -- ---- a sight is always allowed
@@ -245,14 +296,23 @@ may_sight L w log = record { looked = tt; allowed = λ m h. refl; ordered = refl
 
 -- ---- moving the epoch on
 
-told_moved : (L : Layout) (k : Knowledge) (births : ℕ → Option ℕ) (seen : ℕ) → k.brief.seen ≡ Some seen → told L k births Advance seen ≡ Moved (seen + 1)
-told_moved L k births seen is = ap (λ o. cond (is_number o seen) (Moved (seen + 1)) (Behind seen)) is ∙ ap (λ (b : Bool). cond b (Moved (seen + 1)) (Behind seen)) (eq-eqb seen seen refl)
+told_moved : (L : Layout) (k : Knowledge) (births : ℕ → Option ℕ) (seen : ℕ) → k.brief.seen ≡ Some seen
+    → told L k births Advance seen ≡ Moved (seen + 1)
+told_moved L k births seen is = ap (λ o. cond (is_number o seen) (Moved (seen + 1)) (Behind seen)) is
+    ∙ ap (λ (b : Bool). cond b (Moved (seen + 1)) (Behind seen)) (eq-eqb seen seen refl)
 
-told_behind : (L : Layout) (k : Knowledge) (births : ℕ → Option ℕ) (seen n : ℕ) → k.brief.seen ≡ Some seen → n ≢ seen → told L k births Advance n ≡ Behind n
-told_behind L k births seen n is other = ap (λ o. cond (is_number o n) (Moved (n + 1)) (Behind n)) is ∙ ap (λ (b : Bool). cond b (Moved (n + 1)) (Behind n)) (ne_eqb seen n (λ e. other (sym e)))
+told_behind : (L : Layout) (k : Knowledge) (births : ℕ → Option ℕ) (seen n : ℕ) → k.brief.seen ≡ Some seen → n ≢ seen
+    → told L k births Advance n ≡ Behind n
+told_behind L k births seen n is other = ap (λ o. cond (is_number o n) (Moved (n + 1)) (Behind n)) is
+    ∙ ap (λ (b : Bool). cond b (Moved (n + 1)) (Behind n)) (ne_eqb seen n (λ e. other (sym e)))
 
-pub noted_moved : (L : Layout) (k : Knowledge) (births : ℕ → Option ℕ) (b : Brief) (seen n : ℕ) → b ≡ k.brief → b.seen ≡ Some seen → n ≡ seen → record b { seen = Some (seen + 1) } ≡ noted b Advance (told L k births Advance n)
-noted_moved L k births b seen n same is at = sym (ap (λ (m : ℕ). noted b Advance (told L k births Advance m)) at ∙ ap (noted b Advance) (told_moved L k births seen (sym (ap (λ (x : Brief). x.seen) same) ∙ is)))
+pub noted_moved : (L : Layout) (k : Knowledge) (births : ℕ → Option ℕ) (b : Brief) (seen n : ℕ) → b ≡ k.brief
+    → b.seen ≡ Some seen → n ≡ seen → record b { seen = Some (seen + 1) } ≡ noted b Advance (told L k births Advance n)
+noted_moved L k births b seen n same is at = sym
+    (ap (λ (m : ℕ). noted b Advance (told L k births Advance m)) at
+    ∙ ap (noted b Advance) (told_moved L k births seen (sym (ap (λ (x : Brief). x.seen) same) ∙ is)))
 
-pub noted_behind : (L : Layout) (k : Knowledge) (births : ℕ → Option ℕ) (b : Brief) (seen n : ℕ) → b ≡ k.brief → b.seen ≡ Some seen → n ≢ seen → record b { seen = Some n } ≡ noted b Advance (told L k births Advance n)
-noted_behind L k births b seen n same is other = sym (ap (noted b Advance) (told_behind L k births seen n (sym (ap (λ (x : Brief). x.seen) same) ∙ is) other))
+pub noted_behind : (L : Layout) (k : Knowledge) (births : ℕ → Option ℕ) (b : Brief) (seen n : ℕ) → b ≡ k.brief
+    → b.seen ≡ Some seen → n ≢ seen → record b { seen = Some n } ≡ noted b Advance (told L k births Advance n)
+noted_behind L k births b seen n same is other = sym
+    (ap (noted b Advance) (told_behind L k births seen n (sym (ap (λ (x : Brief). x.seen) same) ∙ is) other))

@@ -50,7 +50,8 @@ told (b ∷ bs) zero = both (number_of bs) 0 b true ∙ (λ i. and_zero_r (numbe
     one false = refl
 told (b ∷ bs) (suc k) =
     let twice : 2 ^ k * 2 + 0 ≡ 2 ^ suc k = omega (arith, pow-suc 2 k) in
-    ap (bit_and (number_of bs * 2 + bit b)) (sym twice) ∙ both (number_of bs) (2 ^ k) b false ∙ (λ i. told bs k i * 2 + and_none b i) ∙ scaled (get_or bs k false) (2 ^ k) (2 ^ suc k) twice
+    ap (bit_and (number_of bs * 2 + bit b)) (sym twice) ∙ both (number_of bs) (2 ^ k) b false
+    ∙ (λ i. told bs k i * 2 + and_none b i) ∙ scaled (get_or bs k false) (2 ^ k) (2 ^ suc k) twice
   where
     scaled : (c : Bool) (y z : ℕ) → y * 2 + 0 ≡ z → cond c y 0 * 2 + 0 ≡ cond c z 0
     scaled true y z e = e
@@ -63,20 +64,25 @@ given (b ∷ bs) zero h = sym (either (number_of bs) 0 b true ∙ (λ i. or_zero
 given (b ∷ bs) (suc k) h =
     let below = sym (given bs k (omega arith)) in
     let twice : 2 ^ k * 2 + 0 ≡ 2 ^ suc k = omega (arith, pow-suc 2 k) in
-    sym (ap (bit_or (number_of bs * 2 + bit b)) (sym twice) ∙ either (number_of bs) (2 ^ k) b false ∙ (λ i. below i * 2 + or_none b i))
+    sym (ap (bit_or (number_of bs * 2 + bit b)) (sym twice) ∙ either (number_of bs) (2 ^ k) b false
+    ∙ (λ i. below i * 2 + or_none b i))
 
 all_kept : (bs : List Bool) (n : ℕ) → length bs ≤ n → bit_and (number_of bs) (2 ^ n - 1) ≡ number_of bs
 all_kept bs n h = and_mask (number_of bs) n ∙ grind (arith, number_below)
 
 -- a bit is cleared, by a mask of n bits that are all set but this one
-pub cleared : (bs : List Bool) (n i : ℕ) → length bs ≤ n → i < length bs → number_of (set bs i false) ≡ bit_and (number_of bs) (2 ^ n - 1 - 2 ^ i)
+pub cleared : (bs : List Bool) (n i : ℕ) → length bs ≤ n → i < length bs
+    → number_of (set bs i false) ≡ bit_and (number_of bs) (2 ^ n - 1 - 2 ^ i)
 cleared [] n i long h = absurd (omega arith)
 cleared (b ∷ bs) zero i long h = absurd (omega arith)
 cleared (b ∷ bs) (suc n) zero long h =
     let mask : (2 ^ n - 1) * 2 + 0 ≡ 2 ^ suc n - 1 - 1 = omega (arith, pow-suc 2 n, pow_pos n) in
-    sym (ap (bit_and (number_of bs * 2 + bit b)) (sym mask) ∙ both (number_of bs) (2 ^ n - 1) b false ∙ (λ i. all_kept bs n (omega arith) i * 2 + and_none b i))
+    sym (ap (bit_and (number_of bs * 2 + bit b)) (sym mask) ∙ both (number_of bs) (2 ^ n - 1) b false
+    ∙ (λ i. all_kept bs n (omega arith) i * 2 + and_none b i))
 cleared (b ∷ bs) (suc n) (suc k) long h =
     let below = sym (cleared bs n k (omega arith) (omega arith)) in
     let room : 2 ^ k < 2 ^ n = pow_below k n (omega arith) in
-    let mask : (2 ^ n - 1 - 2 ^ k) * 2 + 1 ≡ 2 ^ suc n - 1 - 2 ^ suc k = omega (arith, pow-suc 2 n, pow-suc 2 k, room) in
-    sym (ap (bit_and (number_of bs * 2 + bit b)) (sym mask) ∙ both (number_of bs) (2 ^ n - 1 - 2 ^ k) b true ∙ (λ i. below i * 2 + and_one b i))
+    let mask : (2 ^ n - 1 - 2 ^ k) * 2 + 1 ≡ 2 ^ suc n - 1
+    - 2 ^ suc k = omega (arith, pow-suc 2 n, pow-suc 2 k, room) in
+    sym (ap (bit_and (number_of bs * 2 + bit b)) (sym mask) ∙ both (number_of bs) (2 ^ n - 1 - 2 ^ k) b true
+    ∙ (λ i. below i * 2 + and_one b i))

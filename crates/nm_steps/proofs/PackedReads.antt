@@ -53,8 +53,15 @@ module _ (L : Layout) (m : Memory) (fits : Fits L m) where
   -- with the epoch's word before them
   pub announced_length : 1 + length (announced L m) ≡ behind_announcements L L.workers
   announced_length =
-      let all : length (flat_map (spread L) m.announcements) ≡ (1 + L.gap) * L.workers = blocks_length (spread L) (1 + L.gap) (spread_words L) m.announcements ∙ ap (λ n. (1 + L.gap) * n) fits.announcements in
-      omega (arith, length-append (zeros (L.gap - 2)) (flat_map (spread L) m.announcements), zeros_long (L.gap - 2), all)
+      let all : length (flat_map (spread L) m.announcements)
+      ≡ (1 + L.gap) * L.workers = blocks_length (spread L) (1 + L.gap) (spread_words L) m.announcements
+      ∙ ap (λ n. (1 + L.gap) * n) fits.announcements in
+      omega (
+        arith,
+        length-append (zeros (L.gap - 2)) (flat_map (spread L) m.announcements),
+        zeros_long (L.gap - 2),
+        all,
+      )
 
   pub announcement_inside : (w : ℕ) → w < L.workers → announcement_place L w < length (announced L m)
   announcement_inside w h = let within = announcement_within L w h in omega (arith, announced_length, within)
@@ -69,29 +76,42 @@ module _ (L : Layout) (m : Memory) (fits : Fits L m) where
   rowed_length = length-map-range_with_len (row_word m) 0 (rows L)
 
   pub all_words : length (words_of L m) ≡ words L
-  all_words = omega (arith, whole_length m.epoch (announced L m) (fours m) (rowed L m), announced_length, fours_length, rowed_length)
+  all_words = omega (
+    arith,
+    whole_length m.epoch (announced L m) (fours m) (rowed L m),
+    announced_length,
+    fours_length,
+    rowed_length,
+  )
 
   -- slot s is the one before it of those from slot 1 on
   pub slot_of : (s : ℕ) → IsSlot L s → get_or (drop 1 m.nodes) (s - 1) blank ≡ node m s
   slot_of s h = get_or-drop 1 m.nodes (s - 1) blank ∙ ap (λ k. get_or m.nodes k blank) (omega (arith, h.0))
 
-  node_read : (s j n : ℕ) → IsSlot L s → j < 4 → n ≡ behind_announcements L L.workers + 4 * (s - 1) + j → slice_index (words_of L m) n ≡ get_or (node_words (node m s)) j 0
+  node_read : (s j n : ℕ) → IsSlot L s → j < 4 → n ≡ behind_announcements L L.workers + 4 * (s - 1) + j
+      → slice_index (words_of L m) n ≡ get_or (node_words (node m s)) j 0
   node_read s j n h below is =
-      second_read m.epoch (announced L m) (fours m) (rowed L m) n (4 * (s - 1) + j) (omega (arith, is, announced_length)) (omega (arith, fours_length, h.0, h.1, below))
-      ∙ blocks_read node_words 4 four_words (drop 1 m.nodes) (s - 1) j blank below (omega (arith, nodes_length, h.0, h.1))
+      second_read m.epoch (announced L m) (fours m) (rowed L m) n (4 * (s - 1) + j)
+      (omega (arith, is, announced_length)) (omega (arith, fours_length, h.0, h.1, below))
+      ∙ blocks_read node_words 4 four_words (drop 1 m.nodes) (s - 1) j blank below
+      (omega (arith, nodes_length, h.0, h.1))
       ∙ ap (λ x. get_or (node_words x) j 0) (slot_of s h)
 
   pub row_read : (r : ℕ) → r < rows L → word_at L m (at_row r) ≡ row_word m r
   row_read r below =
-      third_read m.epoch (announced L m) (fours m) (rowed L m) (word L (at_row r)) r (omega (arith, announced_length, fours_length))
+      third_read m.epoch (announced L m) (fours m) (rowed L m) (word L (at_row r)) r
+      (omega (arith, announced_length, fours_length))
       ∙ get_or-map-range_with_len (row_word m) 0 (rows L) r r 0 below (omega arith)
 
   pub field_read : (f : Field) → IsField L f → word_at L m f ≡ field_word m f
   field_read at_epoch h = refl
   field_read (at_announcement w) h =
-      first_read m.epoch (announced L m) (fours m) (rowed L m) (word L (at_announcement w)) (announcement_place L w) (omega (arith, announced_there L w)) (announcement_inside w h)
-      ∙ ap (λ k. get_or (announced L m) k 0) (announced_there L w) ∙ get_or-append-add (zeros (L.gap - 2)) (flat_map (spread L) m.announcements) ((1 + L.gap) * w + 0) 0
-      ∙ blocks_read (spread L) (1 + L.gap) (spread_words L) m.announcements w 0 None (omega arith) (omega (arith, fits.announcements, h))
+      first_read m.epoch (announced L m) (fours m) (rowed L m) (word L (at_announcement w)) (announcement_place L w)
+      (omega (arith, announced_there L w)) (announcement_inside w h)
+      ∙ ap (λ k. get_or (announced L m) k 0) (announced_there L w)
+      ∙ get_or-append-add (zeros (L.gap - 2)) (flat_map (spread L) m.announcements) ((1 + L.gap) * w + 0) 0
+      ∙ blocks_read (spread L) (1 + L.gap) (spread_words L) m.announcements w 0 None (omega arith)
+      (omega (arith, fits.announcements, h))
   field_read (at_key s) h = node_read s 0 _ h (lit< tt) (omega arith)
   field_read (at_edge s Left) h = node_read s 1 _ h (lit< tt) refl
   field_read (at_edge s Right) h = node_read s 2 _ h (lit< tt) refl
@@ -101,8 +121,11 @@ module _ (L : Layout) (m : Memory) (fits : Fits L m) where
 -- ---- bits
 
 -- the i-th bit of a row is the slot's
-pub bit_of : (m : Memory) (r i : ℕ) → i < 64 → bit_and (row_word m r) (2 ^ i) ≡ cond (in_pool m (64 * r + 1 + i)) (2 ^ i) 0
-bit_of m r i below = told (take 64 (drop (64 * r + 1) m.pool)) i ∙ ap (λ b. cond b (2 ^ i) 0) (get_or-take 64 (drop (64 * r + 1) m.pool) i false below ∙ get_or-drop (64 * r + 1) m.pool i false)
+pub bit_of : (m : Memory) (r i : ℕ) → i < 64 → bit_and (row_word m r) (2 ^ i)
+    ≡ cond (in_pool m (64 * r + 1 + i)) (2 ^ i) 0
+bit_of m r i below = told (take 64 (drop (64 * r + 1) m.pool)) i
+    ∙ ap (λ b. cond b (2 ^ i) 0) (get_or-take 64 (drop (64 * r + 1) m.pool) i false below
+    ∙ get_or-drop (64 * r + 1) m.pool i false)
 
 -- where a slot stands in its row
 pub in_row : (s : ℕ) → 1 ≤ s → 64 * ((s - 1) / 64) + 1 + (s - 1) % 64 ≡ s

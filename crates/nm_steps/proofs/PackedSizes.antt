@@ -53,12 +53,14 @@ words_below L m f fits range few keys h = rw (field_read L m fits f h) (go f)
     go (at_key s) = keys s
     go (at_edge s side) = omega (arith, range.edges s side, few, bit_sum (edge m s side).flag (edge m s side).tag)
     go (at_birth s) = omega (arith, range.births s)
-    go (at_row r) = number_below (take 64 (drop (64 * r + 1) m.pool)) 64 (omega (arith, length-take 64 (drop (64 * r + 1) m.pool)))
+    go (at_row r) = number_below (take 64 (drop (64 * r + 1) m.pool)) 64
+        (omega (arith, length-take 64 (drop (64 * r + 1) m.pool)))
 
 -- ---- in every run
 
 -- a list with one element written still has what it had everywhere, where the new one has it too
-pub set_keeps : {X : Type 0} (P : X → Type 0) (xs : List X) (i j : ℕ) (x d : X) → P x → P (get_or xs j d) → P (get_or (set xs i x) j d)
+pub set_keeps : {X : Type 0} (P : X → Type 0) (xs : List X) (i j : ℕ) (x d : X) → P x → P (get_or xs j d)
+    → P (get_or (set xs i x) j d)
 set_keeps P [] i j x d new old = old
 set_keeps P (y ∷ xs) zero zero x d new old = new
 set_keeps P (y ∷ xs) zero (suc j) x d new old = old
@@ -74,18 +76,30 @@ pub record Small (m : Memory) : Type 0 where
 abbrev IsSmall : Option ℕ → Type 0
 IsSmall o = (e : ℕ) → o ≡ Some e → e ≤ last_number
 
-announcement_small : (m : Memory) (w : ℕ) (o : Option ℕ) → Small m → IsSmall o → Small (record m { announcements = set m.announcements w o })
-announcement_small m w o small new = record { epoch = small.epoch; announcements = λ u. set_keeps IsSmall m.announcements w u o None new (small.announcements u); births = small.births }
+announcement_small : (m : Memory) (w : ℕ) (o : Option ℕ) → Small m → IsSmall o
+    → Small (record m { announcements = set m.announcements w o })
+announcement_small m w o small new = record {
+  epoch = small.epoch;
+  announcements = λ u. set_keeps IsSmall
+      m.announcements w u o None new (small.announcements u);
+  births = small.births;
+}
 
 node_small : (m : Memory) (s : ℕ) (x : Node) → Small m → x.birth ≤ last_number → Small (put_node m s x)
-node_small m s x small new = record { epoch = small.epoch; announcements = small.announcements; births = λ q. set_keeps (λ (y : Node). y.birth ≤ last_number) m.nodes s q x blank new (small.births q) }
+node_small m s x small new = record {
+  epoch = small.epoch;
+  announcements = small.announcements;
+  births = λ q.
+      set_keeps (λ (y : Node). y.birth ≤ last_number) m.nodes s q x blank new (small.births q);
+}
 
 edge_small : (m : Memory) (s : ℕ) (side : Side) (e : Edge) → Small m → Small (put_edge m s side e)
 edge_small m s Left e small = node_small m s _ small (small.births s)
 edge_small m s Right e small = node_small m s _ small (small.births s)
 
 exchange_small : (m : Memory) (p : ℕ) (side : Side) (s : ℕ) (e : Edge) → Small m → Small (exchanged m p side s e)
-exchange_small m p side s e small = cond_both (is_to (edge m p side) s) (put_edge m p side e) m Small (λ _. edge_small m p side e small) (λ _. small)
+exchange_small m p side s e small = cond_both (is_to (edge m p side) s) (put_edge m p side e) m Small
+    (λ _. edge_small m p side e small) (λ _. small)
 
 same_pool : (m : Memory) (bs : List Bool) → Small m → Small (record m { pool = bs })
 same_pool m bs small = record { epoch = small.epoch; announcements = small.announcements; births = small.births }
@@ -106,32 +120,49 @@ module _ (s : State) (k : IsLawful s) (small : Small s.memory) (w : ℕ) where
       go Leave ok = announcement_small s.memory w None small (λ e at. absurd (none-some e at))
       go (LeaveWith answer) ok = announcement_small s.memory w None small (λ e at. absurd (none-some e at))
       go (Scan u) ok = small
-      go Advance ok = cond_both (is_number (of s w).brief.seen s.memory.epoch) (record s.memory { epoch = s.memory.epoch + 1 }) s.memory Small
-          (λ same. record { epoch = moved same; announcements = small.announcements; births = small.births }) (λ _. small)
+      go Advance ok = cond_both (is_number (of s w).brief.seen s.memory.epoch)
+          (record s.memory { epoch = s.memory.epoch + 1 }) s.memory Small
+          (λ same. record { epoch = moved same; announcements = small.announcements; births = small.births })
+          (λ _. small)
         where
           unspent : nat_le last_number (unwrap_or (of s w).brief.seen 0) ≡ false
-          unspent = second (is_none (of s w).brief.seen || (not (others_scanned w (of s w).scanned) || is_held_back (of s w).brief.pin (of s w).brief.seen)) (nat_le last_number (unwrap_or (of s w).brief.seen 0)) NotReady Spent _ ok
+          unspent = second (is_none (of s w).brief.seen
+              || (not (others_scanned w (of s w).scanned) || is_held_back (of s w).brief.pin (of s w).brief.seen))
+              (nat_le last_number (unwrap_or (of s w).brief.seen 0)) NotReady Spent _ ok
 
           moved : is_number (of s w).brief.seen s.memory.epoch ≡ true → s.memory.epoch + 1 ≤ last_number
-          moved same = omega (arith, leb-false last_number (unwrap_or (of s w).brief.seen 0) unspent, ap (λ o. unwrap_or o 0) (number_is (of s w).brief.seen s.memory.epoch same))
+          moved same = omega (
+            arith,
+            leb-false last_number (unwrap_or (of s w).brief.seen 0) unspent,
+            ap
+                (λ o. unwrap_or o 0) (number_is (of s w).brief.seen s.memory.epoch same),
+          )
       go (Claim x) ok = same_pool s.memory _ small
       go (Give x) ok = same_pool s.memory _ small
       go (Look x f) ok = small
       go (Fill x f v) ok = filling f ok
         where
-          filling : (f : NodeField) → refusal_of s w (Fill x f v) ≡ None → Small (put_node s.memory x (filled (node s.memory x) f v))
+          filling : (f : NodeField) → refusal_of s w (Fill x f v) ≡ None
+              → Small (put_node s.memory x (filled (node s.memory x) f v))
           filling Key ok = node_small s.memory x _ small (small.births x)
           filling (EdgeOn side) ok = edge_small s.memory x side _ small
           filling Birth ok = node_small s.memory x _ small (omega (arith, small.births x, raised, unspent))
             where
               early : is_early (draft_of (of s w) x) Birth v (node s.memory x).birth ≡ false
-              early = third (outside 6 s.layout.nodes x || (is_edge Birth && nat_lt s.layout.nodes v)) (not (is_private (of s w) x)) (is_early (draft_of (of s w) x) Birth v (node s.memory x).birth) NoSlot NotPrivate NotReady _ ok
+              early = third (outside 6 s.layout.nodes x || (is_edge Birth && nat_lt s.layout.nodes v))
+                  (not (is_private (of s w) x)) (is_early (draft_of (of s w) x) Birth v (node s.memory x).birth) NoSlot
+                  NotPrivate NotReady _ ok
 
               raised : v ≡ (node s.memory x).birth + 1
-              raised = eqb-true v ((node s.memory x).birth + 1) (not-false _ (or_parts (is_some (draft_of (of s w) x).birth) (not (v == (node s.memory x).birth + 1)) early).1)
+              raised = eqb-true v ((node s.memory x).birth + 1)
+                  (not-false _ (or_parts (is_some (draft_of (of s w) x).birth) (not (v == (node s.memory x).birth + 1))
+                  early).1)
 
               unspent : (node s.memory x).birth ≢ last_number
-              unspent = eqb-false (node s.memory x).birth last_number (fourth (outside 6 s.layout.nodes x || (is_edge Birth && nat_lt s.layout.nodes v)) (not (is_private (of s w) x)) (is_early (draft_of (of s w) x) Birth v (node s.memory x).birth) ((node s.memory x).birth == last_number) NoSlot NotPrivate NotReady Spent _ ok)
+              unspent = eqb-false (node s.memory x).birth last_number
+                  (fourth (outside 6 s.layout.nodes x || (is_edge Birth && nat_lt s.layout.nodes v))
+                  (not (is_private (of s w) x)) (is_early (draft_of (of s w) x) Birth v (node s.memory x).birth)
+                  ((node s.memory x).birth == last_number) NoSlot NotPrivate NotReady Spent _ ok)
       go (Link p side leaf new) ok = exchange_small s.memory p side leaf _ small
       go (Flag p side leaf) ok = exchange_small s.memory p side leaf _ small
       go (Tag p side) ok = edge_small s.memory p side _ small
@@ -146,18 +177,36 @@ record IsLawfulAndSmall (s : State) : Type 0 where
 
 keeps_small : (s : State) (w : ℕ) (e : Event) → IsLawfulAndSmall s → Allowed s w e → IsLawfulAndSmall (applied s w e)
 unfolding applied
-keeps_small s w e both ok = record { lawful = lawful_step s w e both.lawful ok; small = small_step s both.lawful both.small w e ok }
+keeps_small s w e both ok = record {
+  lawful = lawful_step s w e both.lawful ok;
+  small = small_step s both.lawful
+      both.small w e ok;
+}
 
 small_start : (L : Layout) → Small (start L).memory
-small_start L = record { epoch = omega arith; announcements = λ w e is. absurd (none-some e (sym (repeated L.workers w None) ∙ is)); births = births }
+small_start L = record {
+  epoch = omega arith;
+  announcements = λ w e is. absurd
+      (none-some e (sym (repeated L.workers w None) ∙ is));
+  births = births;
+}
   where
     births : (x : ℕ) → (node (start L).memory x).birth ≤ last_number
-    births = each_slot (λ x. (node (start L).memory x).birth ≤ last_number) (omega arith) (omega arith) (omega arith) (omega arith) (omega arith) (omega arith) (λ x. omega (arith, ap (λ (n : Node). n.birth) (repeated (L.nodes - 5) x blank)))
+    births = each_slot (λ x. (node (start L).memory x).birth ≤ last_number) (omega arith) (omega arith) (omega arith)
+        (omega arith) (omega arith) (omega arith) (λ x. omega
+        (arith, ap (λ (n : Node). n.birth) (repeated (L.nodes - 5) x blank)))
 
 pub each_state_in_range : OfEachState StateIsInRange
 each_state_in_range L enough turns =
-    let both = by_steps IsLawfulAndSmall keeps_small turns (start L) (record { lawful = lawful_start L enough; small = small_start L }) in
-    record { epoch = both.small.epoch; announcements = both.small.announcements; births = both.small.births; edges = both.lawful.law.tree.within }
+    let both = by_steps IsLawfulAndSmall keeps_small turns (start L)
+    (record { lawful = lawful_start L enough; small = small_start L }) in
+    record {
+      epoch = both.small.epoch;
+      announcements = both.small.announcements;
+      births = both.small.births;
+      edges =
+          both.lawful.law.tree.within;
+    }
 
 -- ---- keys
 
@@ -172,11 +221,13 @@ edge_keyed m s Left e keyed = node_keyed m s _ keyed (keyed s)
 edge_keyed m s Right e keyed = node_keyed m s _ keyed (keyed s)
 
 exchange_keyed : (m : Memory) (p : ℕ) (side : Side) (s : ℕ) (e : Edge) → Keyed m → Keyed (exchanged m p side s e)
-exchange_keyed m p side s e keyed = cond_both (is_to (edge m p side) s) (put_edge m p side e) m Keyed (λ _. edge_keyed m p side e keyed) (λ _. keyed)
+exchange_keyed m p side s e keyed = cond_both (is_to (edge m p side) s) (put_edge m p side e) m Keyed
+    (λ _. edge_keyed m p side e keyed) (λ _. keyed)
 
 keyed_step : (m : Memory) (k : Knowledge) (w : ℕ) (e : Event) → Keyed m → StoresAWord e → Keyed (write m k w e)
 unfolding write
-keyed_step m k w Advance keyed word = cond_both (is_number k.brief.seen m.epoch) (record m { epoch = m.epoch + 1 }) m Keyed (λ _. keyed) (λ _. keyed)
+keyed_step m k w Advance keyed word = cond_both (is_number k.brief.seen m.epoch) (record m { epoch = m.epoch + 1 }) m
+    Keyed (λ _. keyed) (λ _. keyed)
 keyed_step m k w (Fill x Key v) keyed word = node_keyed m x _ keyed word
 keyed_step m k w (Fill x (EdgeOn side) v) keyed word = edge_keyed m x side _ keyed
 keyed_step m k w (Fill x Birth v) keyed word = node_keyed m x _ keyed (keyed x)
@@ -204,13 +255,16 @@ keyed_next s t keyed word = go (refused s t.0 t.1)
     go None = keyed_step s.memory (of s t.0) t.0 t.1 keyed word
     go (Some r) = keyed
 
-keyed_after : (turns : List (ℕ × Event)) (s : State) → Keyed s.memory → All (λ t. StoresAWord t.1) turns → Keyed (after s turns).memory
+keyed_after : (turns : List (ℕ × Event)) (s : State) → Keyed s.memory → All (λ t. StoresAWord t.1) turns
+    → Keyed (after s turns).memory
 unfolding after
 keyed_after [] s keyed stored = keyed
-keyed_after (t ∷ ts) s keyed stored = keyed_after ts (next s t) (keyed_next s t keyed (stored 0 t (omega arith))) (λ i d h. stored (suc i) d (omega (arith, h)))
+keyed_after (t ∷ ts) s keyed stored = keyed_after ts (next s t) (keyed_next s t keyed (stored 0 t (omega arith)))
+    (λ i d h. stored (suc i) d (omega (arith, h)))
 
 keyed_start : (L : Layout) → Keyed (start L).memory
-keyed_start L = each_slot _ (lit< tt) (lit< tt) (lit< tt) (lit< tt) (lit< tt) (lit< tt) (λ x. omega (arith, ap (λ (n : Node). n.key) (repeated (L.nodes - 5) x blank)))
+keyed_start L = each_slot _ (lit< tt) (lit< tt) (lit< tt) (lit< tt) (lit< tt) (lit< tt)
+    (λ x. omega (arith, ap (λ (n : Node). n.key) (repeated (L.nodes - 5) x blank)))
 
 pub words_stay_below : WordsStayBelow
 words_stay_below L enough few turns stored f h =

@@ -40,14 +40,18 @@ gone_kept w k (Splice a side s p keep) (Cut ns) h = refl
 gone_kept w k (Splice a side s p keep) (Lost e) h = refl
 gone_kept w k (Swap p side leaf new) (Cut ns) h = refl
 gone_kept w k (Swap p side leaf new) (Lost e) h = refl
-gone_kept w k (Join v) (Joined ls) h = ap (λ x. x.gone) (cond-false (w == v) (resigned k) (inheriting k ls) (ne_eqb w v (λ same. eqb-false v w h (sym same))))
+gone_kept w k (Join v) (Joined ls) h = ap (λ x. x.gone)
+    (cond-false (w == v) (resigned k) (inheriting k ls) (ne_eqb w v (λ same. eqb-false v w h (sym same))))
 gone_kept w k _ _ h = refl
 
 -- ---- one entry more
 
-pub known_push : (w : ℕ) (L : Layout) (log : List Entry) (x : Entry) → known_by L w (log ++ x ∷ []) ≡ learn w (known_by L w log) x.0 x.1
+pub known_push : (w : ℕ) (L : Layout) (log : List Entry) (x : Entry)
+    → known_by L w (log ++ x ∷ []) ≡ learn w (known_by L w log) x.0 x.1
 known_push w L log x = known_more w _ log x
 
 -- the same, of a pass and a step of its own
-pub known_after_step : (p q : PassView) (e : Event) (r : Reply) → Stepped p q e r → knowledge q.view ≡ learn p.view.number (knowledge p.view) e r
-known_after_step p q e r is = ap (λ (s : PassView). knowledge s.view) is ∙ known_push p.view.number p.view.layout p.view.log (e, r)
+pub known_after_step : (p q : PassView) (e : Event) (r : Reply) → Stepped p q e r
+    → knowledge q.view ≡ learn p.view.number (knowledge p.view) e r
+known_after_step p q e r is = ap (λ (s : PassView). knowledge s.view) is
+    ∙ known_push p.view.number p.view.layout p.view.log (e, r)

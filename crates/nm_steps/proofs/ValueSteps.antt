@@ -51,7 +51,8 @@ use Rattle.nm_steps.proofs.Valuing.{IfValued, all_linked, still_linked, held_pus
 abbrev pub up_to_stores : List Turn → List Stored → View → View
 up_to_stores turns st v = record v { past = turns; stores = st }
 
-module _ (L : Layout) (core : List ℕ) (views : List View) (id : ℕ) (v : View) (k : Runs L core views) (at : get_elem? views id ≡ some v) (st : List Stored) where
+module _ (L : Layout) (core : List ℕ) (views : List View) (id : ℕ) (v : View) (k : Runs L core views)
+    (at : get_elem? views id ≡ some v) (st : List Stored) where
   -- a seat may see them at any time
   abbrev pub seen_stores_so_far : Runs L core (set views id (up_to_stores (trace_in (ordered L) k.turns) st v))
   seen_stores_so_far = record {
@@ -59,10 +60,19 @@ module _ (L : Layout) (core : List ℕ) (views : List View) (id : ℕ) (v : View
     turns = k.turns;
     keys = k.keys;
     words_are = k.words_are;
-    shown = each_set (IsShown L (trace_in (ordered L) k.turns)) views id (up_to_stores (trace_in (ordered L) k.turns) st v) (k.shown id v at) (λ j u _. k.shown j u);
-    here = each_set (λ (u : View). u.resigned ≡ false → (knowledge u).gone ≡ false) views id (up_to_stores (trace_in (ordered L) k.turns) st v) (k.here id v at) (λ j u _. k.here j u);
-    once = λ w. omega (arith, sum_after (stands w) views id v (up_to_stores (trace_in (ordered L) k.turns) st v) at, k.once w);
-    lags = each_set (LagsBehind (trace_in (ordered L) k.turns)) views id (up_to_stores (trace_in (ordered L) k.turns) st v) (record { past = goes_on_itself (trace_in (ordered L) k.turns); heard = (k.lags id v at).heard }) (λ j u _. k.lags j u);
+    shown = each_set (IsShown L (trace_in (ordered L) k.turns)) views id
+        (up_to_stores (trace_in (ordered L) k.turns) st v) (k.shown id v at) (λ j u _. k.shown j u);
+    here = each_set (λ (u : View). u.resigned ≡ false → (knowledge u).gone ≡ false) views id
+        (up_to_stores (trace_in (ordered L) k.turns) st v) (k.here id v at) (λ j u _. k.here j u);
+    once = λ w. omega (
+      arith,
+      sum_after (stands w) views id v (up_to_stores (trace_in (ordered L) k.turns) st v) at,
+      k.once w,
+    );
+    lags = each_set (LagsBehind (trace_in (ordered L) k.turns)) views id
+        (up_to_stores (trace_in (ordered L) k.turns) st v)
+        (record { past = goes_on_itself (trace_in (ordered L) k.turns); heard = (k.lags id v at).heard })
+        (λ j u _. k.lags j u);
   }
 
   module _ (alive : v.resigned ≡ false) (layout : v.layout ≡ L) where
@@ -79,15 +89,19 @@ module _ (L : Layout) (core : List ℕ) (views : List View) (id : ℕ) (v : View
         }
 
     -- a slot that is private by the worker's log is private in the run
-    pub is_held : (slot : ℕ) → is_private (knowledge v) slot ≡ true → is_private (of (after_in (ordered L) k.turns).state v.number) slot ≡ true
+    pub is_held : (slot : ℕ) → is_private (knowledge v) slot ≡ true
+        → is_private (of (after_in (ordered L) k.turns).state v.number) slot ≡ true
     is_held slot private =
         let stands = stands_in_run L core views id v k at alive layout in
-        let below : v.number < L.workers = subst (λ (l : Layout). v.number < l.workers) layout stands.run.is_part.worker in
-        ap (λ (x : Knowledge). is_private x slot) (logs_tell L k.turns v.number below ∙ ap (known_by L v.number) (own_part L core views id v k at alive))
+        let below : v.number < L.workers = subst (λ (l : Layout). v.number < l.workers) layout
+        stands.run.is_part.worker in
+        ap (λ (x : Knowledge). is_private x slot) (logs_tell L k.turns v.number below
+        ∙ ap (known_by L v.number) (own_part L core views id v k at alive))
         ∙ (ap (λ (l : Layout). is_private (known_by l v.number v.log) slot) (sym layout) ∙ private)
 
 -- the place of a value
-module _ (L : Layout) (s : State Unit View) (k : Kept L s) (slots slot i : ℕ) (homes : length s.homes ≡ slots) (many : slots ≡ L.nodes) (is : IsSlot L slot) (index : i ≡ words L + (slot - 1)) where
+module _ (L : Layout) (s : State Unit View) (k : Kept L s) (slots slot i : ℕ) (homes : length s.homes ≡ slots)
+    (many : slots ≡ L.nodes) (is : IsSlot L slot) (index : i ≡ words L + (slot - 1)) where
   place : i ≡ length k.core + (slot - 1)
   place = let long = run_long L k.core s.views k.runs in omega (arith, long, index)
 
@@ -206,41 +220,64 @@ sees_left L slots id v slot i alive layout many is index =
     (sym layout) (left_there L s k slot i is index))
 
 -- values after one store more
-values_after : (values : List ℕ) (stores : List Stored) (slot : ℕ) (x : Stored) → 1 ≤ slot → slot - 1 < length values → x.slot ≡ slot → ((i : ℕ) → i < length values → slice_index values i ≡ value_of stores (i + 1))
-    → (i : ℕ) → i < length (set values (slot - 1) x.value) → slice_index (set values (slot - 1) x.value) i ≡ value_of (stores ++ x ∷ []) (i + 1)
+values_after : (values : List ℕ) (stores : List Stored) (slot : ℕ) (x : Stored) → 1 ≤ slot → slot - 1 < length values
+    → x.slot ≡ slot → ((i : ℕ) → i < length values → slice_index values i ≡ value_of stores (i + 1))
+    → (i : ℕ) → i < length (set values (slot - 1) x.value)
+    → slice_index (set values (slot - 1) x.value) i ≡ value_of (stores ++ x ∷ []) (i + 1)
 values_after values stores slot x low inside own are i below = elim (ℕ_discrete i (slot - 1)) [
   | yes same ↦
       ap (slice_index (set values (slot - 1) x.value)) same
       ∙ (get_or-set_same values (slot - 1) x.value 0 inside
-      ∙ sym (value_push 0 stores x (i + 1) ∙ cond-true (x.slot == (i + 1)) x.value (value_of stores (i + 1)) (eq-eqb x.slot (i + 1) (omega (arith, own, same, low)))))
+      ∙ sym (value_push 0 stores x (i + 1) ∙ cond-true (x.slot == (i + 1)) x.value (value_of stores (i + 1))
+      (eq-eqb x.slot (i + 1) (omega (arith, own, same, low)))))
   | no other ↦
       get_or-set_other values (slot - 1) i x.value 0 other
       ∙ (are i (let long = length-set values (slot - 1) x.value in omega (arith, below, long))
-      ∙ sym (value_push 0 stores x (i + 1) ∙ cond-false (x.slot == (i + 1)) x.value (value_of stores (i + 1)) (ne_eqb x.slot (i + 1) (λ e. other (omega (arith, own, e))))))
+      ∙ sym (value_push 0 stores x (i + 1) ∙ cond-false (x.slot == (i + 1)) x.value (value_of stores (i + 1))
+      (ne_eqb x.slot (i + 1) (λ e. other (omega (arith, own, e))))))
 ]
 
-up_to_now : (trace : List Turn) (st : List Stored) (turns : List (ℕ × Event)) → length trace ≡ length turns → All (λ (x : Stored). x.at ≤ length turns) st → All (λ (x : Stored). x.at ≤ length trace) st
+up_to_now : (trace : List Turn) (st : List Stored) (turns : List (ℕ × Event)) → length trace ≡ length turns
+    → All (λ (x : Stored). x.at ≤ length turns) st → All (λ (x : Stored). x.at ≤ length trace) st
 up_to_now trace st turns long h = subst (λ (n : ℕ). All (λ (x : Stored). x.at ≤ n) st) (sym long) h
 
 -- two seats have different workers
-others_apart : (L : Layout) (core : List ℕ) (views : List View) (k : Runs L core views) (i j : ℕ) (v u : View) → j ≢ i → get_elem? views i ≡ some v → get_elem? views j ≡ some u → v.resigned ≡ false → u.resigned ≡ false → v.number ≡ u.number → ⊥
+others_apart : (L : Layout) (core : List ℕ) (views : List View) (k : Runs L core views) (i j : ℕ) (v u : View)
+    → j ≢ i → get_elem? views i ≡ some v → get_elem? views j ≡ some u → v.resigned ≡ false → u.resigned ≡ false
+    → v.number ≡ u.number → ⊥
 others_apart L core views k i j v u ne at there alive alive' same =
     let both = both_at_most_sum (stands v.number) views j i u v ne there at in
     let mine = stands_live v alive in
-    let yours : stands v.number u ≡ 1 + count_by (λ h. eqb u.number h.number) u.others = ap (λ (n : ℕ). stands n u) same ∙ stands_live u alive' in
+    let yours : stands v.number u ≡ 1 + count_by (λ h. eqb u.number h.number) u.others = ap (λ (n : ℕ). stands n u)
+    same ∙ stands_live u alive' in
     let one = (once_is v.number L.workers).0 in
     absurd (omega (arith, both, mine, yours, one, k.once v.number))
 
 -- A STORE of a value
-pub stores_it : (L : Layout) (slots id : ℕ) (v : View) (slot i new : ℕ) → v.resigned ≡ false → v.layout ≡ L → slots ≡ L.nodes → IsSlot L slot → is_private (knowledge v) slot ≡ true → HasNotStored v → i ≡ words L + (slot - 1)
+pub stores_it : (L : Layout) (slots id : ℕ) (v : View) (slot i new : ℕ) → v.resigned ≡ false → v.layout ≡ L
+    → slots ≡ L.nodes → IsSlot L slot → is_private (knowledge v) slot ≡ true → HasNotStored v → i ≡ words L + (slot - 1)
     → Allows (Kept L) slots id (v, []) i (λ _. new) (λ _. HasStoredValue slot no_step (v, []) new)
 stores_it L slots id v slot i new alive layout many is private once index s k homes at small =
     let trace = trace_in (ordered L) k.runs.turns in
     let x : Stored = record { at = length trace; worker = v.number; own = length v.log; slot = slot; value = new } in
     let st : List Stored = k.stores ++ x ∷ [] in
     let w : View = up_to_stores trace st v in
-    let held : WereHeld L k.runs.turns st = held_push L k.runs.turns k.stores x k.valued.held (record { before = k.runs.turns; since = []; is_run = sym (append-nil k.runs.turns); at = sym (length_trace (ordered L) k.runs.turns); own = ap (λ (l : List Entry). length l) (own_part L k.core s.views id v k.runs at alive); private = is_held L k.core s.views id v k.runs at k.stores alive layout slot private }) in
-    let order : AllPairs ComesBefore st = order_push k.stores x k.valued.order (up_to_now trace k.stores k.runs.turns (length_trace (ordered L) k.runs.turns) (stored_by_now L k.runs.turns k.stores k.valued.held)) (own_were_before k.stores v (length v.log) alive (k.valued.seen id v at) once) in (
+    let held : WereHeld L k.runs.turns st = held_push L k.runs.turns k.stores x k.valued.held
+    (record {
+      before = k.runs.turns;
+      since = [];
+      is_run = sym (append-nil k.runs.turns);
+      at = sym
+          (length_trace (ordered L) k.runs.turns);
+      own = ap (λ (l : List Entry). length l)
+          (own_part L k.core s.views id v k.runs at alive);
+      private = is_held L k.core s.views id v k.runs at
+          k.stores alive layout slot private;
+    }) in
+    let order : AllPairs ComesBefore st = order_push k.stores x k.valued.order
+    (up_to_now trace k.stores k.runs.turns (length_trace (ordered L) k.runs.turns)
+    (stored_by_now L k.runs.turns k.stores k.valued.held))
+    (own_were_before k.stores v (length v.log) alive (k.valued.seen id v at) once) in (
       w,
       keeps,
       tt,
@@ -252,11 +289,17 @@ stores_it L slots id v slot i new alive layout many is private once index s k ho
         runs = seen_stores_so_far L k.core s.views id v k.runs at st;
         stores = st;
         valued = record {
-          are = values_after k.values k.stores slot x is.0 (inside L s k slots slot i homes many is index) refl k.valued.are;
+          are = values_after k.values k.stores slot x is.0 (inside L s k slots slot i homes many is index) refl
+              k.valued.are;
           held = held;
-          linked = subst (λ (n : ℕ). IfValued L n k.runs.turns st) (sym (length-set k.values (slot - 1) new)) (still_linked L (length k.values) k.runs.turns st k.stores (stores_more k.stores k.stores x (stores_themselves k.stores)) k.valued.linked);
+          linked = subst (λ (n : ℕ). IfValued L n k.runs.turns st) (sym (length-set k.values (slot - 1) new))
+              (still_linked L (length k.values) k.runs.turns st k.stores
+              (stores_more k.stores k.stores x (stores_themselves k.stores)) k.valued.linked);
           order = order;
-          seen = each_set (LagsInStores st) s.views id w (sees_all_stores st w refl (stores_more k.stores v.heard_stores x (k.valued.seen id v at).heard)) (λ j u ne there. lags_by_other k.stores u x (λ alive' same. others_apart L k.core s.views k.runs id j v u ne at there alive alive' same) (k.valued.seen j u there));
+          seen = each_set (LagsInStores st) s.views id w
+              (sees_all_stores st w refl (stores_more k.stores v.heard_stores x (k.valued.seen id v at).heard))
+              (λ j u ne there. lags_by_other k.stores u x (λ alive' same. others_apart L k.core s.views k.runs id j v u
+              ne at there alive alive' same) (k.valued.seen j u there));
         };
       },
       (
@@ -265,20 +308,33 @@ stores_it L slots id v slot i new alive layout many is private once index s k ho
           same = refl;
           past = (k.runs.lags id v at).past;
           stores = stores_more k.stores v.stores x (k.valued.seen id v at).seen;
-          seen = record { run = run_seen L k.core s.views id v k.runs at st alive layout; held = subst (λ (l : Layout). WereHeld l k.runs.turns st) (sym layout) held; linked = subst (λ (l : Layout). LinksHaveValues l k.runs.turns st) (sym layout) (all_linked L k.runs.turns k.values st k.runs.fits (k.long ∙ homes ∙ many) (still_linked L (length k.values) k.runs.turns st k.stores (stores_more k.stores k.stores x (stores_themselves k.stores)) k.valued.linked)); order = order };
+          seen = record {
+            run = run_seen L k.core s.views id v k.runs at st alive layout;
+            held = subst
+                (λ (l : Layout). WereHeld l k.runs.turns st) (sym layout) held;
+            linked = subst
+                (λ (l : Layout). LinksHaveValues l k.runs.turns st) (sym layout)
+                (all_linked L k.runs.turns k.values st k.runs.fits (k.long ∙ homes ∙ many)
+                (still_linked L (length k.values) k.runs.turns st k.stores
+                (stores_more k.stores k.stores x (stores_themselves k.stores)) k.valued.linked));
+            order = order;
+          };
         },
         (k.stores, refl),
       ),
     )
 
 -- what the operations ask of their caller
-pub asked_to_look : (L : Layout) (z : TableId) (it : Seat Unit View) (d slot i : ℕ) → d ≡ slot → CanReach (record { table = z; layout = L }) it slot i
+pub asked_to_look : (L : Layout) (z : TableId) (it : Seat Unit View) (d slot i : ℕ) → d ≡ slot
+    → CanReach (record { table = z; layout = L }) it slot i
     → (it.table_id ≡ z) × (i < z.words) × Allows (Kept L) z.slots it.id it.me i (λ n. n) (SawValue d no_step it.me)
 asked_to_look L z it d slot i pick can = (
   can.table,
-  (let all = can.values.words_are in let low = can.is_slot.0 in let high = can.is_slot.1 in let index = can.word in omega (arith, all, low, high, index)),
+  (let all = can.values.words_are in let low = can.is_slot.0 in let high = can.is_slot.1 in let index = can.word in
+      omega (arith, all, low, high, index)),
   subst (λ (x : ℕ). Allows (Kept L) z.slots it.id it.me i (λ n. n) (SawValue x no_step it.me)) (sym pick)
-      (subst (λ (c : List (ℕ × Unit)). Allows (Kept L) z.slots it.id (it.me.0, c) i (λ n. n) (SawValue slot no_step (it.me.0, c))) (sym can.empty)
+      (subst (λ (c : List (ℕ × Unit)). Allows (Kept L) z.slots it.id (it.me.0, c) i (λ n. n)
+      (SawValue slot no_step (it.me.0, c))) (sym can.empty)
       (sees L z.slots it.id it.me.0 slot i can.alive can.layout can.values.slots_are can.is_slot can.word)),
 )
 
@@ -295,20 +351,28 @@ asked_to_look_left L z it d slot i pick can = (
       (sees_left L z.slots it.id it.me.0 slot i can.alive can.layout can.values.slots_are can.is_slot can.word)),
 )
 
-pub asked_to_store : (L : Layout) (z : TableId) (it : Seat Unit View) (d slot i new : ℕ) → d ≡ slot → CanReach (record { table = z; layout = L }) it slot i → MayStore it slot → HasNotStored it.me.0
-    → (it.table_id ≡ z) × (i < z.words) × Allows (Kept L) z.slots it.id it.me i (λ _. new) (λ _. HasStoredValue d no_step it.me new)
+pub asked_to_store : (L : Layout) (z : TableId) (it : Seat Unit View) (d slot i new : ℕ) → d ≡ slot
+    → CanReach (record { table = z; layout = L }) it slot i → MayStore it slot → HasNotStored it.me.0
+    → (it.table_id ≡ z) × (i < z.words) × Allows (Kept L) z.slots it.id it.me i (λ _. new)
+    (λ _. HasStoredValue d no_step it.me new)
 asked_to_store L z it d slot i new pick can may once = (
   can.table,
-  (let all = can.values.words_are in let low = can.is_slot.0 in let high = can.is_slot.1 in let index = can.word in omega (arith, all, low, high, index)),
-  subst (λ (x : ℕ). Allows (Kept L) z.slots it.id it.me i (λ _. new) (λ _. HasStoredValue x no_step it.me new)) (sym pick)
-      (subst (λ (c : List (ℕ × Unit)). Allows (Kept L) z.slots it.id (it.me.0, c) i (λ _. new) (λ _. HasStoredValue slot no_step (it.me.0, c) new)) (sym can.empty)
-      (stores_it L z.slots it.id it.me.0 slot i new can.alive can.layout can.values.slots_are can.is_slot may once can.word)),
+  (let all = can.values.words_are in let low = can.is_slot.0 in let high = can.is_slot.1 in let index = can.word in
+      omega (arith, all, low, high, index)),
+  subst (λ (x : ℕ). Allows (Kept L) z.slots it.id it.me i (λ _. new) (λ _. HasStoredValue x no_step it.me new))
+      (sym pick)
+      (subst (λ (c : List (ℕ × Unit)). Allows (Kept L) z.slots it.id (it.me.0, c) i (λ _. new)
+      (λ _. HasStoredValue slot no_step (it.me.0, c) new)) (sym can.empty)
+      (stores_it L z.slots it.id it.me.0 slot i new can.alive can.layout can.values.slots_are can.is_slot may once
+      can.word)),
 )
 
 -- ---- what they leave of a pass
 
-pub can_by_key : (z : TableId) (key L : Layout) (it : Seat Unit View) (slot i : ℕ) → Laid z key L → CanReach (record { table = z; layout = L }) it slot i → CanReach (record { table = z; layout = key }) it slot i
-can_by_key z key L it slot i laid c = subst (λ (l : Layout). CanReach (record { table = z; layout = l }) it slot i) (sym laid.key_is) c
+pub can_by_key : (z : TableId) (key L : Layout) (it : Seat Unit View) (slot i : ℕ) → Laid z key L
+    → CanReach (record { table = z; layout = L }) it slot i → CanReach (record { table = z; layout = key }) it slot i
+can_by_key z key L it slot i laid c = subst (λ (l : Layout). CanReach (record { table = z; layout = l }) it slot i)
+    (sym laid.key_is) c
 
 pub can_left_by_key : (z : TableId) (key L : Layout) (it : Seat Unit View) (slot i : ℕ) → Laid z key L
     → CanReachLeft (record { table = z; layout = L }) it slot i
@@ -316,7 +380,9 @@ pub can_left_by_key : (z : TableId) (key L : Layout) (it : Seat Unit View) (slot
 can_left_by_key z key L it slot i laid c = subst (λ (l : Layout). CanReachLeft
     (record { table = z; layout = l }) it slot i) (sym laid.key_is) c
 
-pub looked_tied : (it after : Seat Unit View) (number announcement : ℕ) (brief : Brief) → Tied it number announcement brief → after.me.1 ≡ it.me.1 → HasSeenMore it.me.0 after.me.0 → Tied after number announcement brief
+pub looked_tied : (it after : Seat Unit View) (number announcement : ℕ) (brief : Brief)
+    → Tied it number announcement brief → after.me.1 ≡ it.me.1 → HasSeenMore it.me.0 after.me.0
+    → Tied after number announcement brief
 looked_tied it after number announcement brief tied slots l = record {
   empty = slots ∙ tied.empty;
   alive = ap (λ (v : View). v.resigned) l.same ∙ tied.alive;
@@ -326,7 +392,8 @@ looked_tied it after number announcement brief tied slots l = record {
   fits = subst (λ (v : View). IsLayout v.layout) (sym l.same) tied.fits;
   worker = subst (λ (v : View). number < v.layout.workers) (sym l.same) tied.worker;
   small = tied.small;
-  private = subst (λ (v : View). (x : ℕ) → is_private (knowledge v) x ≡ true → IsPooled v.layout x) (sym l.same) tied.private;
+  private = subst (λ (v : View). (x : ℕ) → is_private (knowledge v) x ≡ true → IsPooled v.layout x) (sym l.same)
+      tied.private;
   seen = l.seen.run;
   heard = ap (λ (v : View). v.heard) l.same ∙ tied.heard;
   heard_stores = ap (λ (v : View). v.heard_stores) l.same ∙ tied.heard_stores;
@@ -344,18 +411,21 @@ looks_only it after table seat l = record {
 
 -- ---- a table with values begins
 
-pub opens_values : (L : Layout) (ws : List ℕ) (units : List Unit) → IsLayout L → ws ≡ words_of L (memory.opening L) ++ replicate (length units) 0 → Kept L (opening ws units (everybody L))
+pub opens_values : (L : Layout) (ws : List ℕ) (units : List Unit) → IsLayout L
+    → ws ≡ words_of L (memory.opening L) ++ replicate (length units) 0 → Kept L (opening ws units (everybody L))
 opens_values L ws units fits e =
     let K = opens L (words_of L (memory.opening L)) fits refl in
     record {
       core = K.core;
       values = replicate (length units) 0;
-      words_are = e ∙ ap (λ (l : List ℕ). l ++ replicate (length units) 0) (K.words_are ∙ (ap (λ (l : List ℕ). K.core ++ l) (nil_from_length K.values K.long) ∙ append-nil K.core));
+      words_are = e ∙ ap (λ (l : List ℕ). l ++ replicate (length units) 0)
+          (K.words_are ∙ (ap (λ (l : List ℕ). K.core ++ l) (nil_from_length K.values K.long) ∙ append-nil K.core));
       long = length-replicate {A = ℕ} (length units) 0 ∙ sym (length-map units some);
       runs = K.runs;
       stores = [];
       valued = record {
-        are = λ i below. get_or-replicate (length units) i 0 0 (let long = length-replicate {A = ℕ} (length units) 0 in omega (arith, below, long));
+        are = λ i below. get_or-replicate (length units) i 0 0
+            (let long = length-replicate {A = ℕ} (length units) 0 in omega (arith, below, long));
         held = tt;
         linked = inr (λ before since w e' is. absurd
             (no_turn before since (w, e') (sym (opens_with_none L (words_of L (memory.opening L)) fits refl) ∙ is)));

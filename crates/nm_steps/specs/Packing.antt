@@ -46,7 +46,9 @@ row_word m r = number_of (take 64 (drop (64 * r + 1) m.pool))
 -- are the announcements, each with its gap of zeros after it. For each slot from 1 on, its key, its
 -- two edges and its birth follow. The pool is last, in rows of 64 slots
 abbrev pub words_of : Layout → Memory → List ℕ
-words_of L m = m.epoch ∷ ((replicate (L.gap - 2) 0 ++ flat_map (λ o. announcement_word o ∷ replicate L.gap 0) m.announcements) ++ (flat_map node_words (drop 1 m.nodes) ++ map (row_word m) (range_with_len 0 (rows L))))
+words_of L m = m.epoch ∷ ((replicate (L.gap - 2) 0
+    ++ flat_map (λ o. announcement_word o ∷ replicate L.gap 0) m.announcements)
+    ++ (flat_map node_words (drop 1 m.nodes) ++ map (row_word m) (range_with_len 0 (rows L))))
 
 -- the word of one field, by the memory
 abbrev pub field_word : Memory → Field → ℕ

@@ -32,10 +32,12 @@ use Rattle.nm_theorem.proofs.FreedOfRuns.{state_says}
 
 -- ---- configurations on the way
 
-pub reached_after : (ts : List (ℕ × Event)) (c : Configuration) → IsReached c → All (λ t. HasKey t.1) ts → IsReached (after_in c ts)
+pub reached_after : (ts : List (ℕ × Event)) (c : Configuration) → IsReached c → All (λ t. HasKey t.1) ts
+    → IsReached (after_in c ts)
 unfolding after_in
 reached_after [] c r keys = r
-reached_after (t ∷ ts) c r keys = reached_after ts (next_in c t) (reached_next c t (keys 0 t (omega arith)) r) (all_behind (λ (u : ℕ × Event). HasKey u.1) (t ∷ []) ts keys)
+reached_after (t ∷ ts) c r keys = reached_after ts (next_in c t) (reached_next c t (keys 0 t (omega arith)) r)
+    (all_behind (λ (u : ℕ × Event). HasKey u.1) (t ∷ []) ts keys)
 
 -- ---- one turn
 
@@ -43,9 +45,12 @@ module _ (c : Configuration) (r : IsReached c) (t : ℕ × Event) where
   cuts_told : CutsJust c.state.memory (nodes_cut_of (outcome_in c t)) (next_in c t).state.memory
   cuts_told = go (refused_in c t.0 t.1) refl
     where
-      go : (o : Option Refused) → refused_in c t.0 t.1 ≡ o → CutsJust c.state.memory (nodes_cut_of (outcome_in c t)) (next_in c t).state.memory
-      go (Some q) is = λ x. rw (refused_outcome c t q is, refused_next c t q is) ((λ cut. absurd (cut.gone cut.was)), (λ there. let below = there.1 in absurd (omega (arith, below))))
-      go None is = λ x. rw (sym (allowed_state c t is), allowed_outcome c t is, sym (state_outcome c t is)) (turn_cuts c.state (reached_state c r) t x)
+      go : (o : Option Refused) → refused_in c t.0 t.1 ≡ o
+          → CutsJust c.state.memory (nodes_cut_of (outcome_in c t)) (next_in c t).state.memory
+      go (Some q) is = λ x. rw (refused_outcome c t q is, refused_next c t q is)
+          ((λ cut. absurd (cut.gone cut.was)), (λ there. let below = there.1 in absurd (omega (arith, below))))
+      go None is = λ x. rw (sym (allowed_state c t is), allowed_outcome c t is, sym (state_outcome c t is))
+          (turn_cuts c.state (reached_state c r) t x)
 
   won : IsLawful c.state → (ns : List NodeId) → outcome_in c t ≡ Ok (Cut ns) → IsWonSplice c.state.memory t.1 ns
       ⊎ IsWonSwap c.state.memory t.1 ns
@@ -55,7 +60,8 @@ module _ (c : Configuration) (r : IsReached c) (t : ℕ × Event) where
       told : outcome c.state t ≡ Ok (Cut ns)
       told = state_says c t (Cut ns) is
 
-      by : (a : ℕ) × (side : Side) × (successor : ℕ) × (parent : ℕ) × (keep : Side) × (t.1 ≡ Splice a side successor parent keep) → IsWonSplice c.state.memory t.1 ns
+      by : (a : ℕ) × (side : Side) × (successor : ℕ) × (parent : ℕ) × (keep : Side)
+          × (t.1 ≡ Splice a side successor parent keep) → IsWonSplice c.state.memory t.1 ns
       by (a, side, x, p, keep, e) = record {
         ancestor = a;
         side = side;
@@ -65,14 +71,17 @@ module _ (c : Configuration) (r : IsReached c) (t : ℕ × Event) where
         is_splice = e;
         led = k.led;
         chain = k.chain;
-        births = of_reachable (OfEachCut (λ before successor ns after. NamesBirths before ns)) cuts_name_births c.state (reached_state c r) t.0 a side x p keep ns told';
+        births = of_reachable (OfEachCut (λ before successor ns after. NamesBirths before ns)) cuts_name_births
+            c.state (reached_state c r) t.0 a side x p keep ns told';
       }
         where
           told' : outcome c.state (t.0, Splice a side x p keep) ≡ Ok (Cut ns)
           told' = ap (λ (y : Event). outcome c.state (t.0, y)) (sym e) ∙ told
 
-          k : KeepsTheEdge c.state.memory (next c.state (t.0, Splice a side x p keep)).memory a side x p keep (slots_of ns)
-          k = of_reachable EachSpliceKeepsTheEdge each_splice_keeps_the_edge c.state (reached_state c r) t.0 a side x p keep ns told'
+          k : KeepsTheEdge c.state.memory (next c.state (t.0, Splice a side x p keep)).memory a side x p keep
+              (slots_of ns)
+          k = of_reachable EachSpliceKeepsTheEdge each_splice_keeps_the_edge c.state (reached_state c r) t.0 a side x
+              p keep ns told'
 
       swapped : (p : ℕ) (side : Side) (leaf new : ℕ) → t.1 ≡ Swap p side leaf new → IsWonSwap c.state.memory t.1 ns
       swapped p side leaf new e = record {
@@ -99,17 +108,22 @@ module _ (c : Configuration) (r : IsReached c) (t : ℕ × Event) where
 
   pub cuts_just : IsLawful c.state → CutsItsNodes c.state.memory (told_in c t)
   cuts_just lawful = record {
-    just = λ x. subst (λ (m : Memory). IsCut c.state.memory m x ↔ Contains (slots_of (nodes_cut_of (outcome_in c t))) x) (sym (turn_writes c t lawful)) (cuts_told x);
+    just = λ x. subst (λ (m : Memory). IsCut c.state.memory m x
+        ↔ Contains (slots_of (nodes_cut_of (outcome_in c t))) x) (sym (turn_writes c t lawful)) (cuts_told x);
     splices = won lawful;
   }
 
 -- ---- runs
 
-pub turns_cut_just_their_nodes : OfEachRun (λ L turns. (before rest : List Turn) (t : Turn) → turns ≡ before ++ t ∷ rest → CutsItsNodes (words_after L before) t)
+pub turns_cut_just_their_nodes : OfEachRun (λ L turns. (before rest : List Turn) (t : Turn)
+    → turns ≡ before ++ t ∷ rest → CutsItsNodes (words_after L before) t)
 turns_cut_just_their_nodes L fits b events keys before rest t all =
     let p : Parts (opening_of L b) events before (t ∷ rest) = parts_of (opening_of L b) events before (t ∷ rest) all in
-    let h : Head (after_in (opening_of L b) p.early) p.late t rest = head_of (after_in (opening_of L b) p.early) p.late t rest (sym p.rest_is) in
-    let early : All (λ t. HasKey t.1) p.early = all_before (λ (u : ℕ × Event). HasKey u.1) p.early p.late (subst (λ (ts : List (ℕ × Event)). All (λ t. HasKey t.1) ts) p.all keys) in
+    let h : Head (after_in (opening_of L b) p.early) p.late t rest = head_of (after_in (opening_of L b) p.early)
+    p.late t rest (sym p.rest_is) in
+    let early : All (λ t. HasKey t.1) p.early = all_before (λ (u : ℕ × Event). HasKey u.1) p.early p.late
+    (subst (λ (ts : List (ℕ × Event)). All (λ t. HasKey t.1) ts) p.all keys) in
     subst (λ (m : Memory). CutsItsNodes m t) (sym (run_words L fits b p.early) ∙ ap (words_after L) (sym p.first_is))
     (subst (CutsItsNodes (after_in (opening_of L b) p.early).state.memory) (sym h.turn_is)
-    (cuts_just (after_in (opening_of L b) p.early) (reached_after p.early (opening_of L b) (reached_opening L fits b) early) h.event (lawful_after p.early (opening_of L b) (lawful_opening L fits b))))
+    (cuts_just (after_in (opening_of L b) p.early) (reached_after p.early (opening_of L b) (reached_opening L fits b)
+    early) h.event (lawful_after p.early (opening_of L b) (lawful_opening L fits b))))

@@ -57,7 +57,8 @@ record NewLeaf (m : Memory) (k : Knowledge) (leaf new : ℕ) : Type 0 where
   over_far : child m new (other side) ≡ far
 
 module _ (m : Memory) (w : ℕ) (k : Knowledge) (asc : Ascends k.drafts) (x : ℕ) where
-  by_own_look : (s : ℕ) (f : Field) (r : Reply) → is_private k s ≡ true → is_private (look_private k s f r) x ≡ is_private k x
+  by_own_look : (s : ℕ) (f : Field) (r : Reply) → is_private k s ≡ true
+      → is_private (look_private k s f r) x ≡ is_private k x
   by_own_look s Birth (BirthIs b) own = has_put_own k s (record (draft_of k s) { looked = Some b }) own x
   by_own_look s _ _ own = refl
 
@@ -90,15 +91,19 @@ module _ (m : Memory) (w : ℕ) (k : Knowledge) (asc : Ascends k.drafts) (x : �
       go false None = refl
       go false (Some d) = refl
 
-  by_link : (leaf new : ℕ) → NewLeaf m k leaf new → has (without (without k.drafts new) (unwrap_or (beside (draft_of k new) leaf) 0)) x
+  by_link : (leaf new : ℕ) → NewLeaf m k leaf new → has
+      (without (without k.drafts new) (unwrap_or (beside (draft_of k new) leaf) 0)) x
       ≡ (is_private k x && not ((x == new) || ((x == child m new Left) || (x == child m new Right))))
   by_link leaf new l = ap (λ (y : ℕ). has (without (without k.drafts new) y) x) l.is_far
-      ∙ (ap is_some (get-without (without k.drafts new) l.far x (ascends-without k.drafts new asc) ∙ ap (cond (eqb x l.far) None) (get-without k.drafts new x asc))
-      ∙ (go (eqb x l.far) (eqb x new) (get k.drafts x) (eqb x leaf) (λ is. ap (is_private k) (eqb-true x leaf is) ∙ l.shared)
+      ∙ (ap is_some (get-without (without k.drafts new) l.far x (ascends-without k.drafts new asc)
+      ∙ ap (cond (eqb x l.far) None) (get-without k.drafts new x asc))
+      ∙ (go (eqb x l.far) (eqb x new) (get k.drafts x) (eqb x leaf)
+      (λ is. ap (is_private k) (eqb-true x leaf is) ∙ l.shared)
       ∙ ap (λ (b : Bool). is_private k x && not ((x == new) || b)) (sym (any_side l.side l.over_leaf l.over_far))))
     where
       -- the old leaf was not private
-      go : (f n : Bool) (o : Option Draft) (old : Bool) → (old ≡ true → is_some o ≡ false) → is_some (cond f None (cond n None o)) ≡ (is_some o && not (n || (old || f)))
+      go : (f n : Bool) (o : Option Draft) (old : Bool) → (old ≡ true → is_some o ≡ false)
+          → is_some (cond f None (cond n None o)) ≡ (is_some o && not (n || (old || f)))
       go true true None old shared = refl
       go true true (Some d) old shared = refl
       go true false None old shared = refl
@@ -110,7 +115,8 @@ module _ (m : Memory) (w : ℕ) (k : Knowledge) (asc : Ascends k.drafts) (x : �
       go false false (Some d) true shared = absurd (true≢false (shared refl))
       go false false (Some d) false shared = refl
 
-      any_side : (d : Side) → child m new d ≡ leaf → child m new (other d) ≡ l.far → ((x == child m new Left) || (x == child m new Right)) ≡ ((x == leaf) || (x == l.far))
+      any_side : (d : Side) → child m new d ≡ leaf → child m new (other d) ≡ l.far
+          → ((x == child m new Left) || (x == child m new Right)) ≡ ((x == leaf) || (x == l.far))
       any_side Left a b = λ i. (x == a i) || (x == b i)
       any_side Right a b = (λ i. (x == b i) || (x == a i)) ∙ swapped (x == l.far) (x == leaf)
         where
@@ -120,11 +126,13 @@ module _ (m : Memory) (w : ℕ) (k : Knowledge) (asc : Ascends k.drafts) (x : �
           swapped false true = refl
           swapped false false = refl
 
-  learned : (e : Event) (r : Reply) → ((s : ℕ) (f : Field) (v : ℕ) → e ≡ Fill s f v → is_private k s ≡ true) → ((p : ℕ) (d : Side) (leaf new : ℕ) (n : NodeId) → e ≡ Link p d leaf new → r ≡ Linked n → NewLeaf m k leaf new)
+  learned : (e : Event) (r : Reply) → ((s : ℕ) (f : Field) (v : ℕ) → e ≡ Fill s f v → is_private k s ≡ true)
+      → ((p : ℕ) (d : Side) (leaf new : ℕ) (n : NodeId) → e ≡ Link p d leaf new → r ≡ Linked n → NewLeaf m k leaf new)
       → is_private (learn w k e r) x ≡ goes_on m e (Ok r) x (is_private k x)
   unfolding learn
   learned Sight r fills links = ap (λ (l : Knowledge). is_private l x) (sight_teaches k r) ∙ stays (is_private k x)
-  learned (SightFor op key) r fills links = ap (λ (l : Knowledge). is_private l x) (sight_teaches k r) ∙ stays (is_private k x)
+  learned (SightFor op key) r fills links = ap (λ (l : Knowledge). is_private l x) (sight_teaches k r)
+      ∙ stays (is_private k x)
   learned Announce (Announced e) fills links = stays (is_private k x)
   learned Leave Departed fills links = stays (is_private k x)
   learned (LeaveWith answer) Departed fills links = stays (is_private k x)
@@ -134,8 +142,11 @@ module _ (m : Memory) (w : ℕ) (k : Knowledge) (asc : Ascends k.drafts) (x : �
   learned (Claim s) (Claimed t) fills links = by_claim s
   learned (Give s) (Returned t) fills links = by_return s
   learned (Give s) (Freed n) fills links = stays (is_private k x)
-  learned (Look s f) r fills links = cond_both (is_private k s) (look_private k s f r) (look_known k s f r) (λ (j : Knowledge). is_private j x ≡ is_private k x) (λ own. by_own_look s f r own) (λ _. by_look s f r) ∙ stays (is_private k x)
-  learned (Fill s f v) Filled fills links = has_put_own k s (filled_in (draft_of k s) f v) (fills s f v refl) x ∙ stays (is_private k x)
+  learned (Look s f) r fills links = cond_both (is_private k s) (look_private k s f r) (look_known k s f r)
+      (λ (j : Knowledge). is_private j x ≡ is_private k x) (λ own. by_own_look s f r own) (λ _. by_look s f r)
+      ∙ stays (is_private k x)
+  learned (Fill s f v) Filled fills links = has_put_own k s (filled_in (draft_of k s) f v) (fills s f v refl) x
+      ∙ stays (is_private k x)
   learned (Link p side leaf new) (Linked n) fills links = by_link leaf new (links p side leaf new n refl refl)
   learned (Link p side leaf new) (Lost e) fills links = stays (is_private k x)
   learned (Flag p side leaf) (Flagged n) fills links = stays (is_private k x)
@@ -145,20 +156,23 @@ module _ (m : Memory) (w : ℕ) (k : Knowledge) (asc : Ascends k.drafts) (x : �
   learned (Splice a side s p keep) (Lost e) fills links = stays (is_private k x)
   learned (Swap p side leaf new) (Cut ns) fills links = by_swap new
   learned (Swap p side leaf new) (Lost e) fills links = stays (is_private k x)
-  learned (Join v) (Joined ls) fills links = cond_both (w == v) (resigned k) (inheriting k ls) (λ (j : Knowledge). is_private j x ≡ is_private k x) (λ _. refl) (λ _. refl) ∙ stays (is_private k x)
+  learned (Join v) (Joined ls) fills links = cond_both (w == v) (resigned k) (inheriting k ls)
+      (λ (j : Knowledge). is_private j x ≡ is_private k x) (λ _. refl) (λ _. refl) ∙ stays (is_private k x)
   learned e r fills links = stays (is_private k x)
 
   -- who is told of a join has in its hands what it had
   by_join : (e : Event) (r : Reply) → is_leaver w e ≡ true → is_private (learn w k e r) x ≡ is_private k x
   unfolding learn
-  by_join (Join v) (Joined ls) is = cond_both (w == v) (resigned k) (inheriting k ls) (λ (j : Knowledge). is_private j x ≡ is_private k x) (λ _. refl) (λ _. refl)
+  by_join (Join v) (Joined ls) is = cond_both (w == v) (resigned k) (inheriting k ls)
+      (λ (j : Knowledge). is_private j x ≡ is_private k x) (λ _. refl) (λ _. refl)
   by_join (Join v) r is = refl
   by_join e r is = absurd (true≢false (sym is))
 
 -- ---- an event that is allowed
 
 module _ (s : State) (h : ℕ → ℕ) (law : Lawful s h) (u : ℕ) (e : Event) (ok : Allowed s u e) (w x : ℕ) where
-  links_new : (p : ℕ) (d : Side) (leaf new : ℕ) (n : NodeId) → e ≡ Link p d leaf new → reply_of s u e ≡ Linked n → NewLeaf s.memory (of s u) leaf new
+  links_new : (p : ℕ) (d : Side) (leaf new : ℕ) (n : NodeId) → e ≡ Link p d leaf new → reply_of s u e ≡ Linked n
+      → NewLeaf s.memory (of s u) leaf new
   unfolding reply
   links_new p d leaf new n is linked = by (is_to (edge s.memory p d) leaf) refl (sym (ap (reply_of s u) is) ∙ linked)
     where
@@ -181,23 +195,33 @@ module _ (s : State) (h : ℕ → ℕ) (law : Lawful s h) (u : ℕ) (e : Event) 
         over_far = ap (λ (y : Edge). y.slot) k.link.over_far;
       }
 
-      by : (b : Bool) → is_to (edge s.memory p d) leaf ≡ b → cond b (Linked (node_linked (of s u) new)) (Lost (edge s.memory p d)) ≡ Linked n → NewLeaf s.memory (of s u) leaf new
+      by : (b : Bool) → is_to (edge s.memory p d) leaf ≡ b
+          → cond b (Linked (node_linked (of s u) new)) (Lost (edge s.memory p d)) ≡ Linked n
+          → NewLeaf s.memory (of s u) leaf new
       by true won linked = of_won (won_link s h law u p d leaf new ok' won)
       by false none linked = absurd (lost (edge s.memory p d) linked)
 
-  event_hands : is_private (of (applied s u e) w) x ≡ cond (u == w) (goes_on s.memory e (Ok (reply_of s u e)) x (is_private (of s w) x)) (is_private (of s w) x)
+  event_hands : is_private (of (applied s u e) w) x
+      ≡ cond (u == w) (goes_on s.memory e (Ok (reply_of s u e)) x (is_private (of s w) x)) (is_private (of s w) x)
   event_hands = go (u == w) refl (is_leaver w e) refl
     where
-      own : u ≡ w → is_private (of (applied s u e) w) x ≡ goes_on s.memory e (Ok (reply_of s u e)) x (is_private (of s w) x)
-      own same = ap (λ (k : Knowledge). is_private k x) (partaking s law.staffed u w e ok (ap (λ (b : Bool). b || is_leaver w e) (eq-eqb u w same)))
-          ∙ subst (λ (v : ℕ). is_private (learn v (of s v) e (reply_of s u e)) x ≡ goes_on s.memory e (Ok (reply_of s u e)) x (is_private (of s v) x)) same
+      own : u ≡ w → is_private (of (applied s u e) w) x
+          ≡ goes_on s.memory e (Ok (reply_of s u e)) x (is_private (of s w) x)
+      own same = ap (λ (k : Knowledge). is_private k x)
+          (partaking s law.staffed u w e ok (ap (λ (b : Bool). b || is_leaver w e) (eq-eqb u w same)))
+          ∙ subst (λ (v : ℕ). is_private (learn v (of s v) e (reply_of s u e)) x
+          ≡ goes_on s.memory e (Ok (reply_of s u e)) x (is_private (of s v) x)) same
           (learned s.memory u (of s u) (law.drafts u) x e (reply_of s u e) (fill_checked s u e ok.event) links_new)
 
       go : (b : Bool) → (u == w) ≡ b → (l : Bool) → is_leaver w e ≡ l
-          → is_private (of (applied s u e) w) x ≡ cond b (goes_on s.memory e (Ok (reply_of s u e)) x (is_private (of s w) x)) (is_private (of s w) x)
+          → is_private (of (applied s u e) w) x ≡ cond b
+          (goes_on s.memory e (Ok (reply_of s u e)) x (is_private (of s w) x)) (is_private (of s w) x)
       go true is l leaver = own (eqb-true u w is)
-      go false is true leaver = ap (λ (k : Knowledge). is_private k x) (partaking s law.staffed u w e ok (λ i. is i || leaver i)) ∙ by_join s.memory w (of s w) (law.drafts w) x e (reply_of s u e) leaver
-      go false is false leaver = ap (λ (k : Knowledge). is_private k x) (apart s law.staffed u w e ok (λ i. is i || leaver i))
+      go false is true leaver = ap (λ (k : Knowledge). is_private k x)
+          (partaking s law.staffed u w e ok (λ i. is i || leaver i))
+          ∙ by_join s.memory w (of s w) (law.drafts w) x e (reply_of s u e) leaver
+      go false is false leaver = ap (λ (k : Knowledge). is_private k x)
+          (apart s law.staffed u w e ok (λ i. is i || leaver i))
 
 -- ---- a turn
 
@@ -208,7 +232,9 @@ refused_stays m (Link p d leaf new) q x had = sym (stays had)
 refused_stays m e q x had = sym (stays had)
 
 module _ (w x : ℕ) where
-  turn_hands : (c : Configuration) (t : ℕ × Event) → IsLawful c.state → is_private (of (next_in c t).state w) x ≡ cond (t.0 == w) (goes_on c.state.memory t.1 (outcome_in c t) x (is_private (of c.state w) x)) (is_private (of c.state w) x)
+  turn_hands : (c : Configuration) (t : ℕ × Event) → IsLawful c.state
+      → is_private (of (next_in c t).state w) x ≡ cond (t.0 == w)
+      (goes_on c.state.memory t.1 (outcome_in c t) x (is_private (of c.state w) x)) (is_private (of c.state w) x)
   unfolding applied_in
   turn_hands c t lawful = go (refused_in c t.0 t.1) refl
     where
@@ -216,21 +242,35 @@ module _ (w x : ℕ) where
       same true p q e = sym e
       same false p q e = refl
 
-      go : (o : Option Refused) → refused_in c t.0 t.1 ≡ o → is_private (of (next_in c t).state w) x ≡ cond (t.0 == w) (goes_on c.state.memory t.1 (outcome_in c t) x (is_private (of c.state w) x)) (is_private (of c.state w) x)
+      go : (o : Option Refused) → refused_in c t.0 t.1 ≡ o
+          → is_private (of (next_in c t).state w) x ≡ cond (t.0 == w)
+          (goes_on c.state.memory t.1 (outcome_in c t) x (is_private (of c.state w) x)) (is_private (of c.state w) x)
       go (Some r) is = ap (λ (d : Configuration). is_private (of d.state w) x) (refused_next c t r is)
-          ∙ same (t.0 == w) (goes_on c.state.memory t.1 (outcome_in c t) x (is_private (of c.state w) x)) (is_private (of c.state w) x)
-          (ap (λ (o : Result Reply Refused). goes_on c.state.memory t.1 o x (is_private (of c.state w) x)) (refused_outcome c t r is) ∙ refused_stays c.state.memory t.1 r x (is_private (of c.state w) x))
+          ∙ same (t.0 == w) (goes_on c.state.memory t.1 (outcome_in c t) x (is_private (of c.state w) x))
+          (is_private (of c.state w) x)
+          (ap (λ (o : Result Reply Refused). goes_on c.state.memory t.1 o x (is_private (of c.state w) x))
+          (refused_outcome c t r is) ∙ refused_stays c.state.memory t.1 r x (is_private (of c.state w) x))
       go None is = ap (λ (d : Configuration). is_private (of d.state w) x) (allowed_next c t is)
-          ∙ (event_hands c.state lawful.holder lawful.law t.0 t.1 (allowed c.state t.0 t.1 (allowed_by_state c t.0 t.1 is)) w x
-          ∙ ap (λ (o : Result Reply Refused). cond (t.0 == w) (goes_on c.state.memory t.1 o x (is_private (of c.state w) x)) (is_private (of c.state w) x)) (sym (allowed_outcome c t is)))
+          ∙ (event_hands c.state lawful.holder lawful.law t.0 t.1
+          (allowed c.state t.0 t.1 (allowed_by_state c t.0 t.1 is)) w x
+          ∙ ap (λ (o : Result Reply Refused). cond (t.0 == w)
+          (goes_on c.state.memory t.1 o x (is_private (of c.state w) x)) (is_private (of c.state w) x))
+          (sym (allowed_outcome c t is)))
 
-  hands_from : (ts : List (ℕ × Event)) (c : Configuration) → IsLawful c.state → has_after c.state.memory w x (is_private (of c.state w) x) (trace_in c ts) ≡ is_private (of (after_in c ts).state w) x
+  hands_from : (ts : List (ℕ × Event)) (c : Configuration) → IsLawful c.state
+      → has_after c.state.memory w x (is_private (of c.state w) x) (trace_in c ts)
+      ≡ is_private (of (after_in c ts).state w) x
   unfolding after_in trace_in
   hands_from [] c lawful = refl
-  hands_from (t ∷ ts) c lawful = (λ i. has_after (turn_writes c t lawful i) w x (sym (turn_hands c t lawful) i) (trace_in (next_in c t) ts)) ∙ hands_from ts (next_in c t) (lawful_next c t lawful)
+  hands_from (t ∷ ts) c lawful = (λ i. has_after (turn_writes c t lawful i) w x (sym (turn_hands c t lawful) i)
+      (trace_in (next_in c t) ts)) ∙ hands_from ts (next_in c t) (lawful_next c t lawful)
 
   first_hands : (L : Layout) (b : Bool) → is_private (of (opening_of L b).state w) x ≡ false
-  first_hands L b = ap (λ (s : State). is_private (of s w) x) (opening_state L b) ∙ ap (λ (k : Knowledge). is_private k x) (all_new L w)
+  first_hands L b = ap (λ (s : State). is_private (of s w) x) (opening_state L b)
+      ∙ ap (λ (k : Knowledge). is_private k x) (all_new L w)
 
-  pub run_hands : (L : Layout) → IsLayout L → (b : Bool) (ts : List (ℕ × Event)) → has_after (opening L) w x false (trace_in (opening_of L b) ts) ≡ is_private (of (after_in (opening_of L b) ts).state w) x
-  run_hands L fits b ts = (λ i. has_after (sym (opening_words L b) i) w x (sym (first_hands L b) i) (trace_in (opening_of L b) ts)) ∙ hands_from ts (opening_of L b) (lawful_opening L fits b)
+  pub run_hands : (L : Layout) → IsLayout L → (b : Bool) (ts : List (ℕ × Event))
+      → has_after (opening L) w x false (trace_in (opening_of L b) ts)
+      ≡ is_private (of (after_in (opening_of L b) ts).state w) x
+  run_hands L fits b ts = (λ i. has_after (sym (opening_words L b) i) w x (sym (first_hands L b) i)
+      (trace_in (opening_of L b) ts)) ∙ hands_from ts (opening_of L b) (lawful_opening L fits b)

@@ -22,22 +22,27 @@ use Rattle.nm_theorem.proofs.StandingOfRuns.{touched_was_told, told_stays, holde
 
 module _ (L : Layout) (fits : IsLayout L) (b : Bool) (events : List (ℕ × Event)) where
   -- what holds of the turns of each run holds of the first turns of this one
-  each_part : (P : List Turn → Type 0) → ((ts : List (ℕ × Event)) → P (trace_in (opening_of L b) ts)) → (so_far rest : List Turn) → trace_in (opening_of L b) events ≡ so_far ++ rest → P so_far
+  each_part : (P : List Turn → Type 0) → ((ts : List (ℕ × Event)) → P (trace_in (opening_of L b) ts))
+      → (so_far rest : List Turn) → trace_in (opening_of L b) events ≡ so_far ++ rest → P so_far
   each_part P run so_far rest all =
       let p : Parts (opening_of L b) events so_far rest = parts_of (opening_of L b) events so_far rest all in
       subst P (sym p.first_is) (run p.early)
 
-  fixed : (so_far rest : List Turn) → trace_in (opening_of L b) events ≡ so_far ++ rest → (x : ℕ) → x ≤ 5 → IsStill L [] so_far x
+  fixed : (so_far rest : List Turn) → trace_in (opening_of L b) events ≡ so_far ++ rest → (x : ℕ) → x ≤ 5
+      → IsStill L [] so_far x
   fixed = each_part (λ so_far. (x : ℕ) → x ≤ 5 → IsStill L [] so_far x) (fixed_stay L fits b)
 
   -- what was told is a slot, or it is 0, which a null edge tells
-  stay : All (λ t. HasKey t.1) events → (so_far rest : List Turn) → trace_in (opening_of L b) events ≡ so_far ++ rest → WhatWasToldStays L so_far
+  stay : All (λ t. HasKey t.1) events → (so_far rest : List Turn) → trace_in (opening_of L b) events ≡ so_far ++ rest
+      → WhatWasToldStays L so_far
   stay keys so_far rest all w x o = elim (cases_lt x 1) [
     | inr least ↦ told_stays L fits b events keys so_far rest all w x least o
     | inl null ↦
         let low : x ≤ 5 = omega (arith, null) in
         let now = fixed so_far rest all x low in
-        let then = fixed o.before ((o.told ∷ o.since) ++ rest) (all ∙ (ap (λ (us : List Turn). us ++ rest) o.are ∙ append_assoc o.before (o.told ∷ o.since) rest)) x low in
+        let then = fixed o.before ((o.told ∷ o.since) ++ rest)
+        (all ∙ (ap (λ (us : List Turn). us ++ rest) o.are ∙ append_assoc o.before (o.told ∷ o.since) rest)) x
+        low in
         record { pooled = now.pooled; in_hands = now.in_hands; birth = now.birth ∙ sym then.birth }
   ]
 

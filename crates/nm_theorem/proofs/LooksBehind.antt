@@ -27,7 +27,8 @@ use Rattle.nm_theorem.proofs.GraceOfRuns.{pin_is}
 use Rattle.nm_theorem.proofs.WrittenWords.{run_words}
 
 -- a pin behind an entry was confirmed by it, or stood before and was not left
-entry_was : (pin : Option ℕ) (v : Event) (r : Reply) → IsSome (pinned_by pin (v, r)) → (confirms v (Ok r) ≡ true) ⊎ (IsSome pin × (departs v (Ok r) ≡ false))
+entry_was : (pin : Option ℕ) (v : Event) (r : Reply) → IsSome (pinned_by pin (v, r))
+    → (confirms v (Ok r) ≡ true) ⊎ (IsSome pin × (departs v (Ok r) ≡ false))
 entry_was pin Sight (Pinned n) some' = inl refl
 entry_was pin (SightFor op key) (Pinned n) some' = inl refl
 entry_was pin Leave Departed some' = absurd (true≢false (sym some'))
@@ -38,14 +39,18 @@ module _ (w : ℕ) where
   abbrev Stood : Option ℕ → Turn → Type 0
   Stood pin t = ((t.worker ≡ w) × (confirms t.event t.outcome ≡ true)) ⊎ (IsSome pin × (leaves w t ≡ false))
 
-  turn_was : (pin : Option ℕ) (t : Turn) → IsSome (pinned_after pin (cond (t.worker == w) (logged_by t) [])) → Stood pin t
+  turn_was : (pin : Option ℕ) (t : Turn) → IsSome (pinned_after pin (cond (t.worker == w) (logged_by t) []))
+      → Stood pin t
   turn_was pin t some' = by (t.worker == w) refl t.outcome refl some'
     where
-      by : (b : Bool) → (t.worker == w) ≡ b → (o : Result Reply Refused) → t.outcome ≡ o → IsSome (pinned_after pin (cond b (logged_by (record { worker = t.worker; event = t.event; outcome = o })) [])) → Stood pin t
+      by : (b : Bool) → (t.worker == w) ≡ b → (o : Result Reply Refused) → t.outcome ≡ o
+          → IsSome (pinned_after pin (cond b (logged_by (record { worker = t.worker; event = t.event; outcome = o }))
+          [])) → Stood pin t
       by false own o is s = inr (s, ap (λ (b : Bool). b && departs t.event t.outcome) own)
       by true own (Err x) is s = inr (s, none_left (t.worker == w) t.event t.outcome x is)
         where
-          none_left : (b : Bool) (e : Event) (o : Result Reply Refused) (x : Refused) → o ≡ Err x → (b && departs e o) ≡ false
+          none_left : (b : Bool) (e : Event) (o : Result Reply Refused) (x : Refused) → o ≡ Err x
+              → (b && departs e o) ≡ false
           none_left b e o x is = ap (λ (q : Result Reply Refused). b && departs e q) is ∙ refused b e
             where
               refused : (b : Bool) (e : Event) → (b && departs e (Err x)) ≡ false
@@ -60,7 +65,8 @@ module _ (w : ℕ) where
           go (inr (some'', stays)) = inr (some'', (λ i. own i && departs t.event (is i)) ∙ stays)
 
   -- so where the log leaves a pin, it stood at first and was not left, or these turns confirm it
-  pinned_at : (ts : List Turn) (pin : Option ℕ) → IsSome (pinned_after pin (log_of w ts)) → (IsSome pin × (HasLeft w ts → ⊥)) ⊎ IsPinned w ts
+  pinned_at : (ts : List Turn) (pin : Option ℕ) → IsSome (pinned_after pin (log_of w ts))
+      → (IsSome pin × (HasLeft w ts → ⊥)) ⊎ IsPinned w ts
   pinned_at [] pin some' = inl (some', λ left. true≢false (sym left))
   pinned_at (t ∷ ts) pin some' =
       let entry : List Entry = cond (t.worker == w) (logged_by t) [] in
@@ -69,12 +75,31 @@ module _ (w : ℕ) where
       not_left : leaves w t ≡ false → (HasLeft w ts → ⊥) → HasLeft w (t ∷ ts) → ⊥
       not_left stays none left = none (sym (ap (λ (b : Bool). b || list_any (leaves w) ts) stays) ∙ left)
 
-      by : (IsSome (pinned_after pin (cond (t.worker == w) (logged_by t) [])) × (HasLeft w ts → ⊥)) ⊎ IsPinned w ts → (IsSome pin × (HasLeft w (t ∷ ts) → ⊥)) ⊎ IsPinned w (t ∷ ts)
-      by (inr p) = inr (record { before = t ∷ p.before; sight = p.sight; since = p.since; are = ap (λ (us : List Turn). t ∷ us) p.are; own = p.own; pins = p.pins; stays = p.stays })
+      by : (IsSome (pinned_after pin (cond (t.worker == w) (logged_by t) [])) × (HasLeft w ts → ⊥)) ⊎ IsPinned w ts
+          → (IsSome pin × (HasLeft w (t ∷ ts) → ⊥)) ⊎ IsPinned w (t ∷ ts)
+      by (inr p) = inr (record {
+        before = t ∷ p.before;
+        sight = p.sight;
+        since = p.since;
+        are = ap
+            (λ (us : List Turn). t ∷ us) p.are;
+        own = p.own;
+        pins = p.pins;
+        stays = p.stays;
+      })
       by (inl (stood, none)) = go (turn_was pin t stood)
         where
           go : Stood pin t → (IsSome pin × (HasLeft w (t ∷ ts) → ⊥)) ⊎ IsPinned w (t ∷ ts)
-          go (inl (own, pins)) = inr (record { before = []; sight = t; since = ts; are = refl; own = own; pins = pins; stays = none })
+          go (inl (own, pins)) = inr (record {
+            before = [];
+            sight = t;
+            since = ts;
+            are = refl;
+            own = own;
+            pins =
+                pins;
+            stays = none;
+          })
           go (inr (some'', stays)) = inl (some'', not_left stays none)
 
   abbrev no_pin : Option ℕ
@@ -88,12 +113,15 @@ module _ (w : ℕ) where
       go (inr p) = p
 
 -- by the turns of a run
-pub was_behind : (L : Layout) → IsLayout L → (past events : List (ℕ × Event)) (was now : List Turn) → length was ≡ length past → now ≡ trace_in (ordered L) events → (w k : ℕ) (answer : Bool) → WasSoSince L past events w k answer → WasSoBehind L was now w k answer
+pub was_behind : (L : Layout) → IsLayout L → (past events : List (ℕ × Event)) (was now : List Turn)
+    → length was ≡ length past → now ≡ trace_in (ordered L) events → (w k : ℕ) (answer : Bool)
+    → WasSoSince L past events w k answer → WasSoBehind L was now w k answer
 was_behind L fits past events was now long are w k answer s = record {
   so_far = trace_in (ordered L) s.before;
   rest = trace_in (after_in (ordered L) s.before) s.since;
   are = are ∙ (ap (trace_in (ordered L)) s.is_run ∙ trace_in-append (ordered L) s.before s.since);
   later = let t = length_trace (ordered L) s.before in let l = s.later in omega (arith, t, l, long);
-  pinned = pinned_by_turns w (trace_in (ordered L) s.before) (subst (λ (o : Option ℕ). IsSome o) (sym s.pinned.1 ∙ pin_is L fits true s.before w) refl);
+  pinned = pinned_by_turns w (trace_in (ordered L) s.before)
+      (subst (λ (o : Option ℕ). IsSome o) (sym s.pinned.1 ∙ pin_is L fits true s.before w) refl);
   gives = subst (λ (m : Memory). Gives (InSet m) Has k answer) (sym (run_words L fits true s.before)) s.gives;
 }

@@ -34,14 +34,16 @@ pub record Head (c : Configuration) (ts : List (ℕ × Event)) (turn : Turn) (re
   pub turn_is : turn ≡ told_in c event
   pub rest_is : rest ≡ trace_in (next_in c event) others
 
-pub head_of : (c : Configuration) (ts : List (ℕ × Event)) (turn : Turn) (rest : List Turn) → trace_in c ts ≡ turn ∷ rest → Head c ts turn rest
+pub head_of : (c : Configuration) (ts : List (ℕ × Event)) (turn : Turn) (rest : List Turn)
+    → trace_in c ts ≡ turn ∷ rest → Head c ts turn rest
 unfolding trace_in
 head_of c [] turn rest e = absurd (no_turn turn rest e)
 head_of c (t ∷ ts) turn rest e =
     let same = same_head (told_in c t) turn (trace_in (next_in c t) ts) rest e in
     record { event = t; others = ts; all = refl; turn_is = sym same.0; rest_is = sym same.1 }
 
-pub parts_of : (c : Configuration) (ts : List (ℕ × Event)) (first rest : List Turn) → trace_in c ts ≡ first ++ rest → Parts c ts first rest
+pub parts_of : (c : Configuration) (ts : List (ℕ × Event)) (first rest : List Turn) → trace_in c ts ≡ first ++ rest
+    → Parts c ts first rest
 unfolding after_in trace_in
 parts_of c ts [] rest e = record { early = []; late = ts; all = refl; first_is = refl; rest_is = sym e; size = refl }
 parts_of c ts (x ∷ xs) rest e =
@@ -74,7 +76,8 @@ lawful_next c t lawful = go (refused_in c t.0 t.1) refl
   where
     go : (o : Option Refused) → refused_in c t.0 t.1 ≡ o → IsLawful (next_in c t).state
     go (Some r) is = subst (λ (d : Configuration). IsLawful d.state) (sym (refused_next c t r is)) lawful
-    go None is = subst (λ (d : Configuration). IsLawful d.state) (sym (allowed_next c t is)) (lawful_step c.state t.0 t.1 lawful (allowed c.state t.0 t.1 (allowed_by_state c t.0 t.1 is)))
+    go None is = subst (λ (d : Configuration). IsLawful d.state) (sym (allowed_next c t is))
+        (lawful_step c.state t.0 t.1 lawful (allowed c.state t.0 t.1 (allowed_by_state c t.0 t.1 is)))
 
 pub lawful_after : (ts : List (ℕ × Event)) (c : Configuration) → IsLawful c.state → IsLawful (after_in c ts).state
 unfolding after_in
@@ -82,12 +85,16 @@ lawful_after [] c lawful = lawful
 lawful_after (t ∷ ts) c lawful = lawful_after ts (next_in c t) (lawful_next c t lawful)
 
 -- a run of a configuration ends in a state of a run
-state_after : (L : Layout) (b : Bool) (ts : List (ℕ × Event)) → (after_in (opening_of L b) ts).state ≡ after (start L) (map turn_of (accepted (trace_in (opening_of L b) ts)))
-state_after L b ts = (ordered_runs (opening_of L b) ts).0 ∙ ap (λ (s : State). after s (map turn_of (accepted (trace_in (opening_of L b) ts)))) (opening_state L b)
+state_after : (L : Layout) (b : Bool) (ts : List (ℕ × Event))
+    → (after_in (opening_of L b) ts).state ≡ after (start L) (map turn_of (accepted (trace_in (opening_of L b) ts)))
+state_after L b ts = (ordered_runs (opening_of L b) ts).0
+    ∙ ap (λ (s : State). after s (map turn_of (accepted (trace_in (opening_of L b) ts)))) (opening_state L b)
 
 -- so each law of the states of runs holds of its state
-pub of_state_after : (P : State → Type 0) → OfEachState P → (L : Layout) → IsLayout L → (b : Bool) (ts : List (ℕ × Event)) → P (after_in (opening_of L b) ts).state
-of_state_after P law L fits b ts = subst P (sym (state_after L b ts)) (law L (enough_of L fits) (map turn_of (accepted (trace_in (opening_of L b) ts))))
+pub of_state_after : (P : State → Type 0) → OfEachState P → (L : Layout) → IsLayout L
+    → (b : Bool) (ts : List (ℕ × Event)) → P (after_in (opening_of L b) ts).state
+of_state_after P law L fits b ts = subst P (sym (state_after L b ts))
+    (law L (enough_of L fits) (map turn_of (accepted (trace_in (opening_of L b) ts))))
 
 -- ---- the layout
 
@@ -106,4 +113,5 @@ layout_after (t ∷ ts) c = layout_after ts (next_in c t) ∙ layout_next c t
 -- ---- the first events, by their number
 
 pub take_first : (ts early late : List (ℕ × Event)) (n : ℕ) → ts ≡ early ++ late → length early ≡ n → take n ts ≡ early
-take_first ts early late n all size = ap (take n) all ∙ (ap (λ (m : ℕ). take m (early ++ late)) (sym size) ∙ first_of early late)
+take_first ts early late n all size = ap (take n) all
+    ∙ (ap (λ (m : ℕ). take m (early ++ late)) (sym size) ∙ first_of early late)

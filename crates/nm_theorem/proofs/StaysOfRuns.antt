@@ -54,8 +54,10 @@ module _ (s : State) (h : ℕ → ℕ) (law : Lawful s h) (w : ℕ) (x : ℕ) (f
   knows_it y known same = ap (knows (of s w)) (sym same) ∙ known
 
   -- a tagged edge was read of a node that is known
-  tag_of_known : (p : ℕ) (side : Side) → ReadsStand s w → is_tagged (read (of s w) p side) ≡ true → knows (of s w) p ≡ true
-  tag_of_known p side stand tag = stand.known p side (edge s.memory p side) (tag_known s.layout.nodes s.memory (of s) h w p side law.tree tag)
+  tag_of_known : (p : ℕ) (side : Side) → ReadsStand s w → is_tagged (read (of s w) p side) ≡ true
+      → knows (of s w) p ≡ true
+  tag_of_known p side stand tag = stand.known p side (edge s.memory p side)
+      (tag_known s.layout.nodes s.memory (of s) h w p side law.tree tag)
 
   pub touch_known : ReadsStand s w → (e : Event) → Allowed s w e → Contains (touched e) x → knows (of s w) x ≡ true
   touch_known stand (Look y f) ok c = by (one_of y [] x c)
@@ -118,7 +120,8 @@ module _ (s : State) (h : ℕ → ℕ) (law : Lawful s h) (w : ℕ) (x : ℕ) (f
       held = splice_checked s w a d y p keep ok.event
 
       parent : knows (of s w) p ≡ true
-      parent = tag_of_known p keep stand (and_parts (is_tagged (read (of s w) p keep)) _ (and_parts (is_some (way s.layout.nodes (of s w) y p)) _ held.frozen).1).0
+      parent = tag_of_known p keep stand (and_parts (is_tagged (read (of s w) p keep)) _
+          (and_parts (is_some (way s.layout.nodes (of s w) y p)) _ held.frozen).1).0
 
       last : (p ≡ x) ⊎ Contains [] x → knows (of s w) x ≡ true
       last (inl same) = knows_it p parent same
@@ -136,14 +139,20 @@ module _ (s : State) (h : ℕ → ℕ) (law : Lawful s h) (w : ℕ) (x : ℕ) (f
 -- ---- what is known stays, and is shared
 
 -- a worker that is pinned is not pinned anew
-not_anew : (s : State) (w p : ℕ) (e : Event) → (of s w).brief.pin ≡ Some p → departs e (Ok (reply_of s w e)) ≡ false → begins_anew (e, reply_of s w e) ≡ false
+not_anew : (s : State) (w p : ℕ) (e : Event) → (of s w).brief.pin ≡ Some p → departs e (Ok (reply_of s w e)) ≡ false
+    → begins_anew (e, reply_of s w e) ≡ false
 unfolding reply
 not_anew s w p e pin stays = go e stays
   where
     sight : (r : Reply) → r ≡ reply_sight (of s w) s.memory.epoch → begins_anew (Sight, r) ≡ false
     sight r is = subst (λ (q : Reply). begins_anew (Sight, q) ≡ false) (sym is)
-        (subst (λ (o : Option ℕ). begins_anew (Sight, cond (of s w).brief.unlabelled (Labelled s.memory.epoch) (confirmed o (of s w).brief.announcement s.memory.epoch)) ≡ false) (sym pin)
-        (cond_both (of s w).brief.unlabelled (Labelled s.memory.epoch) (Saw s.memory.epoch) (λ (q : Reply). begins_anew (Sight, q) ≡ false) (λ _. refl) (λ _. refl)))
+        (subst (λ (o : Option ℕ). begins_anew (
+          Sight,
+          cond (of s w).brief.unlabelled (Labelled s.memory.epoch)
+              (confirmed o (of s w).brief.announcement s.memory.epoch),
+        ) ≡ false) (sym pin)
+        (cond_both (of s w).brief.unlabelled (Labelled s.memory.epoch) (Saw s.memory.epoch)
+        (λ (q : Reply). begins_anew (Sight, q) ≡ false) (λ _. refl) (λ _. refl)))
 
     same : (op : Op) (key : ℕ) (r : Reply) → begins_anew (SightFor op key, r) ≡ begins_anew (Sight, r)
     same op key (Pinned n) = refl
@@ -151,7 +160,8 @@ not_anew s w p e pin stays = go e stays
 
     go : (e : Event) → departs e (Ok (reply_of s w e)) ≡ false → begins_anew (e, reply_of s w e) ≡ false
     go Sight none = sight (reply_sight (of s w) s.memory.epoch) refl
-    go (SightFor op key) none = same op key (reply_sight (of s w) s.memory.epoch) ∙ sight (reply_sight (of s w) s.memory.epoch) refl
+    go (SightFor op key) none = same op key (reply_sight (of s w) s.memory.epoch)
+        ∙ sight (reply_sight (of s w) s.memory.epoch) refl
     go Leave none = absurd (true≢false none)
     go (LeaveWith answer) none = absurd (true≢false none)
     go e none = refl
@@ -165,16 +175,24 @@ module _ (w x : ℕ) where
   pub live : (s : State) (l : IsLawful s) → knows (of s w) x ≡ true → IsLive (view s.memory (of s) l.holder) x
   live s l known = known_live s.layout.nodes s.memory (of s) l.holder w x l.law.tree known
 
-  event_stays : (s : State) → IsLawful s → (u : ℕ) (e : Event) → Allowed s u e → (u ≡ w → departs e (Ok (reply_of s u e)) ≡ false) → knows (of s w) x ≡ true → Still w x s (applied s u e)
-  event_stays s l u e ok stays known = record { known = elim (ℕ_discrete w u) [ yes same ↦ mine same | no ne ↦ (others_stay s l.holder l.law u e ok w ne).known x known ]; birth = ap (λ (m : Memory). (node m x).birth) (memory_after s u e) ∙ (written_same s.memory (of s u) u e x apart).birth }
+  event_stays : (s : State) → IsLawful s → (u : ℕ) (e : Event) → Allowed s u e
+      → (u ≡ w → departs e (Ok (reply_of s u e)) ≡ false) → knows (of s w) x ≡ true → Still w x s (applied s u e)
+  event_stays s l u e ok stays known = record {
+    known = elim (ℕ_discrete w u)
+        [ yes same ↦ mine same | no ne ↦ (others_stay s l.holder l.law u e ok w ne).known x known ];
+    birth = ap
+        (λ (m : Memory). (node m x).birth) (memory_after s u e) ∙ (written_same s.memory (of s u) u e x apart).birth;
+  }
     where
       apart : (y : ℕ) (f : Field) (v : ℕ) → e ≡ Fill y f v → x ≢ y
-      apart y f v is same = true≢false (sym (fill_checked s u e ok.event y f v is) ∙ (ap (is_private (of s u)) (sym same) ∙ (live s l known).shared u))
+      apart y f v is same = true≢false (sym (fill_checked s u e ok.event y f v is)
+          ∙ (ap (is_private (of s u)) (sym same) ∙ (live s l known).shared u))
 
       mine : w ≡ u → knows (of (applied s u e) w) x ≡ true
       mine same = subst (λ (v : ℕ). knows (of (applied s u e) v) x ≡ true) (sym same)
           (ap (λ (k : Knowledge). knows k x) (own_knows s l.holder l.law u e ok)
-          ∙ (learned_stays s.memory (of s u) u e (reply_of s u e) (answers s l.holder l.law u e ok) (not_anew s u (pin.0) e pin.1 (stays (sym same)))).known x here)
+          ∙ (learned_stays s.memory (of s u) u e (reply_of s u e) (answers s l.holder l.law u e ok)
+          (not_anew s u (pin.0) e pin.1 (stays (sym same)))).known x here)
         where
           here : knows (of s u) x ≡ true
           here = subst (λ (v : ℕ). knows (of s v) x ≡ true) same known
@@ -182,19 +200,26 @@ module _ (w x : ℕ) where
           pin : (p : ℕ) × ((of s u).brief.pin ≡ Some p)
           pin = l.law.known u x here
 
-  turn_stays : (c : Configuration) → IsLawful c.state → (t : ℕ × Event) → leaves w (told_in c t) ≡ false → knows (of c.state w) x ≡ true → Still w x c.state (next_in c t).state
+  turn_stays : (c : Configuration) → IsLawful c.state → (t : ℕ × Event) → leaves w (told_in c t) ≡ false
+      → knows (of c.state w) x ≡ true → Still w x c.state (next_in c t).state
   unfolding applied_in
   turn_stays c l t stays known = go (refused_in c t.0 t.1) refl
     where
       none : (r : Reply) → outcome_in c t ≡ Ok r → t.0 ≡ w → departs t.1 (Ok r) ≡ false
-      none r is own = false_from_ne_true (departs t.1 (Ok r)) (λ leaves'. true≢false (sym (and_from (t.0 == w) (departs t.1 (outcome_in c t)) (eq-eqb t.0 w own) (ap (departs t.1) is ∙ leaves')) ∙ stays))
+      none r is own = false_from_ne_true (departs t.1 (Ok r))
+          (λ leaves'. true≢false (sym (and_from (t.0 == w) (departs t.1 (outcome_in c t)) (eq-eqb t.0 w own)
+          (ap (departs t.1) is ∙ leaves')) ∙ stays))
 
       go : (o : Option Refused) → refused_in c t.0 t.1 ≡ o → Still w x c.state (next_in c t).state
-      go (Some r) is = subst (λ (d : Configuration). Still w x c.state d.state) (sym (refused_next c t r is)) (record { known = known; birth = refl })
+      go (Some r) is = subst (λ (d : Configuration). Still w x c.state d.state) (sym (refused_next c t r is))
+          (record { known = known; birth = refl })
       go None is = subst (λ (d : Configuration). Still w x c.state d.state) (sym (allowed_next c t is))
-          (event_stays c.state l t.0 t.1 (allowed c.state t.0 t.1 (allowed_by_state c t.0 t.1 is)) (none (reply_of c.state t.0 t.1) (allowed_outcome c t is)) known)
+          (event_stays c.state l t.0 t.1 (allowed c.state t.0 t.1 (allowed_by_state c t.0 t.1 is))
+          (none (reply_of c.state t.0 t.1) (allowed_outcome c t is)) known)
 
-  pub turns_stay : (ts : List (ℕ × Event)) (c : Configuration) → IsLawful c.state → list_any (leaves w) (trace_in c ts) ≡ false → knows (of c.state w) x ≡ true → Still w x c.state (after_in c ts).state
+  pub turns_stay : (ts : List (ℕ × Event)) (c : Configuration) → IsLawful c.state
+      → list_any (leaves w) (trace_in c ts) ≡ false → knows (of c.state w) x ≡ true
+      → Still w x c.state (after_in c ts).state
   unfolding after_in trace_in
   turns_stay [] c l stays known = record { known = known; birth = refl }
   turns_stay (t ∷ ts) c l stays known =
@@ -205,11 +230,13 @@ module _ (w x : ℕ) where
 
 -- ---- one turn in front
 
-pub one_first : (c : Configuration) (t : ℕ × Event) (ts : List (ℕ × Event)) → after_in c (t ∷ ts) ≡ after_in (next_in c t) ts
+pub one_first : (c : Configuration) (t : ℕ × Event) (ts : List (ℕ × Event))
+    → after_in c (t ∷ ts) ≡ after_in (next_in c t) ts
 unfolding after_in
 one_first c t ts = refl
 
-pub trace_first : (c : Configuration) (t : ℕ × Event) (ts : List (ℕ × Event)) → trace_in c (t ∷ ts) ≡ told_in c t ∷ trace_in (next_in c t) ts
+pub trace_first : (c : Configuration) (t : ℕ × Event) (ts : List (ℕ × Event))
+    → trace_in c (t ∷ ts) ≡ told_in c t ∷ trace_in (next_in c t) ts
 unfolding trace_in
 trace_first c t ts = refl
 

@@ -26,14 +26,17 @@ module _ (L : Layout) (fits : IsLayout L) (b : Bool) (ts : List (ℕ × Event)) 
   end = (after_in (opening_of L b) ts).state
 
   is_sound : IsSound end
-  is_sound = subst IsSound (sym ((ordered_runs (opening_of L b) ts).0 ∙ ap (λ (s : State). after s (map turn_of (accepted turns))) (opening_state L b))) (sound L (enough_of L fits) (map turn_of (accepted turns)))
+  is_sound = subst IsSound (sym ((ordered_runs (opening_of L b) ts).0
+      ∙ ap (λ (s : State). after s (map turn_of (accepted turns))) (opening_state L b)))
+      (sound L (enough_of L fits) (map turn_of (accepted turns)))
 
   same_words : words_after L turns ≡ end.memory
   same_words = run_words L fits b ts
 
   pub reached_are_younger : WhatIsReachedIsYounger L (trace_in (opening_of L b) ts)
   reached_are_younger w n there reached = elim (cases_lt w L.workers) [
-    | inr past ↦ absurd (none-some n (ap (λ (ns : List NodeId). slice_get ns there.0) (sym (past_none L fits b ts w past)) ∙ found))
+    | inr past ↦ absurd (none-some n (ap (λ (ns : List NodeId). slice_get ns there.0)
+        (sym (past_none L fits b ts w past)) ∙ found))
     | inl below ↦ by (holds L fits b ts w below)
   ]
     where
@@ -42,4 +45,6 @@ module _ (L : Layout) (fits : IsLayout L) (b : Bool) (ts : List (ℕ × Event)) 
 
       by : Holds L fits b ts w → n.birth < (node (words_after L turns) n.slot).birth
       by a = subst (λ (m : Memory). n.birth < (node m n.slot).birth) (sym same_words)
-          (sound_younger end is_sound a.holder w there.0 a.ledger n a.is_held (ap (λ (ns : List NodeId). slice_get ns there.0) (retired_is L fits b ts a.holder w a.ledger a.is_held) ∙ found) (subst (λ (m : Memory). Reached m n.slot) same_words reached))
+          (sound_younger end is_sound a.holder w there.0 a.ledger n a.is_held
+          (ap (λ (ns : List NodeId). slice_get ns there.0) (retired_is L fits b ts a.holder w a.ledger a.is_held)
+          ∙ found) (subst (λ (m : Memory). Reached m n.slot) same_words reached))

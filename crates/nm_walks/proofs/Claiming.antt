@@ -46,7 +46,8 @@ birth_adds_nothing s x b = of_call s.call
     later None t = t
     later (Some n) t = t
 
-    of_flag : (c : Call) (f : Option NodeId) → look_for (record s { flagged = f }) (Some c) x Birth (BirthIs b) ≡ record s { flagged = f }
+    of_flag : (c : Call) (f : Option NodeId) → look_for (record s { flagged = f }) (Some c) x Birth (BirthIs b)
+        ≡ record s { flagged = f }
     of_flag c None = refl
     of_flag c (Some n) = refl
 
@@ -80,29 +81,37 @@ module _ (L : Layout) (low : 5 ≤ L.nodes) (w : ℕ) where
     looked = (log ++ (Claim s, Claimed t) ∷ []) ++ (Look s Birth, BirthIs b) ∷ []
 
     slots_claimed : slots (log ++ (Claim s, Claimed t) ∷ []) ≡ put (slots log) s unfilled
-    slots_claimed = ap (λ (k : Knowledge). k.drafts) (known_more w _ log (Claim s, Claimed t) ∙ learn_claimed w (known_by L w log) s t)
+    slots_claimed = ap (λ (k : Knowledge). k.drafts)
+        (known_more w _ log (Claim s, Claimed t) ∙ learn_claimed w (known_by L w log) s t)
 
     own : is_private (known_by L w (log ++ (Claim s, Claimed t) ∷ [])) s ≡ true
     own = ap (λ m. is_some (get m s)) slots_claimed ∙ ap is_some (put_there (slots log) s unfilled)
 
-    slots_looked : slots ((log ++ (Claim s, Claimed t) ∷ []) ++ (Look s Birth, BirthIs b) ∷ []) ≡ put (slots (log ++ (Claim s, Claimed t) ∷ [])) s (record (draft_of (known_by L w (log ++ (Claim s, Claimed t) ∷ [])) s) { looked = Some b })
+    slots_looked : slots ((log ++ (Claim s, Claimed t) ∷ []) ++ (Look s Birth, BirthIs b) ∷ [])
+        ≡ put (slots (log ++ (Claim s, Claimed t) ∷ [])) s
+        (record (draft_of (known_by L w (log ++ (Claim s, Claimed t) ∷ [])) s) { looked = Some b })
     slots_looked = ap (λ (k : Knowledge). k.drafts)
         (known_more w _ claimed (Look s Birth, BirthIs b)
         ∙ (learn_look w (known_by L w claimed) s Birth (BirthIs b)
-        ∙ cond-true (is_private (known_by L w claimed) s) (look_private (known_by L w claimed) s Birth (BirthIs b)) (look_known (known_by L w claimed) s Birth (BirthIs b)) own))
+        ∙ cond-true (is_private (known_by L w claimed) s) (look_private (known_by L w claimed) s Birth (BirthIs b))
+        (look_known (known_by L w claimed) s Birth (BirthIs b)) own))
 
-    others_looked : (x : ℕ) → x ≢ s → get (slots ((log ++ (Claim s, Claimed t) ∷ []) ++ (Look s Birth, BirthIs b) ∷ [])) x ≡ get (slots log) x
+    others_looked : (x : ℕ) → x ≢ s → get (slots ((log ++ (Claim s, Claimed t) ∷ []) ++ (Look s Birth, BirthIs b)
+        ∷ [])) x ≡ get (slots log) x
     others_looked x ne =
         ap (λ m. get m x) slots_looked ∙ (put_another (slots claimed) s _ x ne
         ∙ (ap (λ m. get m x) slots_claimed ∙ put_another (slots log) s unfilled x ne))
 
-    search_looked : search_after idle ((log ++ (Claim s, Claimed t) ∷ []) ++ (Look s Birth, BirthIs b) ∷ []) ≡ search_after idle log
+    search_looked : search_after idle ((log ++ (Claim s, Claimed t) ∷ []) ++ (Look s Birth, BirthIs b) ∷ [])
+        ≡ search_after idle log
     unfolding searched
-    search_looked = search_more idle claimed (Look s Birth, BirthIs b) ∙ (birth_adds_nothing (search_after idle claimed) s b ∙ search_more idle log (Claim s, Claimed t))
+    search_looked = search_more idle claimed (Look s Birth, BirthIs b)
+        ∙ (birth_adds_nothing (search_after idle claimed) s b ∙ search_more idle log (Claim s, Claimed t))
 
   -- a slot that is claimed was not private
   was_none : (s t : ℕ) (log : List Entry) → IsLogOf L w (log ++ (Claim s, Claimed t) ∷ []) → get (slots log) s ≡ None
-  was_none s t log l = none_if (get (slots log) s) (claims_are_new L low w log (Claim s, Claimed t) l s t refl).3.not_held
+  was_none s t log l = none_if (get (slots log) s)
+      (claims_are_new L low w log (Claim s, Claimed t) l s t refl).3.not_held
     where
       none_if : (o : Option Draft) → is_some o ≡ false → o ≡ None
       none_if None h = refl
@@ -113,10 +122,13 @@ module _ (L : Layout) (low : 5 ≤ L.nodes) (w : ℕ) where
   after_taken s old new l is = record {
     part = log_before L w old (Claim s, Taken) (subst (IsLogOf L w) is l);
     search = ap (search_after idle) is ∙ search_more idle old (Claim s, Taken);
-    kept = λ x ne. ap (λ log. get (slots log) x) is ∙ ap (λ (k : Knowledge). get k.drafts x) (known_more w _ old (Claim s, Taken) ∙ learn_taken w (known_by L w old) s);
+    kept = λ x ne. ap (λ log. get (slots log) x) is
+        ∙ ap (λ (k : Knowledge). get k.drafts x) (known_more w _ old (Claim s, Taken)
+        ∙ learn_taken w (known_by L w old) s);
   }
 
-  after_exhausted : (s : ℕ) (old new : List Entry) → IsLogOf L w new → FoundExhausted s old new → Leaves (λ x. ⊥) old new
+  after_exhausted : (s : ℕ) (old new : List Entry) → IsLogOf L w new → FoundExhausted s old new
+      → Leaves (λ x. ⊥) old new
   unfolding searched
   after_exhausted s old new l is =
       let claim : Entry = (Claim s, Claimed s) in
@@ -128,27 +140,37 @@ module _ (L : Layout) (low : 5 ≤ L.nodes) (w : ℕ) where
       let part_two : IsLogOf L w two = log_before L w two give (subst (IsLogOf L w) at l) in
       let part_one : IsLogOf L w one = log_before L w one look part_two in
       let order : Ascends (slots two) = drafts_ascend L low w two part_two in
-      let slots_now : slots new ≡ without (slots two) s = ap slots at ∙ ap (λ (k : Knowledge). k.drafts) (known_more w _ two give ∙ learn_returned w (known_by L w two) s s) in
+      let slots_now : slots new ≡ without (slots two) s = ap slots at
+      ∙ ap (λ (k : Knowledge). k.drafts) (known_more w _ two give ∙ learn_returned w (known_by L w two) s s) in
       record {
         part = log_before L w old claim part_one;
         search = ap (search_after idle) at ∙ (search_more idle two give ∙ search_looked s s last_number old);
         kept = λ x ne. by x (eqb x s) refl slots_now order (was_none s s old part_one);
       }
     where
-      by : (x : ℕ) (b : Bool) → eqb x s ≡ b → slots new ≡ without (slots ((old ++ (Claim s, Claimed s) ∷ []) ++ (Look s Birth, BirthIs last_number) ∷ [])) s → Ascends (slots ((old ++ (Claim s, Claimed s) ∷ []) ++ (Look s Birth, BirthIs last_number) ∷ [])) → get (slots old) s ≡ None
+      by : (x : ℕ) (b : Bool) → eqb x s ≡ b → slots new
+          ≡ without (slots ((old ++ (Claim s, Claimed s) ∷ []) ++ (Look s Birth, BirthIs last_number) ∷ [])) s
+          → Ascends (slots ((old ++ (Claim s, Claimed s) ∷ []) ++ (Look s Birth, BirthIs last_number) ∷ []))
+          → get (slots old) s ≡ None
           → get (slots new) x ≡ get (slots old) x
       by x true same now order none =
           let here : x ≡ s = eqb-true x s same in
-          ap (λ m. get m x) now ∙ (ap (get (without (slots ((old ++ (Claim s, Claimed s) ∷ []) ++ (Look s Birth, BirthIs last_number) ∷ [])) s)) here ∙ (without_it (slots ((old ++ (Claim s, Claimed s) ∷ []) ++ (Look s Birth, BirthIs last_number) ∷ [])) s order ∙ (sym none ∙ ap (get (slots old)) (sym here))))
+          ap (λ m. get m x) now ∙ (ap (get (without (slots
+          ((old ++ (Claim s, Claimed s) ∷ []) ++ (Look s Birth, BirthIs last_number) ∷ [])) s)) here
+          ∙ (without_it (slots ((old ++ (Claim s, Claimed s) ∷ []) ++ (Look s Birth, BirthIs last_number) ∷ [])) s
+          order ∙ (sym none ∙ ap (get (slots old)) (sym here))))
       by x false other now order none =
           let ne : x ≢ s = eqb-false x s other in
-          ap (λ m. get m x) now ∙ (without_another (slots ((old ++ (Claim s, Claimed s) ∷ []) ++ (Look s Birth, BirthIs last_number) ∷ [])) s x order ne ∙ others_looked s s last_number old x ne)
+          ap (λ m. get m x) now ∙ (without_another (slots
+          ((old ++ (Claim s, Claimed s) ∷ []) ++ (Look s Birth, BirthIs last_number) ∷ [])) s x order ne
+          ∙ others_looked s s last_number old x ne)
 
   passed_over : (s : ℕ) (old new : List Entry) → IsLogOf L w new → PassedOver s old new → Leaves (λ x. ⊥) old new
   passed_over s old new l (inl taken) = after_taken s old new l taken
   passed_over s old new l (inr exhausted) = after_exhausted s old new l exhausted
 
-  all_passed : (from n : ℕ) (old new : List Entry) → IsLogOf L w new → DoneInTurn PassedOver from n old new → Leaves (λ x. ⊥) old new
+  all_passed : (from n : ℕ) (old new : List Entry) → IsLogOf L w new → DoneInTurn PassedOver from n old new
+      → Leaves (λ x. ⊥) old new
   all_passed from zero old new l done = record {
     part = subst (IsLogOf L w) done l;
     search = ap (search_after idle) done;
@@ -163,7 +185,8 @@ module _ (L : Layout) (low : 5 ≤ L.nodes) (w : ℕ) where
         kept = λ x ne. last.kept x ne ∙ first.kept x ne;
       }
 
-  all_passed_at : (nodes : ℕ) (them : List ℕ) (old new : List Entry) → IsLogOf L w new → DoneAt (PassedWithin nodes) them old new → Leaves (λ x. ⊥) old new
+  all_passed_at : (nodes : ℕ) (them : List ℕ) (old new : List Entry) → IsLogOf L w new
+      → DoneAt (PassedWithin nodes) them old new → Leaves (λ x. ⊥) old new
   all_passed_at nodes [] old new l done = record {
     part = subst (IsLogOf L w) done l;
     search = ap (search_after idle) done;
@@ -178,7 +201,8 @@ module _ (L : Layout) (low : 5 ≤ L.nodes) (w : ℕ) where
         kept = λ x ne. last.kept x ne ∙ first.kept x ne;
       }
 
-  after_made : (n : NodeId) (old new : List Entry) → IsLogOf L w new → MadeNew n old new → Leaves (λ x. x ≡ n.slot) old new
+  after_made : (n : NodeId) (old new : List Entry) → IsLogOf L w new → MadeNew n old new
+      → Leaves (λ x. x ≡ n.slot) old new
   unfolding searched
   after_made n old new l made =
       let s : ℕ = n.slot in
@@ -191,11 +215,14 @@ module _ (L : Layout) (low : 5 ≤ L.nodes) (w : ℕ) where
       let at : new ≡ two ++ fill ∷ [] = made.entries ∙ three claim look fill old in
       let part_two : IsLogOf L w two = log_before L w two fill (subst (IsLogOf L w) at l) in
       let part_one : IsLogOf L w one = log_before L w one look part_two in
-      let slots_now : slots new ≡ put (slots two) s (filled_in (draft_of (known_by L w two) s) Birth (b + 1)) = ap slots at ∙ ap (λ (k : Knowledge). k.drafts) (known_more w _ two fill ∙ learn_filled w (known_by L w two) s Birth (b + 1)) in
+      let slots_now : slots new ≡ put (slots two) s (filled_in (draft_of (known_by L w two) s) Birth (b + 1)) = ap
+      slots at ∙ ap (λ (k : Knowledge). k.drafts) (known_more w _ two fill
+      ∙ learn_filled w (known_by L w two) s Birth (b + 1)) in
       record {
         part = log_before L w old claim part_one;
         search = ap (search_after idle) at ∙ (search_more idle two fill ∙ search_looked s s b old);
-        kept = λ x ne. ap (λ m. get m x) slots_now ∙ (put_another (slots two) s (filled_in (draft_of (known_by L w two) s) Birth (b + 1)) x ne ∙ others_looked s s b old x ne);
+        kept = λ x ne. ap (λ m. get m x) slots_now ∙ (put_another (slots two) s
+            (filled_in (draft_of (known_by L w two) s) Birth (b + 1)) x ne ∙ others_looked s s b old x ne);
       }
 
 -- ---- the log is of a run
@@ -218,7 +245,8 @@ ends_over s old new (inr exhausted) = record {
   other = refl;
 }
 
-ends_at : (nodes : ℕ) (slots : List ℕ) (old new : List Entry) → DoneAt (PassedWithin nodes) slots old new → (new ≡ old) ⊎ EndsWith new
+ends_at : (nodes : ℕ) (slots : List ℕ) (old new : List Entry) → DoneAt (PassedWithin nodes) slots old new
+    → (new ≡ old) ⊎ EndsWith new
 ends_at nodes [] old new done = inl done
 ends_at nodes (s ∷ slots) old new done = inr (ends_over s done.0 new done.2.2)
 
@@ -226,7 +254,8 @@ ends_at nodes (s ∷ slots) old new done = inr (ends_over s done.0 new done.2.2)
 pub part_after : (p q : PassView) → IsSamePass p q → IsInRun q → IsLogOf p.view.layout p.view.number q.view.log
 part_after p q same run = subst (λ (s : PassView). IsLogOf s.view.layout s.view.number q.view.log) same run.run.is_part
 
-module _ (p q : PassView) (f : Fit) (nodes : ℕ) (o : Option NodeId) (same : IsSamePass p q) (is : IsClaimBy f nodes p.view.log q.view.log o) (run : IsInRun p) where
+module _ (p q : PassView) (f : Fit) (nodes : ℕ) (o : Option NodeId) (same : IsSamePass p q)
+    (is : IsClaimBy f nodes p.view.log q.view.log o) (run : IsInRun p) where
   module _ (part : IsLogOf p.view.layout p.view.number q.view.log) where
     abbrev low : 5 ≤ p.view.layout.nodes
     low = enough p.view.layout run.fits
@@ -238,7 +267,9 @@ module _ (p q : PassView) (f : Fit) (nodes : ℕ) (o : Option NodeId) (same : Is
     but None x = ⊥
     but (Some n) x = x ≡ n.slot
 
-    made_after : (n : NodeId) (before : List Entry) → (IsLogOf p.view.layout p.view.number before → Leaves p.view.layout low p.view.number (λ x. ⊥) p.view.log before) → MadeNew n before q.view.log
+    made_after : (n : NodeId) (before : List Entry)
+        → (IsLogOf p.view.layout p.view.number before → Leaves p.view.layout low p.view.number (λ x. ⊥) p.view.log
+        before) → MadeNew n before q.view.log
         → Leaves p.view.layout low p.view.number (but (Some n)) p.view.log q.view.log
     unfolding but
     made_after n before passed made =
@@ -250,12 +281,17 @@ module _ (p q : PassView) (f : Fit) (nodes : ℕ) (o : Option NodeId) (same : Is
           kept = λ x ne. last.kept x ne ∙ first.kept x (λ none. none);
         }
 
-    leaves : (f : Fit) (o : Option NodeId) → IsClaimBy f nodes p.view.log q.view.log o → Leaves p.view.layout low p.view.number (but o) p.view.log q.view.log
+    leaves : (f : Fit) (o : Option NodeId) → IsClaimBy f nodes p.view.log q.view.log o
+        → Leaves p.view.layout low p.view.number (but o) p.view.log q.view.log
     unfolding but
-    leaves fit.FirstFit None is = all_passed p.view.layout low p.view.number 6 (nodes + 1 - 6) p.view.log q.view.log part is
-    leaves fit.FirstFit (Some n) is = made_after n is.before (λ l. all_passed p.view.layout low p.view.number 6 (n.slot - 6) p.view.log is.before l is.passed) is.made
-    leaves fit.NextFit None is = all_passed_at p.view.layout low p.view.number nodes is.slots p.view.log q.view.log part is.passed
-    leaves fit.NextFit (Some n) is = made_after n is.before (λ l. all_passed_at p.view.layout low p.view.number nodes is.slots p.view.log is.before l is.passed) is.made
+    leaves fit.FirstFit None is = all_passed p.view.layout low p.view.number 6 (nodes + 1 - 6) p.view.log q.view.log
+        part is
+    leaves fit.FirstFit (Some n) is = made_after n is.before
+        (λ l. all_passed p.view.layout low p.view.number 6 (n.slot - 6) p.view.log is.before l is.passed) is.made
+    leaves fit.NextFit None is = all_passed_at p.view.layout low p.view.number nodes is.slots p.view.log q.view.log
+        part is.passed
+    leaves fit.NextFit (Some n) is = made_after n is.before
+        (λ l. all_passed_at p.view.layout low p.view.number nodes is.slots p.view.log is.before l is.passed) is.made
 
     then_leaves : Leaves p.view.layout low p.view.number (but o) p.view.log q.view.log
     then_leaves = leaves f o is
@@ -269,7 +305,13 @@ module _ (p q : PassView) (f : Fit) (nodes : ℕ) (o : Option NodeId) (same : Is
         not_it (Some n) h at = h at
 
     pub only_claims : LearnsSlots (knowledge p.view) (knowledge q.view) → OnlyMakes p q
-    only_claims learned = record { epochs = learned.brief; known = learned.known; ledgers = learned.ledgers; search = then_leaves.search }
+    only_claims learned = record {
+      epochs = learned.brief;
+      known = learned.known;
+      ledgers = learned.ledgers;
+      search =
+          then_leaves.search;
+    }
 
 -- ---- giving a slot back
 
@@ -286,7 +328,9 @@ module _ (p q : PassView) (s : ℕ) (step : Stepped p q (Give s) (Returned s)) w
     order = drafts_ascend p.view.layout (enough p.view.layout run.fits) p.view.number p.view.log run.run.is_part
 
     pub is_given : is_private (knowledge q.view) s ≡ false
-    is_given = ap (λ (k : Knowledge). is_private k s) returned ∙ ap is_some (without_it (knowledge p.view).drafts s order)
+    is_given = ap (λ (k : Knowledge). is_private k s) returned
+        ∙ ap is_some (without_it (knowledge p.view).drafts s order)
 
     pub given_others : KeepsOtherSlots s p q
-    given_others x ne = ap (λ (k : Knowledge). get k.drafts x) returned ∙ without_another (knowledge p.view).drafts s x order ne
+    given_others x ne = ap (λ (k : Knowledge). get k.drafts x) returned
+        ∙ without_another (knowledge p.view).drafts s x order ne

@@ -44,7 +44,8 @@ use Rattle.nm_pool.proofs.PrivateSlots.{put_another, put_there}
 pub get_draft : (p : PassView) (s : ℕ) (d : Draft) → get (knowledge p.view).drafts s ≡ Some d → draft p s ≡ d
 get_draft p s d is = ap (λ o. unwrap_or o unfilled) is
 
-pub same_draft : (p q : PassView) (s : ℕ) → get (knowledge q.view).drafts s ≡ get (knowledge p.view).drafts s → draft q s ≡ draft p s
+pub same_draft : (p q : PassView) (s : ℕ) → get (knowledge q.view).drafts s ≡ get (knowledge p.view).drafts s
+    → draft q s ≡ draft p s
 same_draft p q s is = ap (λ o. unwrap_or o unfilled) is
 
 pub private_from_birth : (p : PassView) (s : ℕ) → IsSome (draft p s).birth → is_private (knowledge p.view) s ≡ true
@@ -55,10 +56,12 @@ private_from_birth p s born = go (get (knowledge p.view).drafts s) born
     go (Some d) h = refl
 
 -- private slots stand in order
-pub drafts_ascend : (L : Layout) → 5 ≤ L.nodes → (w : ℕ) (log : List Entry) → IsLogOf L w log → Ascends (known_by L w log).drafts
+pub drafts_ascend : (L : Layout) → 5 ≤ L.nodes → (w : ℕ) (log : List Entry) → IsLogOf L w log
+    → Ascends (known_by L w log).drafts
 drafts_ascend L low w log l = go (told_by_part L low w l.worker l.turns l.keys)
   where
-    go : ToldBy L w (part_of w (trace_in (ordered L) l.turns)) (after_in (ordered L) l.turns) → Ascends (known_by L w log).drafts
+    go : ToldBy L w (part_of w (trace_in (ordered L) l.turns)) (after_in (ordered L) l.turns)
+        → Ascends (known_by L w log).drafts
     go told =
         let law = law_of_state L low (after_in (ordered L) l.turns) told.is_ordered in
         subst (λ (x : Knowledge). Ascends x.drafts) (told.knows ∙ ap (known_by L w) l.is_part) (law.1.drafts w)
@@ -72,40 +75,64 @@ without_another m s x order ne = get-without m s x order ∙ cond-false (eqb x s
 
 -- ---- steps on private slots leave every fact
 
-held_still : (k l : Knowledge) (s t : Search) → l.brief ≡ k.brief → l.known ≡ k.known → t ≡ s → (fact : Fact) → HoldsIn k s fact → HoldsIn l t fact
+held_still : (k l : Knowledge) (s t : Search) → l.brief ≡ k.brief → l.known ≡ k.known → t ≡ s → (fact : Fact)
+    → HoldsIn k s fact → HoldsIn l t fact
 held_still k l s t brief known search (IsPinned epoch) h = ap (λ b. b.pin) brief ∙ h
 held_still k l s t brief known search (KnowsSlot x) h = ap (λ (m : List (ℕ × Seen)). has m x) known ∙ h
-held_still k l s t brief known search (KnowsLeaf x) h = ap (λ (m : List (ℕ × Seen)). knows_leaf (record k { known = m }) x) known ∙ h
-held_still k l s t brief known search (IsTagged x d to) h = (h.0, ap (λ (m : List (ℕ × Seen)). read (record k { known = m }) x d) known ∙ h.1, h.2, h.3)
-held_still k l s t brief known search (IsFlagged x d to) h = (h.0, ap (λ (m : List (ℕ × Seen)). read (record k { known = m }) x d) known ∙ h.1, h.2, h.3)
-held_still k l s t brief known search (IsFrozen x d e) h = (ap (λ (m : List (ℕ × Seen)). read (record k { known = m }) x d) known ∙ h.0, h.1)
-held_still k l s t brief known search (IsBorn x b) h = ap (λ (m : List (ℕ × Seen)). (seen_of (record k { known = m }) x).birth) known ∙ h
+held_still k l s t brief known search (KnowsLeaf x) h = ap
+    (λ (m : List (ℕ × Seen)). knows_leaf (record k { known = m }) x) known ∙ h
+held_still k l s t brief known search (IsTagged x d to) h =
+    (h.0, ap (λ (m : List (ℕ × Seen)). read (record k { known = m }) x d) known ∙ h.1, h.2, h.3)
+held_still k l s t brief known search (IsFlagged x d to) h =
+    (h.0, ap (λ (m : List (ℕ × Seen)). read (record k { known = m }) x d) known ∙ h.1, h.2, h.3)
+held_still k l s t brief known search (IsFrozen x d e) h =
+    (ap (λ (m : List (ℕ × Seen)). read (record k { known = m }) x d) known ∙ h.0, h.1)
+held_still k l s t brief known search (IsBorn x b) h = ap
+    (λ (m : List (ℕ × Seen)). (seen_of (record k { known = m }) x).birth) known ∙ h
 held_still k l s t brief known search (CallIs op key) h = ap (λ (x : Search). x.call) search ∙ h
-held_still k l s t brief known search (Came since key x p d) h = subst (λ (y : Search). HoldsIn k y (Came since key x p d)) (sym search) h
-held_still k l s t brief known search (ReadKey since key x p d v) h = subst (λ (y : Search). HoldsIn k y (ReadKey since key x p d v)) (sym search) h
-held_still k l s t brief known search (EndedAt since key x p d v) h = subst (λ (y : Search). HoldsIn k y (EndedAt since key x p d v)) (sym search) h
+held_still k l s t brief known search (Came since key x p d) h = subst
+    (λ (y : Search). HoldsIn k y (Came since key x p d)) (sym search) h
+held_still k l s t brief known search (ReadKey since key x p d v) h = subst
+    (λ (y : Search). HoldsIn k y (ReadKey since key x p d v)) (sym search) h
+held_still k l s t brief known search (EndedAt since key x p d v) h = subst
+    (λ (y : Search). HoldsIn k y (EndedAt since key x p d v)) (sym search) h
 
-pub makes_go_on : (p q : PassView) → OnlyMakes p q → IsSamePass p q → HasSeenAllOf q p → ExtendsStores q.view.stores p.view.stores → IsInRun q → GoesOn p q
+pub makes_go_on : (p q : PassView) → OnlyMakes p q → IsSamePass p q → HasSeenAllOf q p
+    → ExtendsStores q.view.stores p.view.stores → IsInRun q → GoesOn p q
 makes_go_on p q only same past stored run = record {
   same = same;
   past = past;
   run = run;
   stores = stored;
-  keeps = held_still (knowledge p.view) (knowledge q.view) (search_after idle p.view.log) (search_after idle q.view.log) only.epochs only.known only.search;
+  keeps = held_still (knowledge p.view) (knowledge q.view) (search_after idle p.view.log)
+      (search_after idle q.view.log) only.epochs only.known only.search;
 }
 
 -- the pass is in a run after a step, since its log does not end with a join
-pub in_run_after : (p q : PassView) (e : Event) (r : Reply) → Stepped p q e r → is_join e ≡ false → IsLayout q.view.layout → TellsRun q → IsInRun q
-in_run_after p q e r step other fits tells = record { fits = fits; run = run_after p q e r (ap (λ (s : PassView). s.view.log) step) other tells }
+pub in_run_after : (p q : PassView) (e : Event) (r : Reply) → Stepped p q e r → is_join e ≡ false
+    → IsLayout q.view.layout → TellsRun q → IsInRun q
+in_run_after p q e r step other fits tells = record {
+  fits = fits;
+  run = run_after p q e r
+      (ap (λ (s : PassView). s.view.log) step) other tells;
+}
 
 pub both_make : (p q r : PassView) → OnlyMakes p q → OnlyMakes q r → OnlyMakes p r
-both_make p q r a b = record { epochs = b.epochs ∙ a.epochs; known = b.known ∙ a.known; ledgers = b.ledgers ∙ a.ledgers; search = b.search ∙ a.search }
+both_make p q r a b = record {
+  epochs = b.epochs ∙ a.epochs;
+  known = b.known ∙ a.known;
+  ledgers = b.ledgers
+      ∙ a.ledgers;
+  search = b.search ∙ a.search;
+}
 
-pub search_then : (p q : PassView) (e : Event) (r : Reply) → Stepped p q e r → search_after idle q.view.log ≡ searched (search_after idle p.view.log) e r
+pub search_then : (p q : PassView) (e : Event) (r : Reply) → Stepped p q e r
+    → search_after idle q.view.log ≡ searched (search_after idle p.view.log) e r
 search_then p q e r step = ap (λ (s : PassView). search_after idle s.view.log) step ∙ search_more idle p.view.log (e, r)
 
 -- a step that changes drafts alone
-pub makes : (p q : PassView) (m : List (ℕ × Draft)) → knowledge q.view ≡ record (knowledge p.view) { drafts = m } → search_after idle q.view.log ≡ search_after idle p.view.log → OnlyMakes p q
+pub makes : (p q : PassView) (m : List (ℕ × Draft)) → knowledge q.view ≡ record (knowledge p.view) { drafts = m }
+    → search_after idle q.view.log ≡ search_after idle p.view.log → OnlyMakes p q
 makes p q m is search = record {
   epochs = ap (λ (x : Knowledge). x.brief) is;
   known = ap (λ (x : Knowledge). x.known) is;
@@ -120,7 +147,9 @@ pub log_longer : (p q : PassView) (e : Event) (r : Reply) → Stepped p q e r �
 log_longer p q e r step = ap (λ (z : PassView). length z.view.log) step ∙ length-append p.view.log ((e, r) ∷ [])
 
 -- after a step the worker has stored no value, if it stores none on the way
-pub not_stored_after : (p q : PassView) → IsSamePass p q → length p.view.log + 1 ≤ length q.view.log → q.view.stores ≡ p.view.stores → StoredBefore p.view.number (length p.view.log + 1) p.view.stores → HasNotStored q.view
+pub not_stored_after : (p q : PassView) → IsSamePass p q → length p.view.log + 1 ≤ length q.view.log
+    → q.view.stores ≡ p.view.stores → StoredBefore p.view.number (length p.view.log + 1) p.view.stores
+    → HasNotStored q.view
 not_stored_after p q is longer same h =
     subst (StoredBefore q.view.number (length q.view.log)) (sym same)
     (subst (λ (z : PassView). StoredBefore z.view.number (length q.view.log) p.view.stores) (sym is)
@@ -132,8 +161,10 @@ pub record Fillable (p : PassView) (s : ℕ) : Type 0 where
   pub most : s ≤ p.view.layout.nodes
   pub born : IsSome (draft p s).birth
 
-pub fillable : (p : PassView) (s : ℕ) → IsSome (draft p s).birth → ((x : ℕ) → is_private (knowledge p.view) x ≡ true → IsPooled p.view.layout x) → Fillable p s
-fillable p s born pooled = let range = pooled s (private_from_birth p s born) in record { least = range.0; most = range.1; born = born }
+pub fillable : (p : PassView) (s : ℕ) → IsSome (draft p s).birth
+    → ((x : ℕ) → is_private (knowledge p.view) x ≡ true → IsPooled p.view.layout x) → Fillable p s
+fillable p s born pooled = let range = pooled s (private_from_birth p s born) in
+    record { least = range.0; most = range.1; born = born }
 
 not_none : {X : Type 0} (o : Option X) → is_some o ≡ true → is_none o ≡ false
 not_none None h = sym h
@@ -147,7 +178,8 @@ module _ (p : PassView) (s : ℕ) (f : Fillable p s) where
   unfolding refusal
   may_fill_key key = record {
     looked = tt;
-    allowed = λ m h. passes_then (outside 6 p.view.layout.nodes s || false) NoSlot _ (ap (λ (x : Bool). x || false) (not_outside 6 p.view.layout.nodes s f.least f.most))
+    allowed = λ m h. passes_then (outside 6 p.view.layout.nodes s || false) NoSlot _
+        (ap (λ (x : Bool). x || false) (not_outside 6 p.view.layout.nodes s f.least f.most))
         (passes_then (not (is_private (knowledge p.view) s)) NotPrivate _ (ap not own)
         (passes_then (is_none (draft p s).birth) NotReady _ (not_none (draft p s).birth f.born) refl));
     ordered = refl;
@@ -159,8 +191,10 @@ module _ (p : PassView) (s : ℕ) (f : Fillable p s) where
   unfolding refusal
   may_fill_edge side child within = record {
     looked = tt;
-    allowed = λ m h. passes_then (outside 6 p.view.layout.nodes s || (true && nat_lt p.view.layout.nodes child)) NoSlot _
-        (ap (λ (x : Bool). x || nat_lt p.view.layout.nodes child) (not_outside 6 p.view.layout.nodes s f.least f.most) ∙ le-ltb p.view.layout.nodes child within)
+    allowed = λ m h. passes_then (outside 6 p.view.layout.nodes s || (true && nat_lt p.view.layout.nodes child))
+        NoSlot _
+        (ap (λ (x : Bool). x || nat_lt p.view.layout.nodes child)
+        (not_outside 6 p.view.layout.nodes s f.least f.most) ∙ le-ltb p.view.layout.nodes child within)
         (passes_then (not (is_private (knowledge p.view) s)) NotPrivate _ (ap not own)
         (passes_then (is_none (draft p s).birth) NotReady _ (not_none (draft p s).birth f.born) refl));
     ordered = refl;
@@ -169,7 +203,8 @@ module _ (p : PassView) (s : ℕ) (f : Fillable p s) where
   }
 
 module _ (p q : PassView) (s : ℕ) (f : Field) (v : ℕ) (step : Stepped p q (Fill s f v) Filled) where
-  filled_known : knowledge q.view ≡ record (knowledge p.view) { drafts = put (knowledge p.view).drafts s (filled_in (draft p s) f v) }
+  filled_known : knowledge q.view ≡ record (knowledge p.view)
+      { drafts = put (knowledge p.view).drafts s (filled_in (draft p s) f v) }
   filled_known = known_after_step p q (Fill s f v) Filled step ∙ learn_filled p.view.number (knowledge p.view) s f v
 
   pub filled_there : get (knowledge q.view).drafts s ≡ Some (filled_in (draft p s) f v)
@@ -198,9 +233,11 @@ module _ (p q : PassView) (s : ℕ) (f : Field) (v : ℕ) (step : Stepped p q (F
   }
 
 -- the slot is filled, with the birth that it has
-pub is_filled : (p q : PassView) (s birth key left right : ℕ) → (draft p s).birth ≡ Some birth → get (knowledge q.view).drafts s ≡ Some (with_node (draft p s) key left right) → IsFilled q s birth key left right
+pub is_filled : (p q : PassView) (s birth key left right : ℕ) → (draft p s).birth ≡ Some birth
+    → get (knowledge q.view).drafts s ≡ Some (with_node (draft p s) key left right) → IsFilled q s birth key left right
 is_filled p q s birth key left right born is =
-    let d : draft q s ≡ with_node (draft p s) key left right = get_draft q s (with_node (draft p s) key left right) is in
+    let d : draft q s ≡ with_node (draft p s) key left right = get_draft q s (with_node (draft p s) key left right)
+    is in
     record {
       has_birth = ap (λ (x : Draft). x.birth) d ∙ born;
       has_key = ap (λ (x : Draft). x.key) d;
@@ -209,7 +246,9 @@ is_filled p q s birth key left right born is =
     }
 
 -- and is so after a step that leaves it
-pub is_filled_still : (p q : PassView) (s birth key left right : ℕ) → get (knowledge q.view).drafts s ≡ get (knowledge p.view).drafts s → IsFilled p s birth key left right → IsFilled q s birth key left right
+pub is_filled_still : (p q : PassView) (s birth key left right : ℕ)
+    → get (knowledge q.view).drafts s ≡ get (knowledge p.view).drafts s → IsFilled p s birth key left right
+    → IsFilled q s birth key left right
 is_filled_still p q s birth key left right same f =
     let d : draft q s ≡ draft p s = same_draft p q s same in
     record {

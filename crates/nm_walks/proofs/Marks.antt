@@ -44,12 +44,16 @@ use Rattle.nm_steps.proofs.Presence.{known_after_step}
 
 -- a known slot is in the layout
 pub slot_inside : (p : PassView) (x : ℕ) → IsInRun p → Tells p (KnowsSlot x) → outside 1 p.view.layout.nodes x ≡ false
-slot_inside p x run known = let range = known_inside p.view.layout p.view.number p.view.log run.fits run.run.is_part x known in not_outside 1 p.view.layout.nodes x range.0 range.1
+slot_inside p x run known =
+    let range = known_inside p.view.layout p.view.number p.view.log run.fits run.run.is_part x known in
+    not_outside 1 p.view.layout.nodes x range.0 range.1
 
 -- ---- what a step leaves
 
 -- an edge was read, and nothing else
-pub only_reads : (p q : PassView) (x : ℕ) (side : Side) (e : Edge) → knowledge q.view ≡ read_edge (knowledge p.view) x side e → search_after idle q.view.log ≡ search_after idle p.view.log → OnlyLooks p q
+pub only_reads : (p q : PassView) (x : ℕ) (side : Side) (e : Edge)
+    → knowledge q.view ≡ read_edge (knowledge p.view) x side e
+    → search_after idle q.view.log ≡ search_after idle p.view.log → OnlyLooks p q
 only_reads p q x side e k s = record {
   epochs = ap (λ (y : Knowledge). y.brief) k;
   private = ap (λ (y : Knowledge). y.drafts) k;
@@ -62,7 +66,9 @@ only_reads p q x side e k s = record {
 }
 
 -- an edge was found by an exchange that was lost
-pub edge_found : (p q : PassView) (event : Event) (r : Reply) (x : ℕ) (side : Side) (e : Edge) → TellsEdge (event, r) x side e → Stepped p q event r → is_join event ≡ false → IsLayout q.view.layout → TellsRun q → Tells p (KnowsSlot x) → EdgeFound p q x side e
+pub edge_found : (p q : PassView) (event : Event) (r : Reply) (x : ℕ) (side : Side) (e : Edge)
+    → TellsEdge (event, r) x side e → Stepped p q event r → is_join event ≡ false → IsLayout q.view.layout
+    → TellsRun q → Tells p (KnowsSlot x) → EdgeFound p q x side e
 edge_found p q event r x side e told step other fits tells known =
     let L : Layout = p.view.layout in
     let w : ℕ = p.view.number in
@@ -86,7 +92,8 @@ edge_found p q event r x side e told step other fits tells known =
 
 -- ---- a tag
 
-pub may_tag : (p : PassView) (x : ℕ) (side : Side) → IsInRun p → IsPinnedSomewhere p → Tells p (KnowsSlot x) → ((to : ℕ) × Tells p (IsFlagged x (other side) to)) → MayStep p (Tag x side)
+pub may_tag : (p : PassView) (x : ℕ) (side : Side) → IsInRun p → IsPinnedSomewhere p → Tells p (KnowsSlot x)
+    → ((to : ℕ) × Tells p (IsFlagged x (other side) to)) → MayStep p (Tag x side)
 unfolding refusal
 may_tag p x side run pin known flag =
     let k : Knowledge = knowledge p.view in
@@ -95,7 +102,8 @@ may_tag p x side run pin known flag =
       allowed = λ m h. passes_then (outside 1 p.view.layout.nodes x) NoSlot _ (slot_inside p x run known)
           (passes_then (is_none k.brief.pin) NotPinned _ (ap is_none pin.1)
           (passes_then (not (knows k x)) NotHeld _ (ap not known)
-          (passes_then (not (is_flagged (read k x (other side)))) NotFrozen None (ap not (ap is_flagged flag.1.1 ∙ flag.1.2)) refl)));
+          (passes_then (not (is_flagged (read k x (other side)))) NotFrozen None
+          (ap not (ap is_flagged flag.1.1 ∙ flag.1.2)) refl)));
       ordered = refl;
       births = tt;
       key = tt;
@@ -124,28 +132,34 @@ module _ (p q : PassView) (x : ℕ) (side : Side) (e : Edge) (step : Stepped p q
 
   pub only_tags : OnlyLooks p q
   unfolding searched
-  only_tags = only_reads p q x side (tagged e) (known_after_step p q (Tag x side) (Was e) step ∙ learn_was p.view.number (knowledge p.view) x side e) (search_is p q (Tag x side) (Was e) step)
+  only_tags = only_reads p q x side (tagged e) (known_after_step p q (Tag x side) (Was e) step
+      ∙ learn_was p.view.number (knowledge p.view) x side e) (search_is p q (Tag x side) (Was e) step)
 
 -- ---- a flag
 
 -- a walk has ended at the leaf, and that had its key
-ends_there : (key p leaf : ℕ) (side : Side) (a : Arrival) → a.slot ≡ leaf → a.parent ≡ p → a.side ≡ side → a.ended ≡ true → a.key ≡ Some key → may_flag_at key p side leaf a ≡ true
+ends_there : (key p leaf : ℕ) (side : Side) (a : Arrival) → a.slot ≡ leaf → a.parent ≡ p → a.side ≡ side
+    → a.ended ≡ true → a.key ≡ Some key → may_flag_at key p side leaf a ≡ true
 ends_there key p leaf side a slot parent by ended is =
     and_from (is_by leaf p side a) (ended_at key a)
     (and_from (a.slot == leaf) ((a.parent == p) && is_side a.side side) (eq-eqb a.slot leaf slot)
-    (and_from (a.parent == p) (is_side a.side side) (eq-eqb a.parent p parent) (ap (λ (d : Side). is_side d side) by ∙ same_side side)))
+    (and_from (a.parent == p) (is_side a.side side) (eq-eqb a.parent p parent)
+    (ap (λ (d : Side). is_side d side) by ∙ same_side side)))
     (and_from a.ended (is_number a.key key) ended (ap (λ o. is_number o key) is ∙ eq-eqb key key refl))
 
 -- so the flag is in order
-in_order : (p : PassView) (x : ℕ) (side : Side) (leaf : ℕ) → IsToBeFlagged p x side leaf → flags_in_order (search_after idle p.view.log) (search_after idle p.view.log).call x side leaf ≡ true
+in_order : (p : PassView) (x : ℕ) (side : Side) (leaf : ℕ) → IsToBeFlagged p x side leaf
+    → flags_in_order (search_after idle p.view.log) (search_after idle p.view.log).call x side leaf ≡ true
 in_order p x side leaf f =
     let s : Search = search_after idle p.view.log in
     let a = f.ended.0 in
     ap (λ o. flags_in_order s o x side leaf) f.call
     ∙ and_from (is_none s.flagged) (list_any (may_flag_at f.key x side leaf) s.walks) (ap is_none f.unflagged)
-    (any_there (may_flag_at f.key x side leaf) s.walks a.arrival a.among (ends_there f.key x leaf side a.arrival a.is_slot a.is_parent a.is_side f.ended.2 f.ended.1))
+    (any_there (may_flag_at f.key x side leaf) s.walks a.arrival a.among
+    (ends_there f.key x leaf side a.arrival a.is_slot a.is_parent a.is_side f.ended.2 f.ended.1))
 
-pub may_flag : (p : PassView) (x : ℕ) (side : Side) (leaf : ℕ) → IsInRun p → IsPinnedSomewhere p → IsToBeFlagged p x side leaf → MayStep p (Flag x side leaf)
+pub may_flag : (p : PassView) (x : ℕ) (side : Side) (leaf : ℕ) → IsInRun p → IsPinnedSomewhere p
+    → IsToBeFlagged p x side leaf → MayStep p (Flag x side leaf)
 unfolding refusal
 may_flag p x side leaf run pin f =
     let k : Knowledge = knowledge p.view in
@@ -154,11 +168,15 @@ may_flag p x side leaf run pin f =
     let s : Search = search_after idle p.view.log in
     record {
       looked = tt;
-      allowed = λ m h. passes_then (outside 1 n x || outside 6 n leaf) NoSlot _ (neither (outside 1 n x) (outside 6 n leaf) (slot_inside p x run f.knows_parent) (not_outside 6 n leaf f.high range.1))
+      allowed = λ m h. passes_then (outside 1 n x || outside 6 n leaf) NoSlot _
+          (neither (outside 1 n x) (outside 6 n leaf) (slot_inside p x run f.knows_parent)
+          (not_outside 6 n leaf f.high range.1))
           (passes_then (is_none k.brief.pin) NotPinned _ (ap is_none pin.1)
           (passes_then (not (knows k x && (knows k leaf && knows_leaf k leaf))) NotHeld None
-          (ap not (and_from (knows k x) (knows k leaf && knows_leaf k leaf) f.knows_parent (and_from (knows k leaf) (knows_leaf k leaf) f.knows_leaf f.is_leaf))) refl));
-      ordered = passes_then (not (flags_in_order s s.call x side leaf)) NotOrdered None (ap not (in_order p x side leaf f)) refl;
+          (ap not (and_from (knows k x) (knows k leaf && knows_leaf k leaf) f.knows_parent
+          (and_from (knows k leaf) (knows_leaf k leaf) f.knows_leaf f.is_leaf))) refl));
+      ordered = passes_then (not (flags_in_order s s.call x side leaf)) NotOrdered None
+          (ap not (in_order p x side leaf f)) refl;
       births = ap is_some (looked_birth p.view.layout p.view.number p.view.log leaf f.born.0 f.born.1);
       key = tt;
     }
@@ -173,16 +191,22 @@ module _ (p q : PassView) (x : ℕ) (side : Side) (leaf : ℕ) (fits : IsLayout 
       record {
         step = subst (λ (l : ℕ). Stepped p q (Flag x side l) (Flagged n)) (sym is) step;
         known = subst (λ (l : ℕ). Tells q (IsFlagged x side l)) (sym is)
-            (told_after p q (Flag x side leaf) (Flagged n) step (IsFlagged x side leaf) (flags_are_learned L low p.view.number p.view.log (Flag x side leaf, Flagged n) grows x leaf side n refl));
+            (told_after p q (Flag x side leaf) (Flagged n) step (IsFlagged x side leaf)
+            (flags_are_learned L low p.view.number p.view.log (Flag x side leaf, Flagged n) grows x leaf side n
+            refl));
         flagged = ap (λ (s : Search). s.flagged) (search_is p q (Flag x side leaf) (Flagged n) step);
       }
 
-  pub flags_won : (r : Result Unit Edge) → Stepped p q (Flag x side leaf) (flag_reply p.view leaf r) → IfOk r (λ u. (b : ℕ) → Tells p (IsBorn leaf b) → FlagWon p q x side (record { slot = leaf; birth = b }))
+  pub flags_won : (r : Result Unit Edge) → Stepped p q (Flag x side leaf) (flag_reply p.view leaf r)
+      → IfOk r (λ u. (b : ℕ) → Tells p (IsBorn leaf b) → FlagWon p q x side (record { slot = leaf; birth = b }))
   flags_won (Ok u) step = λ b born. flag_won (record { slot = leaf; birth = b }) refl
-      (subst (λ (o : Option ℕ). Stepped p q (Flag x side leaf) (Flagged (record { slot = leaf; birth = unwrap_or o 0 }))) (looked_birth p.view.layout p.view.number p.view.log leaf b born) step)
+      (subst (λ (o : Option ℕ). Stepped p q (Flag x side leaf)
+      (Flagged (record { slot = leaf; birth = unwrap_or o 0 })))
+      (looked_birth p.view.layout p.view.number p.view.log leaf b born) step)
   flags_won (Err e) step = tt
 
-  pub flags_lost : (r : Result Unit Edge) → Stepped p q (Flag x side leaf) (flag_reply p.view leaf r) → Tells p (KnowsSlot x) → IfErr r (λ e. FlagLost p q x side leaf e)
+  pub flags_lost : (r : Result Unit Edge) → Stepped p q (Flag x side leaf) (flag_reply p.view leaf r)
+      → Tells p (KnowsSlot x) → IfErr r (λ e. FlagLost p q x side leaf e)
   unfolding searched
   flags_lost (Ok u) step known = tt
   flags_lost (Err e) step known = record {
@@ -191,11 +215,13 @@ module _ (p q : PassView) (x : ℕ) (side : Side) (leaf : ℕ) (fits : IsLayout 
     flagged = ap (λ (s : Search). s.flagged) (search_is p q (Flag x side leaf) (Lost e) step);
   }
 
-pub only_flags : (p q : PassView) (x : ℕ) (side : Side) (leaf : ℕ) (r : Result Unit Edge) → Stepped p q (Flag x side leaf) (flag_reply p.view leaf r) → OnlyFlags p q
+pub only_flags : (p q : PassView) (x : ℕ) (side : Side) (leaf : ℕ) (r : Result Unit Edge)
+    → Stepped p q (Flag x side leaf) (flag_reply p.view leaf r) → OnlyFlags p q
 unfolding searched
 only_flags p q x side leaf (Ok u) step =
     let n : NodeId = known_as (known_births p.view) leaf in
-    let k = known_after_step p q (Flag x side leaf) (Flagged n) step ∙ learn_flagged p.view.number (knowledge p.view) x side leaf n in
+    let k = known_after_step p q (Flag x side leaf) (Flagged n) step
+    ∙ learn_flagged p.view.number (knowledge p.view) x side leaf n in
     let s = search_is p q (Flag x side leaf) (Flagged n) step in
     record {
       epochs = ap (λ (y : Knowledge). y.brief) k;
@@ -207,7 +233,8 @@ only_flags p q x side leaf (Ok u) step =
       cut = ap (λ (y : Search). y.cut) s;
     }
 only_flags p q x side leaf (Err e) step =
-    let k = known_after_step p q (Flag x side leaf) (Lost e) step ∙ learn_flag_lost p.view.number (knowledge p.view) x side leaf e in
+    let k = known_after_step p q (Flag x side leaf) (Lost e) step
+    ∙ learn_flag_lost p.view.number (knowledge p.view) x side leaf e in
     let all = only_reads p q x side e k (search_is p q (Flag x side leaf) (Lost e) step) in
     record {
       epochs = all.epochs;

@@ -34,24 +34,38 @@ at_leaf true k on null = inl null
 
 -- ---- ranges on the way
 
-pub narrowed_first : (stop : Stop) (o p : PassView) (k : ℕ) (e : Edge) (s : SeekRecord) → s ≡ begin e → IsNarrowedBy stop o p k s.parent s.side
+pub narrowed_first : (stop : Stop) (o p : PassView) (k : ℕ) (e : Edge) (s : SeekRecord) → s ≡ begin e
+    → IsNarrowedBy stop o p k s.parent s.side
 narrowed_first Leaf o p k e s is = tt
 narrowed_first Place o p k e s is = rw is (inl (refl, refl))
 
-pub narrowed_still : (o p q : PassView) (k parent : ℕ) (side : Side) → GoesOn p q → IsNarrowed o p k parent side → IsNarrowed o q k parent side
+pub narrowed_still : (o p q : PassView) (k parent : ℕ) (side : Side) → GoesOn p q → IsNarrowed o p k parent side
+    → IsNarrowed o q k parent side
 narrowed_still o p q k parent side on (inl first) = inl first
-narrowed_still o p q k parent side on (inr w) = inr (w.0, w.1, w.2, w.3, w.4, λ since walks. on.keeps (ReadKey since k parent w.1 w.2 w.0) (w.5 since walks))
+narrowed_still o p q k parent side on (inr w) = inr
+    (w.0, w.1, w.2, w.3, w.4, λ since walks. on.keeps (ReadKey since k parent w.1 w.2 w.0) (w.5 since walks))
 
 -- to the next node, in whose parent's range the key is
-pub narrowed_on : (stop : Stop) (k : ℕ) (o p q : PassView) (t : SeekRecord) (on : Onward) → EachWalkHasCome o p k t → Reads k t.edge.slot p.view.log q.view.log on → OnwardTold p q k t.edge.slot on.found on.side on.next
+pub narrowed_on : (stop : Stop) (k : ℕ) (o p q : PassView) (t : SeekRecord) (on : Onward) → EachWalkHasCome o p k t
+    → Reads k t.edge.slot p.view.log q.view.log on → OnwardTold p q k t.edge.slot on.found on.side on.next
     → GoesBy stop on.found k → (s : SeekRecord) → s ≡ onto t on.side on.next → IsNarrowedBy stop o q k s.parent s.side
 narrowed_on Leaf k o p q t on come read told goes s is = tt
 narrowed_on Place k o p q t on come read told goes s is =
     let place = onto-parent t on.side on.next in
-    rw (is, place.0, place.1) (inr (on.found, t.parent, t.side, goes, sym read.3, λ since walks. told.reads since t.parent t.side (come since walks)))
+    rw (is, place.0, place.1) (inr (
+      on.found,
+      t.parent,
+      t.side,
+      goes,
+      sym read.3,
+      λ since walks. told.reads since
+          t.parent t.side (come since walks),
+    ))
 
 -- where it stops: at a leaf, or at a node above the fixed ones with another key
-module _ (b : TreeView) (radix : b.layout.radix ≡ true) (k : ℕ) (key : IsKey k) (n : ℕ) (o p q : PassView) (t : SeekRecord) (c : List ChainEdge) (on : Onward) (w : IsWalking b.layout k n o p t c) (read : Reads k t.edge.slot p.view.log q.view.log on)
+module _ (b : TreeView) (radix : b.layout.radix ≡ true) (k : ℕ) (key : IsKey k) (n : ℕ) (o p q : PassView)
+    (t : SeekRecord) (c : List ChainEdge) (on : Onward) (w : IsWalking b.layout k n o p t c)
+    (read : Reads k t.edge.slot p.view.log q.view.log on)
     (goes : GoesOn p q) (told : OnwardTold p q k t.edge.slot on.found on.side on.next) (pinned : IsPinnedIn b q) where
   -- a node that is no leaf, and has not the key in its range
   record IsApart : Type 0 where
@@ -65,8 +79,14 @@ module _ (b : TreeView) (radix : b.layout.radix ≡ true) (k : ℕ) (key : IsKey
     where
       apart : on.next.slot ≢ 0 → IsApart
       apart some =
-          let router = passes_router q pinned.run (ap (λ (L : Layout). L.radix) pinned.own.layout ∙ radix) k key n o.view.log p.view.log t c on w.walk read some in
-          record { high = router.0; other = λ same. true≢false (sym router.1 ∙ (ap (covers on.found) same ∙ outside)); outside = outside }
+          let router = passes_router q pinned.run (ap (λ (L : Layout). L.radix) pinned.own.layout ∙ radix) k key n
+          o.view.log p.view.log t c on w.walk read some in
+          record {
+            high = router.0;
+            other = λ same. true≢false
+                (sym router.1 ∙ (ap (covers on.found) same ∙ outside));
+            outside = outside;
+          }
 
   found_of : (on.next.slot ≡ 0) ⊎ IsApart → on.found ≡ k → HasFound o q k t.edge.slot t.parent t.side on.found
   found_of (inl null) same = found_so o p q k on.found t on.side on.next w.come told null
@@ -76,7 +96,8 @@ module _ (b : TreeView) (radix : b.layout.radix ≡ true) (k : ℕ) (key : IsKey
   over_of (inl null) = inl (told.learned.leaf null)
   over_of (inr apart) = inr (apart.high, apart.outside)
 
-  stops_here : IsStop true k on → n + 2 ≤ reach b.layout → IsNarrowed o p k t.parent t.side → (r : WalkEnd) → r.seek_record ≡ t → r.key ≡ on.found → HasStopped b.layout k o q c r × HasNarrowed o q k r
+  stops_here : IsStop true k on → n + 2 ≤ reach b.layout → IsNarrowed o p k t.parent t.side → (r : WalkEnd)
+      → r.seek_record ≡ t → r.key ≡ on.found → HasStopped b.layout k o q c r × HasNarrowed o q k r
   stops_here stop few narrowed r seek_record is = rw (seek_record, is) (
     record {
       walk = (n, p.view.log, on, few, w.walk, subst (λ (radix : Bool). IsStop radix k on) (sym radix) stop, read, refl);
@@ -95,24 +116,33 @@ module _ (b : TreeView) (radix : b.layout.radix ≡ true) (k : ℕ) (key : IsKey
 -- ---- a walk by what it stops at
 
 -- it was broken off
-pub broken_off : (stop : Stop) (L : Layout) (k : ℕ) (old new : List Entry) (c : List ChainEdge) → IsBroken L k old new → SeeksTo stop L k old new c None
+pub broken_off : (stop : Stop) (L : Layout) (k : ℕ) (old new : List Entry) (c : List ChainEdge)
+    → IsBroken L k old new → SeeksTo stop L k old new c None
 broken_off Leaf L k old new c broken = broken
 broken_off Place L k old new c broken = broken
 
 -- it has come to its end
-pub comes_out : (stop : Stop) (b : TreeView) → (stop ≡ Place → b.layout.radix ≡ true) → (k : ℕ) → IsKey k → (n : ℕ) (o p q : PassView) (t : SeekRecord) (c : List ChainEdge) (on : Onward) → IsWalking b.layout k n o p t c → Reads k t.edge.slot p.view.log q.view.log on
-    → GoesOn p q → OnlyLooks p q → OnwardTold p q k t.edge.slot on.found on.side on.next → IsPinnedIn b q → IsStopOf stop k on → n + 2 ≤ reach b.layout → IsNarrowedBy stop o p k t.parent t.side → (r : WalkEnd) → r.seek_record ≡ t → r.key ≡ on.found
+pub comes_out : (stop : Stop) (b : TreeView) → (stop ≡ Place → b.layout.radix ≡ true) → (k : ℕ) → IsKey k
+    → (n : ℕ) (o p q : PassView) (t : SeekRecord) (c : List ChainEdge) (on : Onward) → IsWalking b.layout k n o p t c
+    → Reads k t.edge.slot p.view.log q.view.log on
+    → GoesOn p q → OnlyLooks p q → OnwardTold p q k t.edge.slot on.found on.side on.next → IsPinnedIn b q
+    → IsStopOf stop k on → n + 2 ≤ reach b.layout → IsNarrowedBy stop o p k t.parent t.side → (r : WalkEnd)
+    → r.seek_record ≡ t → r.key ≡ on.found
     → HasCome stop b.layout k o q c r
-comes_out Leaf b radix k key n o p q t c on w read goes only told pinned null few narrowed r seek_record is = walks_out b.layout k n o p q t c on w read goes only told null few r seek_record is
-comes_out Place b radix k key n o p q t c on w read goes only told pinned stop few narrowed r seek_record is = stops_here b (radix refl) k key n o p q t c on w read goes told pinned stop few narrowed r seek_record is
+comes_out Leaf b radix k key n o p q t c on w read goes only told pinned null few narrowed r seek_record is =
+    walks_out b.layout k n o p q t c on w read goes only told null few r seek_record is
+comes_out Place b radix k key n o p q t c on w read goes only told pinned stop few narrowed r seek_record is =
+    stops_here b (radix refl) k key n o p q t c on w read goes told pinned stop few narrowed r seek_record is
 
 -- and has the result of such a walk
-pub come_result : (stop : Stop) (L : Layout) (k : ℕ) (o q : PassView) (c : List ChainEdge) (r : WalkEnd) → HasCome stop L k o q c r → SeeksTo stop L k o.view.log q.view.log c (Some r)
+pub come_result : (stop : Stop) (L : Layout) (k : ℕ) (o q : PassView) (c : List ChainEdge) (r : WalkEnd)
+    → HasCome stop L k o q c r → SeeksTo stop L k o.view.log q.view.log c (Some r)
 come_result Leaf L k o q c r come = (come.walk, come.few)
 come_result Place L k o q c r come = (come.0.walk, come.0.few)
 
 -- whose steps are within its reach
-pub come_steps : (stop : Stop) (L : Layout) (k : ℕ) (o q : PassView) (c : List ChainEdge) (r : WalkEnd) → HasCome stop L k o q c r → length q.view.log ≤ length o.view.log + 3 * reach L
+pub come_steps : (stop : Stop) (L : Layout) (k : ℕ) (o q : PassView) (c : List ChainEdge) (r : WalkEnd)
+    → HasCome stop L k o q c r → length q.view.log ≤ length o.view.log + 3 * reach L
 come_steps Leaf L k o q c r come = (end_adds L k o.view.log q.view.log r.seek_record c r.key come.walk).steps
 come_steps Place L k o q c r come = by come.0.walk
   where

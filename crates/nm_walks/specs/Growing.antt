@@ -145,7 +145,13 @@ pub record HasLinkedValue (q : PassView) (slot value : ℕ) : Type 0 where
   pub earlier : List Stored
   pub at : ℕ
   pub own : ℕ
-  pub is : q.view.stores ≡ earlier ++ record { at = at; worker = q.view.number; own = own; slot = slot; value = value } ∷ []
+  pub is : q.view.stores ≡ earlier ++ record {
+    at = at;
+    worker = q.view.number;
+    own = own;
+    slot = slot;
+    value = value;
+  } ∷ []
   pub early : at < length q.view.past
   pub last : own + 1 ≡ length q.view.log
 

@@ -18,7 +18,7 @@ pub use cleaning::cleanup;
 pub use cutting::{Kept, choose};
 pub use growing::{claim_new_nodes, give_back, grow};
 pub use looking::{Onward, look_birth, look_edge, read_node};
-pub use making::NewNodes;
+pub use making::{NewNodes, claim, fill_leaf, give};
 pub use marking::{flag, tag};
 pub use seek_record::{
     CHAIN_BOUND, ChainEdge, ChainEdges, SeekRecord, WalkEnd, is_marked, is_null,

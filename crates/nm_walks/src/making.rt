@@ -42,7 +42,7 @@ pub struct NewNodes {
 /// `Some(node)`: the slot is private to the worker, and was new to it. Its birth is stored there,
 /// and nothing else is. Cost: at most three steps per slot.
 #[inline(always)]
-pub(crate) fn claim(shared: &Shared, pass: &mut Pass, placement: &mut Placement) -> Option<NodeId>
+pub fn claim(shared: &Shared, pass: &mut Pass, placement: &mut Placement) -> Option<NodeId>
     requires own { IsOf shared.now pass.old }
     ensures part { IsClaimBy placement.old shared.now.layout.nodes pass.old.view.log
         pass.new.view.log result }
@@ -64,7 +64,7 @@ pub(crate) fn claim(shared: &Shared, pass: &mut Pass, placement: &mut Placement)
 
 /// Gives a private node back to the pool, in one step. Its birth stays in the slot, so the next
 /// node there has another one.
-pub(crate) fn give(shared: &Shared, pass: &mut Pass, node: NodeId)
+pub fn give(shared: &Shared, pass: &mut Pass, node: NodeId)
     requires own { IsOf shared.now pass.old }
     requires birth { (draft pass.old node.slot).birth ≡ Some node.birth }
     ensures step { Stepped pass.old pass.new (Give node.slot) (Returned node.slot) }
@@ -102,7 +102,7 @@ pub(crate) fn fill(shared: &Shared, pass: &mut Pass, slot: u32, node: &Contents)
 
 /// Fills a private slot whose birth is stored as a leaf with this key. If the table has values, the
 /// value is stored last.
-pub(crate) fn fill_leaf(shared: &Shared, pass: &mut Pass, slot: u32, key: u64, value: u64)
+pub fn fill_leaf(shared: &Shared, pass: &mut Pass, slot: u32, key: u64, value: u64)
     requires own { IsOf shared.now pass.old }
     requires born { IsSome (draft pass.old slot).birth }
     ensures steps { HasFilled pass.old pass.new slot key 0 0 }

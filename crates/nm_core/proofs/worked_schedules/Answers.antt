@@ -53,13 +53,16 @@ unfolding report trace after outcome next refused applied refusal reply write le
 returns-clause-joining c = refl
 
 pub returns-clause-insert_in_order : goal.returns-clause-insert_in_order
-unfolding ordered_report trace_in after_in outcome_in next_in refused_in applied_in searched refused applied refusal reply write learn
+unfolding ordered_report trace_in after_in outcome_in next_in refused_in applied_in searched refused applied refusal
+    reply write learn
 returns-clause-insert_in_order c = refl
 
 pub returns-clause-delete_in_order : goal.returns-clause-delete_in_order
-unfolding ordered_report trace_in after_in outcome_in next_in refused_in applied_in searched refused applied refusal reply write learn
+unfolding ordered_report trace_in after_in outcome_in next_in refused_in applied_in searched refused applied refusal
+    reply write learn
 returns-clause-delete_in_order c = refl
 
 pub returns-clause-parent_cut : goal.returns-clause-parent_cut
-unfolding ordered_report trace_in after_in outcome_in next_in refused_in applied_in searched refused applied refusal reply write learn
+unfolding ordered_report trace_in after_in outcome_in next_in refused_in applied_in searched refused applied refusal
+    reply write learn
 returns-clause-parent_cut c = refl

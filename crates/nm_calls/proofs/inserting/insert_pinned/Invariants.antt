@@ -10,7 +10,8 @@ use Rattle.nm_calls.proofs.inserting.insert_pinned.Given as goal
 
 abbrev pub invariant-loop-round : goal.invariant-loop-round
 invariant-loop-round l = record {
-  lost : LostInserts l.fn.workspace.placement l.shared.layout l.key l.round l.new_nodes l.fn.pass.view.log l.pass.view.log;
+  lost : LostInserts l.fn.workspace.placement l.shared.layout l.key l.round l.new_nodes l.fn.pass.view.log
+      l.pass.view.log;
   on : GoesOn l.fn.pass l.pass;
   only : OnlyTries l.fn.pass l.pass;
   unlinked : (search l.pass).linked ≡ false;

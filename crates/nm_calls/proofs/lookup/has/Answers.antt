@@ -20,22 +20,34 @@ use Rattle.nm_calls.proofs.Moments.{no_call_on, none_begun}
 use Rattle.nm_calls.proofs.lookup.has.Goals as goal
 
 pub find-requires-clause-pinned : goal.find-requires-clause-pinned
-find-requires-clause-pinned c = pinned_in_still c.args.shared.now c.pin_for.new.pass c.loop-walk.pass c.loop-walk.invariant.on
-    (record { own = search rules; run = search rules; pin = is_pinned c.pin_for.new.pass c.in-Ok._epoch Has c.args.key c.in-Ok.ensures.at })
+find-requires-clause-pinned c = pinned_in_still c.args.shared.now c.pin_for.new.pass c.loop-walk.pass
+    c.loop-walk.invariant.on
+    (record {
+      own = search rules;
+      run = search rules;
+      pin = is_pinned c.pin_for.new.pass c.in-Ok._epoch Has
+          c.args.key c.in-Ok.ensures.at;
+    })
 
 pub find-requires-clause-known : goal.find-requires-clause-known
-find-requires-clause-known c = c.loop-walk.invariant.on.keeps (KnowsSlot 2) (knows_second c.pin_for.new.pass c.in-Ok._epoch Has c.args.key c.in-Ok.ensures.at)
+find-requires-clause-known c = c.loop-walk.invariant.on.keeps (KnowsSlot 2)
+    (knows_second c.pin_for.new.pass c.in-Ok._epoch Has c.args.key c.in-Ok.ensures.at)
 
 pub answer-requires-clause-labelled : goal.answer-requires-clause-labelled
 answer-requires-clause-labelled c =
-    let only = only_then c.pin_for.new.pass c.loop-walk.pass c.find.new.pass c.loop-walk.invariant.only c.in-Some.ensures.only in
+    let only = only_then c.pin_for.new.pass c.loop-walk.pass c.find.new.pass c.loop-walk.invariant.only
+    c.in-Some.ensures.only in
     ap (λ (b : Brief). b.unlabelled) only.epochs ∙ c.in-Ok.ensures.at.labelled
 
 pub answer-requires-clause-shown : goal.answer-requires-clause-shown
 answer-requires-clause-shown c =
     let found = c.in-Some.ensures.found in
-    let call = c.loop-walk.invariant.on.keeps (CallIs Has c.args.key) (call_is c.pin_for.new.pass c.in-Ok._epoch Has c.args.key c.in-Ok.ensures.at) in
-    shows_found c.find.new.pass c.args.key c.in-Some.found found.0 found.1 found.2 _ (c.in-Some.ensures.on.keeps (CallIs Has c.args.key) call) (rw (← c.get.ensures.number) (found.3 ThePin (Has, rw c.get.ensures.number call))) (rw c.get-in-Some.ensures.number refl)
+    let call = c.loop-walk.invariant.on.keeps (CallIs Has c.args.key)
+    (call_is c.pin_for.new.pass c.in-Ok._epoch Has c.args.key c.in-Ok.ensures.at) in
+    shows_found c.find.new.pass c.args.key c.in-Some.found found.0 found.1 found.2 _
+    (c.in-Some.ensures.on.keeps (CallIs Has c.args.key) call)
+    (rw (← c.get.ensures.number) (found.3 ThePin (Has, rw c.get.ensures.number call)))
+    (rw c.get-in-Some.ensures.number refl)
 
 pub unpin-requires-clause-may : goal.unpin-requires-clause-may
 unpin-requires-clause-may c =
@@ -69,7 +81,8 @@ returns c =
           let past = c.loop-walk-test.false in
           let within = c.loop-walk.auto._walk-end in
           let all : c.loop-walk._walk ≡ tries = omega (arith, past, within) in
-          missed L tries c.args.key old a p new c.in-Ok._epoch c.if-tries-eq0.false c.in-Ok.ensures.pinned (rw (← all) c.loop-walk.invariant.lost) left
+          missed L tries c.args.key old a p new c.in-Ok._epoch c.if-tries-eq0.false c.in-Ok.ensures.pinned
+          (rw (← all) c.loop-walk.invariant.lost) left
           );
       won = has_won old new added;
       uncut = cuts_none old new added;
@@ -78,7 +91,8 @@ returns c =
           let lost_steps = lost.steps in
           let last_steps = last.steps in
           let few = mul-le-mul_right (most (reach L)) c.loop-walk.auto._walk-end in
-          within_call L tries (length old) (length new) (2 * tries + tries * most (reach L) + 10) (omega (arith, pin_steps, lost_steps, last_steps, few)) (omega arith)
+          within_call L tries (length old) (length new) (2 * tries + tries * most (reach L) + 10)
+          (omega (arith, pin_steps, lost_steps, last_steps, few)) (omega arith)
           );
       rests = search rules;
       hands = search rules;
@@ -86,7 +100,8 @@ returns c =
 
 pub returns-in_default : goal.returns-in_default
 returns-in_default c =
-    let added = moved_adds Has c.args.key c.args.tries c.args.pass.now.view.log c.pin_for.new.pass.view.log c.in_default.ensures.moved in
+    let added = moved_adds Has c.args.key c.args.tries c.args.pass.now.view.log c.pin_for.new.pass.view.log
+    c.in_default.ensures.moved in
     record {
       same = search rules;
       past = search (rules, seen_all);
@@ -143,9 +158,19 @@ returns-in-Some c =
           let o = c.args.pass.now in
           let begun = c.pin_for.new.pass in
           let call = call_is begun c.in-Ok._epoch Has c.args.key c.in-Ok.ensures.at in
-          let pinned : HadNoCall o begun = record { same = c.pin_for.ensures.on.same; past = c.pin_for.ensures.on.past; call = none_begun o c.know_run.ensures.seen c.know_run.ensures.fits (ap (λ (s : Search). s.call) c.requires.rests.idle) } in
-          let walked = no_call_on o c.loop-walk.pass c.find.new.pass (no_call_on o begun c.loop-walk.pass pinned c.loop-walk.invariant.on.same c.loop-walk.invariant.on.past) c.find.ensures.on.same c.find.ensures.on.past in
-          c.answer.ensures.moment o Has c.args.key walked (c.in-Some.ensures.on.keeps (CallIs Has c.args.key) (c.loop-walk.invariant.on.keeps (CallIs Has c.args.key) call))
+          let pinned : HadNoCall o begun = record {
+            same = c.pin_for.ensures.on.same;
+            past =
+                c.pin_for.ensures.on.past;
+            call = none_begun o c.know_run.ensures.seen c.know_run.ensures.fits
+                (ap (λ (s : Search). s.call) c.requires.rests.idle);
+          } in
+          let walked = no_call_on o c.loop-walk.pass c.find.new.pass
+          (no_call_on o begun c.loop-walk.pass pinned c.loop-walk.invariant.on.same
+          c.loop-walk.invariant.on.past) c.find.ensures.on.same c.find.ensures.on.past in
+          c.answer.ensures.moment o Has c.args.key walked
+          (c.in-Some.ensures.on.keeps (CallIs Has c.args.key)
+          (c.loop-walk.invariant.on.keeps (CallIs Has c.args.key) call))
           );
       busy = search rules;
       missed = search rules;
@@ -157,7 +182,8 @@ returns-in-Some c =
           let walk_steps = c.find.ensures.steps in
           let last_steps = last.steps in
           let few = mul_below c.loop-walk._walk tries (most (reach L)) c.loop-walk-test.true in
-          within_call L tries (length old) (length new) (2 * tries + tries * most (reach L) + 10) (omega (arith, pin_steps, lost_steps, walk_steps, last_steps, few)) (omega arith)
+          within_call L tries (length old) (length new) (2 * tries + tries * most (reach L) + 10)
+          (omega (arith, pin_steps, lost_steps, walk_steps, last_steps, few)) (omega arith)
           );
       rests = search rules;
       hands = search rules;

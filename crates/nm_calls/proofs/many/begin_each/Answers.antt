@@ -6,6 +6,8 @@ use Rattle.nm_calls.proofs.many.begin_each.Goals as goal
 
 pub loop-index-preserved : goal.loop-index-preserved
 loop-index-preserved c = record {
-  begun = AllWithin-more_set c.loop-index.queries c.loop-index.index c.begun_at-begun.result (search rules) (HasBegun c.args.first) c.loop-index.invariant.begun c.begun_at-begun.ensures.begun;
-  keys = map-set_same key_of c.loop-index.queries c.loop-index.index c.begun_at-begun.result c.index-queries-index.result (search rules) ∙ c.loop-index.invariant.keys;
+  begun = AllWithin-more_set c.loop-index.queries c.loop-index.index c.begun_at-begun.result (search rules)
+      (HasBegun c.args.first) c.loop-index.invariant.begun c.begun_at-begun.ensures.begun;
+  keys = map-set_same key_of c.loop-index.queries c.loop-index.index c.begun_at-begun.result
+      c.index-queries-index.result (search rules) ∙ c.loop-index.invariant.keys;
 }

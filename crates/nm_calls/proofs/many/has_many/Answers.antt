@@ -18,23 +18,37 @@ returns-in_default c = record {
   keys = search rules;
   moment = search rules;
   busy = search rules;
-  missed = pin_missed (GiveUp c.args.shared.now.layout (map key_of c.args.queries.now)) c.args.tries c.args.pass.now.view.log c.pin.new.pass.view.log c.if-tries-eq0.false c.in_default.ensures.moved;
-  won = has_won _ _ (plain_moved_adds c.args.tries c.args.pass.now.view.log c.pin.new.pass.view.log c.in_default.ensures.moved);
-  uncut = cuts_none _ _ (plain_moved_adds c.args.tries c.args.pass.now.view.log c.pin.new.pass.view.log c.in_default.ensures.moved);
+  missed = pin_missed (GiveUp c.args.shared.now.layout (map key_of c.args.queries.now)) c.args.tries
+      c.args.pass.now.view.log c.pin.new.pass.view.log c.if-tries-eq0.false c.in_default.ensures.moved;
+  won = has_won _ _ (plain_moved_adds c.args.tries c.args.pass.now.view.log c.pin.new.pass.view.log
+      c.in_default.ensures.moved);
+  uncut = cuts_none _ _ (plain_moved_adds c.args.tries c.args.pass.now.view.log c.pin.new.pass.view.log
+      c.in_default.ensures.moved);
   steps = search rules;
   rests = search rules;
   hands = search rules;
 }
 
 pub unpin-requires-clause-may : goal.unpin-requires-clause-may
-unpin-requires-clause-may c = may_end c.in-Ok._epoch c.pin.new.pass c.walk_all-ended.new.pass c.in-Ok.ensures.at c.walk_all-ended.ensures.only
+unpin-requires-clause-may c = may_end c.in-Ok._epoch c.pin.new.pass c.walk_all-ended.new.pass c.in-Ok.ensures.at
+    c.walk_all-ended.ensures.only
 
 pub returns-then-ended : goal.returns-then-ended
 returns-then-ended c =
     let most = most_looks (reach c.args.shared.now.layout) (length c.args.queries.now) in
     let old = c.args.pass.now.view.log in
     let new = c.unpin.new.pass.view.log in
-    let did : LooksUnderPin c.args.tries most old new = record { pinned = c.pin.new.pass.view.log; epoch = c.in-Ok._epoch; pin = c.in-Ok.ensures.pinned; looked = c.walk_all-ended.new.pass.view.log; looks = c.walk_all-ended.ensures.looks; leaves = ap (λ (s : PassView). s.view.log) c.unpin.ensures.took.step } in
+    let did : LooksUnderPin c.args.tries most old new =
+    record {
+      pinned = c.pin.new.pass.view.log;
+      epoch = c.in-Ok._epoch;
+      pin = c.in-Ok.ensures.pinned;
+      looked =
+          c.walk_all-ended.new.pass.view.log;
+      looks = c.walk_all-ended.ensures.looks;
+      leaves = ap
+          (λ (s : PassView). s.view.log) c.unpin.ensures.took.step;
+    } in
     let added = call_adds c.args.tries most old new did in
     record {
       same = search rules;
@@ -66,7 +80,17 @@ returns-else-ended c =
     let most = most_looks (reach c.args.shared.now.layout) (length c.args.queries.now) in
     let old = c.args.pass.now.view.log in
     let new = c.unpin.new.pass.view.log in
-    let did : LooksUnderPin c.args.tries most old new = record { pinned = c.pin.new.pass.view.log; epoch = c.in-Ok._epoch; pin = c.in-Ok.ensures.pinned; looked = c.walk_all-ended.new.pass.view.log; looks = c.walk_all-ended.ensures.looks; leaves = ap (λ (s : PassView). s.view.log) c.unpin.ensures.took.step } in
+    let did : LooksUnderPin c.args.tries most old new =
+    record {
+      pinned = c.pin.new.pass.view.log;
+      epoch = c.in-Ok._epoch;
+      pin = c.in-Ok.ensures.pinned;
+      looked =
+          c.walk_all-ended.new.pass.view.log;
+      looks = c.walk_all-ended.ensures.looks;
+      leaves = ap
+          (λ (s : PassView). s.view.log) c.unpin.ensures.took.step;
+    } in
     let added = call_adds c.args.tries most old new did in
     record {
       same = search rules;
@@ -75,7 +99,9 @@ returns-else-ended c =
       keys = search rules;
       moment = search rules;
       busy = search rules;
-      missed = walks_missed (GiveUp c.args.shared.now.layout (map key_of c.args.queries.now)) c.args.tries old c.pin.new.pass.view.log c.walk_all-ended.new.pass.view.log new c.in-Ok._epoch c.in-Ok.ensures.pinned (c.walk_all-ended.ensures.given_up c.if-ended.false) did.leaves;
+      missed = walks_missed (GiveUp c.args.shared.now.layout (map key_of c.args.queries.now)) c.args.tries old
+          c.pin.new.pass.view.log c.walk_all-ended.new.pass.view.log new c.in-Ok._epoch c.in-Ok.ensures.pinned
+          (c.walk_all-ended.ensures.given_up c.if-ended.false) did.leaves;
       won = has_won _ _ added;
       uncut = cuts_none _ _ added;
       steps = (let few = added.steps in omega (arith, few));

@@ -14,7 +14,8 @@ returns-clause-under_way c from n le under_way =
     subst (IsUnderWay c.args.what from (n + 1) q) (sym c.read_so.ensures.query)
     (gone_on c.args.what from p q le n query on
     (subst (λ k. Reads k query.node p.view.log q.view.log on) c.get.ensures.number c.read_node-on.ensures.looks)
-    (subst (λ k. OnwardTold p q k query.node on.found on.side on.next) c.get.ensures.number c.read_node-on.ensures.told) under_way c.if-query-eq0.false)
+    (subst (λ k. OnwardTold p q k query.node on.found on.side on.next) c.get.ensures.number
+    c.read_node-on.ensures.told) under_way c.if-query-eq0.false)
 
 pub returns-then-query-eq0-clause-under_way : goal.returns-then-query-eq0-clause-under_way
 returns-then-query-eq0-clause-under_way c from n le under_way =

@@ -18,7 +18,8 @@ loop-index-preserved c =
     let x = c.index-queries-index.result in
     let y = c.take_turn.new.query in
     record {
-      looks = looks_in (3 * (c.loop-index.index + 1)) o.view.log q.view.log (omega arith) (looks_then o.view.log p.view.log q.view.log held.looks did.looks);
+      looks = looks_in (3 * (c.loop-index.index + 1)) o.view.log q.view.log (omega arith)
+          (looks_then o.view.log p.view.log q.view.log held.looks did.looks);
       under_way = turned c.args.what 0 p q (omega arith) did.looks did.on queries i (search rules) x y
           (λ n u. did.under_way 0 n (omega arith) u) 0 held.under_way;
       further = λ from n le all. (
@@ -31,7 +32,8 @@ loop-index-preserved c =
                 (λ m u. did.under_way from m later u) n so_far.0 so_far.1,
           )
           );
-      keys = map-set_same key_of c.loop-index.queries c.loop-index.index c.take_turn.new.query c.index-queries-index.result (search rules) ∙ held.keys;
+      keys = map-set_same key_of c.loop-index.queries c.loop-index.index c.take_turn.new.query
+          c.index-queries-index.result (search rules) ∙ held.keys;
       on = goes_then o p q held.on did.on;
       only = only_then o p q held.only did.only;
     }

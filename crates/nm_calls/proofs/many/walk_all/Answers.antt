@@ -52,7 +52,8 @@ loop-turn-preserved c =
     let more = add-mul c.loop-turn._turn 1 (3 * n) in
     record {
       inside = omega (arith, below, size, layout);
-      looks = looks_in (1 + (c.loop-turn._turn + 1) * (3 * n)) o.view.log q.view.log (omega (arith, count, more)) (looks_then o.view.log p.view.log q.view.log held.looks did.looks);
+      looks = looks_in (1 + (c.loop-turn._turn + 1) * (3 * n)) o.view.log q.view.log (omega (arith, count, more))
+          (looks_then o.view.log p.view.log q.view.log held.looks did.looks);
       under_way = did.under_way (length o.view.log) c.loop-turn._turn (not_shorter o p held.looks) held.under_way;
       keys = did.keys ∙ held.keys;
       on = goes_then o p q held.on did.on;
@@ -87,4 +88,6 @@ returns-clause-given_up c none =
     (pinned_in_still c.args.shared.now o p held.on c.requires.pinned) c.loop-turn._turn c.loop-turn.queries keys
     held.keys (all_in_all c.args.what (length o.view.log) c.loop-turn._turn p c.loop-turn.queries held.under_way)
     (c.have_ended-2.ensures.goes_on none)
-    (omega (arith, inside, end, size, layout)) (subst (λ (m : ℕ). AddsLooks (most_looks far m) o.view.log p.view.log) (sym (length-map c.args.queries.now key_of)) (looks_in (most_looks far n) o.view.log p.view.log (omega (arith, few)) held.looks))
+    (omega (arith, inside, end, size, layout)) (subst (λ (m : ℕ). AddsLooks (most_looks far m) o.view.log p.view.log)
+    (sym (length-map c.args.queries.now key_of)) (looks_in (most_looks far n) o.view.log p.view.log
+    (omega (arith, few)) held.looks))

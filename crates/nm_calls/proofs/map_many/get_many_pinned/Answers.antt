@@ -29,7 +29,8 @@ returns c =
     record {
       on = on;
       only = only_then o p q walked.only read.only;
-      looks = subst (λ (l : List Entry). AddsLooks (most_looks (reach c.args.shared.now.layout) (length c.args.queries.now)) o.view.log l) (sym read.log) walked.looks;
+      looks = subst (λ (l : List Entry). AddsLooks (most_looks (reach c.args.shared.now.layout)
+          (length c.args.queries.now)) o.view.log l) (sym read.log) walked.looks;
       keys = read.keys ∙ walked.keys;
       moment = were_mapped o q c.know_run.ensures.seen c.know_run-2.ensures.fits on.same on.past
           c.know_run-2.ensures.seen c.read_values.new.queries answers;

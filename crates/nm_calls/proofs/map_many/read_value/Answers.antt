@@ -12,7 +12,8 @@ pub overflow_cast-query : goal.overflow_cast-query
 overflow_cast-query c =
     let walked = c.requires.walked in
     let query = c.args.query.now in
-    let within = (leaf_within c.args.pass.now c.know_run.ensures.fits c.know_run.ensures.seen query.key query.value walked.is_key (walked.leaf c.if-query.true)).1 in
+    let within = (leaf_within c.args.pass.now c.know_run.ensures.fits c.know_run.ensures.seen query.key query.value
+    walked.is_key (walked.leaf c.if-query.true)).1 in
     let most = c.know_run.ensures.fits.most in
     omega (arith, within, most)
 
@@ -20,7 +21,8 @@ pub look_value-query-requires-clause-slot : goal.look_value-query-requires-claus
 look_value-query-requires-clause-slot c =
     let walked = c.requires.walked in
     let query = c.args.query.now in
-    let within = leaf_within c.args.pass.now c.know_run.ensures.fits c.know_run.ensures.seen query.key query.value walked.is_key (walked.leaf c.if-query.true) in
+    let within = leaf_within c.args.pass.now c.know_run.ensures.fits c.know_run.ensures.seen query.key query.value
+    walked.is_key (walked.leaf c.if-query.true) in
     let high = within.0 in
     (omega (arith, high), subst (λ (L : Layout). query.value ≤ L.nodes) c.requires.pinned.own.layout within.1)
 

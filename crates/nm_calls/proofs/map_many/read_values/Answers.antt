@@ -26,7 +26,8 @@ returns-clause-answers c n walked i d below =
     (c.loop-index.invariant.answers n walked).0 i d (omega arith) (omega (arith, below, end, count))
 
 pub read_value-requires-clause-pinned : goal.read_value-requires-clause-pinned
-read_value-requires-clause-pinned c = pinned_in_still c.args.shared.now c.args.pass.now c.loop-index.pass c.loop-index.invariant.on c.requires.pinned
+read_value-requires-clause-pinned c = pinned_in_still c.args.shared.now c.args.pass.now c.loop-index.pass
+    c.loop-index.invariant.on c.requires.pinned
 
 pub loop-index-preserved : goal.loop-index-preserved
 loop-index-preserved c =

@@ -40,8 +40,10 @@ loop-index-preserved c =
     let long = length-map c.args.entries.now (λ (x : MapEntry). x.key) in
     let same = c.loop-index.auto.entries in
     record {
-      read = read_more o p q held.on did.on log entries i c.args.count (omega (arith, below, within, long, same)) e did.read held.read;
-      unread = unread_still o p q held.on did.on log entries i c.args.count (omega (arith, below, within, long, same)) e did.read held.unread;
+      read = read_more o p q held.on did.on log entries i c.args.count (omega (arith, below, within, long, same)) e
+          did.read held.read;
+      unread = unread_still o p q held.on did.on log entries i c.args.count
+          (omega (arith, below, within, long, same)) e did.read held.unread;
       keys = map-set_same (λ (x : MapEntry). x.key) entries i e (record { key = 0; value = 0 }) did.key ∙ held.keys;
       log = log ∙ held.log;
       on = goes_then o p q held.on did.on;
@@ -49,7 +51,10 @@ loop-index-preserved c =
     }
 
 pub read_value-requires-clause-pinned : goal.read_value-requires-clause-pinned
-read_value-requires-clause-pinned c = pinned_in_still c.args.shared.now c.args.pass.now c.loop-index.pass c.loop-index.invariant.on c.requires.pinned
+read_value-requires-clause-pinned c = pinned_in_still c.args.shared.now c.args.pass.now c.loop-index.pass
+    c.loop-index.invariant.on c.requires.pinned
 
 pub read_value-requires-clause-leaf : goal.read_value-requires-clause-leaf
-read_value-requires-clause-leaf c = let below = c.loop-index-test.true in c.loop-index.invariant.unread c.loop-index.index (record { key = 0; value = 0 }) (omega arith) (omega (arith, below))
+read_value-requires-clause-leaf c = let below = c.loop-index-test.true in
+    c.loop-index.invariant.unread c.loop-index.index (record { key = 0; value = 0 }) (omega arith)
+    (omega (arith, below))

@@ -24,7 +24,9 @@ loop-node-init c =
     record {
       inside = omega (arith, some, size, layout);
       looks = looks_in _ o.view.log q.view.log (omega arith) (look_added o q 2 Left edge did.step);
-      under_way = subst (λ (n : ℕ). IsDescent c.args.shared.now.layout 0 o q (record { from = c.args.from; low = 0; high = infinity_0; node = n; leaf = 0; found = 0 })) (sym c.slot-first.ensures)
+      under_way = subst (λ (n : ℕ). IsDescent c.args.shared.now.layout 0 o q
+          (record { from = c.args.from; low = 0; high = infinity_0; node = n; leaf = 0; found = 0 }))
+          (sym c.slot-first.ensures)
           (descent_begins c.args.shared.now.layout o q edge did.step did.told c.args.from c.requires.key);
       from = refl;
       on = did.on;
@@ -49,10 +51,14 @@ loop-node-preserved c =
     record {
       inside = omega (arith, few);
       looks = looks_in (1 + (c.loop-node._node + 1) * (3 * 1)) o.view.log q.view.log (omega arith)
-          (looks_then o.view.log p.view.log q.view.log held.looks (read_added c.args.from walk.node p.view.log q.view.log on did.looks));
+          (looks_then o.view.log p.view.log q.view.log held.looks
+          (read_added c.args.from walk.node p.view.log q.view.log on did.looks));
       under_way = subst (IsDescent c.args.shared.now.layout (c.loop-node._node + 1) o q) (sym now.walk)
-          (descent_goes_on c.args.shared.now.layout c.loop-node._node o p q walk next.low next.high on (subst (λ (k : ℕ). Reads k walk.node p.view.log q.view.log on) (sym held.from) did.looks) did.leaf held.under_way c.if-walk-eq0.false now.raised now.lowered now.passed now.capped few
-          (subst (λ (k : ℕ). OnwardTold p q k walk.node on.found on.side on.next) (sym held.from) did.told) (now.least held.under_way.least) (now.most held.under_way.most) now.below now.above);
+          (descent_goes_on c.args.shared.now.layout c.loop-node._node o p q walk next.low next.high on
+          (subst (λ (k : ℕ). Reads k walk.node p.view.log q.view.log on) (sym held.from) did.looks) did.leaf
+          held.under_way c.if-walk-eq0.false now.raised now.lowered now.passed now.capped few
+          (subst (λ (k : ℕ). OnwardTold p q k walk.node on.found on.side on.next) (sym held.from) did.told)
+          (now.least held.under_way.least) (now.most held.under_way.most) now.below now.above);
       from = ap (λ (d : KeysWalk). d.from) now.walk ∙ held.from;
       on = goes_then o p q held.on did.on;
       only = only_then o p q held.only did.only;
@@ -67,4 +73,6 @@ returns-clause-long c some =
     let end = c.loop-node-test.false in
     let size = c.reach-node-end.ensures.reach in
     let layout = ap reach c.layout-layout.ensures in
-    descent_too_long c.args.shared.now c.loop-node._node o p c.loop-node.walk c.args.from held.under_way held.from (pinned_in_still c.args.shared.now o p held.on c.requires.pinned) c.requires.key (omega (arith, inside, end, size, layout)) some
+    descent_too_long c.args.shared.now c.loop-node._node o p c.loop-node.walk c.args.from held.under_way held.from
+    (pinned_in_still c.args.shared.now o p held.on c.requires.pinned) c.requires.key
+    (omega (arith, inside, end, size, layout)) some

@@ -13,7 +13,8 @@ invariant-loop-walk l = record {
   is_key : IsKey l.from;
   beyond : Lies l.fn.side l.fn.key l.from;
   earlier : (j : ℕ) → Lies l.fn.side l.fn.key j → IsPast l.fn.side j l.from → HasEndedSo l.pass j false;
-  walked : HaveNone l.fn.side l.shared.layout l._walk l.fn.key (bound l.fn.side l.from) l.fn.pass.view.log l.pass.view.log;
+  walked : HaveNone l.fn.side l.shared.layout l._walk l.fn.key (bound l.fn.side l.from) l.fn.pass.view.log
+      l.pass.view.log;
   on : GoesOn l.fn.pass l.pass;
   only : OnlyLooks l.fn.pass l.pass;
 }

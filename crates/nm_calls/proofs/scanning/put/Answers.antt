@@ -11,5 +11,7 @@ returns-in-Entries-clause-keys c =
     let k = c.args.stretch.now.found in
     let out = c.args.out.now in
     let entries = c.args.entries.now in
-    subst (λ (w : What). take (n + 1) (keys_in w out (slice_set entries n (leaf_of k c.from.result))) ≡ take n (keys_in w out entries) ++ k ∷ []) (sym c.in-Entries.is)
-    (key_more entries n k c.from.result (subst (λ (w : What). n < length (keys_in w out entries)) c.in-Entries.is c.requires.room))
+    subst (λ (w : What). take (n + 1) (keys_in w out (slice_set entries n (leaf_of k c.from.result)))
+    ≡ take n (keys_in w out entries) ++ k ∷ []) (sym c.in-Entries.is)
+    (key_more entries n k c.from.result (subst (λ (w : What). n < length (keys_in w out entries)) c.in-Entries.is
+    c.requires.room))

@@ -5,11 +5,13 @@ use Rattle.nm_calls.proofs.scanning.scan.Goals as goal
 
 pub returns-in_default : goal.returns-in_default
 returns-in_default c =
-    after_lost_pin c.args.side c.args.shared.now.layout c.args.tries c.args.from c.args.to c.args.out.now c.args.pass.now c.pin.new.pass c.if-tries-eq0.false
+    after_lost_pin c.args.side c.args.shared.now.layout c.args.tries c.args.from c.args.to c.args.out.now
+    c.args.pass.now c.pin.new.pass c.if-tries-eq0.false
     c.pin.ensures.on c.in_default.ensures.moved c.in_default.ensures.rests c.pin.ensures.hands
 
 pub unpin-requires-clause-may : goal.unpin-requires-clause-may
-unpin-requires-clause-may c = may_end c.in-Ok._epoch c.pin.new.pass c.scan_pinned-scanned.new.pass c.in-Ok.ensures.at c.scan_pinned-scanned.ensures.only
+unpin-requires-clause-may c = may_end c.in-Ok._epoch c.pin.new.pass c.scan_pinned-scanned.new.pass c.in-Ok.ensures.at
+    c.scan_pinned-scanned.ensures.only
 
 pub returns : goal.returns
 returns c =
@@ -18,6 +20,10 @@ returns c =
     let p = c.scan_pinned-scanned.new.pass in
     let q = c.unpin.new.pass in
     let did = c.scan_pinned-scanned.ensures in
-    after_scan c.args.side c.args.shared.now.layout c.args.tries c.args.from c.args.to c.get.result c.in-Ok._epoch c.args.out.now c.scan_pinned-scanned.new.out o a p q c.scan_pinned-scanned.result c.get.ensures.number
-    c.pin.ensures.on c.in-Ok.ensures.pinned c.pin.ensures.hands did.on did.only did.looks c.unpin.ensures.took c.unpin.ensures.rests c.unpin.ensures.hands
-    c.know_run.ensures.seen c.know_run.ensures.fits c.requires.rests.unpinned c.know_run-2.ensures.seen did.told did.count did.next did.early did.given_up did.busy (IfErr-weaker c.scan_pinned-scanned.result _ _ (λ e kept. kept.0) did.kept)
+    after_scan c.args.side c.args.shared.now.layout c.args.tries c.args.from c.args.to c.get.result c.in-Ok._epoch
+    c.args.out.now c.scan_pinned-scanned.new.out o a p q c.scan_pinned-scanned.result c.get.ensures.number
+    c.pin.ensures.on c.in-Ok.ensures.pinned c.pin.ensures.hands did.on did.only did.looks c.unpin.ensures.took
+    c.unpin.ensures.rests c.unpin.ensures.hands
+    c.know_run.ensures.seen c.know_run.ensures.fits c.requires.rests.unpinned c.know_run-2.ensures.seen did.told
+    did.count did.next did.early did.given_up did.busy
+    (IfErr-weaker c.scan_pinned-scanned.result _ _ (λ e kept. kept.0) did.kept)

@@ -27,7 +27,12 @@ loop-turn-preserved c =
     let turns = held.turns in
     let wrote = did.wrote c.if-not-turn.false in
     record {
-      legs = (held.legs.0 + did.looks.0, omega (arith, legs, more), legs_then held.legs.0 did.looks.0 (leg_looks (reach c.args.shared.now.layout)) o.view.log p.view.log q.view.log held.legs.2 did.looks.3);
+      legs = (
+        held.legs.0 + did.looks.0,
+        omega (arith, legs, more),
+        legs_then held.legs.0 did.looks.0
+            (leg_looks (reach c.args.shared.now.layout)) o.view.log p.view.log q.view.log held.legs.2 did.looks.3,
+      );
       walks = going.0;
       ended = going.1;
       hit = did.hit;
@@ -35,10 +40,15 @@ loop-turn-preserved c =
       kept = did.kept;
       some = going.3;
       count = (did.count.0, did.count.1 ∙ held.count.1);
-      shown = did.told start (come_lies side start c.loop-turn._turn c.loop-turn.progress.at c.loop-turn.progress.count held.come) held.shown;
+      shown = did.told start (come_lies side start c.loop-turn._turn c.loop-turn.progress.at
+          c.loop-turn.progress.count held.come) held.shown;
       leaves = λ what. did.leaves what (held.leaves what);
-      come = inr (past_on side start c.loop-turn.progress.at c.turn.new.progress.at (come_lies side start c.loop-turn._turn c.loop-turn.progress.at c.loop-turn.progress.count held.come) going.4);
-      spent = spent_more p q did.looks.3 c.args.tries c.loop-turn._turn (c.loop-turn._turn + 1) c.loop-turn.progress.at c.turn.new.progress.at c.loop-turn.progress.spare c.turn.new.progress.spare held.spent (did.lost parts.1) parts.0;
+      come = inr (past_on side start c.loop-turn.progress.at c.turn.new.progress.at
+          (come_lies side start c.loop-turn._turn c.loop-turn.progress.at c.loop-turn.progress.count held.come)
+          going.4);
+      spent = spent_more p q did.looks.3 c.args.tries c.loop-turn._turn (c.loop-turn._turn + 1)
+          c.loop-turn.progress.at c.turn.new.progress.at c.loop-turn.progress.spare c.turn.new.progress.spare
+          held.spent (did.lost parts.1) parts.0;
       turns = omega (arith, turns, wrote);
       on = goes_then o p q held.on did.on;
       only = only_then o p q held.only did.only;
@@ -53,12 +63,17 @@ returns-then-not-turn-clause-looks c =
     let did = c.turn.ensures in
     let legs = held.legs.1 in
     let few = did.looks.1 in
-    let count = c.so_far.ensures.count in
-    (held.legs.0 + did.looks.0, omega (arith, legs, few, count), legs_then held.legs.0 did.looks.0 (leg_looks (reach c.args.shared.now.layout)) o.view.log p.view.log q.view.log held.legs.2 did.looks.3)
+    let count = c.so_far.ensures.count in (
+      held.legs.0 + did.looks.0,
+      omega (arith, legs, few, count),
+      legs_then held.legs.0 did.looks.0
+          (leg_looks (reach c.args.shared.now.layout)) o.view.log p.view.log q.view.log held.legs.2 did.looks.3,
+    )
 
 pub returns-then-not-turn-clause-leaves : goal.returns-then-not-turn-clause-leaves
 returns-then-not-turn-clause-leaves c what =
-    subst (λ (n : ℕ). All (IsLeafOf c.turn.new.pass) (take n c.turn.new.entries)) (sym c.so_far.ensures.count) (c.turn.ensures.leaves what (c.loop-turn.invariant.leaves what))
+    subst (λ (n : ℕ). All (IsLeafOf c.turn.new.pass) (take n c.turn.new.entries)) (sym c.so_far.ensures.count)
+    (c.turn.ensures.leaves what (c.loop-turn.invariant.leaves what))
 
 pub returns-then-not-turn-clause-early : goal.returns-then-not-turn-clause-early
 returns-then-not-turn-clause-early c =
@@ -70,9 +85,12 @@ returns-then-not-turn-clause-early c =
     let new = c.turn.new.progress in
     let did = c.turn.ensures in
     let q = c.turn.new.pass in
-    early_so side new.at end (EndsEarly L q c.args.tries room c.so_far.result.count) c.so_far.result.next c.so_far.ensures.next
-    (λ past. early L c.loop-turn.pass q did.looks.3 c.args.tries c.loop-turn._turn old.at old.spare new.spare room c.so_far.result.count c.loop-turn.invariant.spent (did.lost past)
-    (subst (λ (x : ℕ). (x ≡ room) ⊎ (new.spare ≡ 0) ⊎ ((j : ℕ) × IsTooFar L j q.view.log)) (sym c.so_far.ensures.count) (did.stops c.if-not-turn.true past)))
+    early_so side new.at end (EndsEarly L q c.args.tries room c.so_far.result.count) c.so_far.result.next
+    c.so_far.ensures.next
+    (λ past. early L c.loop-turn.pass q did.looks.3 c.args.tries c.loop-turn._turn old.at old.spare new.spare room
+    c.so_far.result.count c.loop-turn.invariant.spent (did.lost past)
+    (subst (λ (x : ℕ). (x ≡ room) ⊎ (new.spare ≡ 0) ⊎ ((j : ℕ) × IsTooFar L j q.view.log))
+    (sym c.so_far.ensures.count) (did.stops c.if-not-turn.true past)))
 
 pub returns-clause-early : goal.returns-clause-early
 returns-clause-early c =
@@ -84,4 +102,6 @@ returns-clause-early c =
     let some = held.some in
     let count = held.count.0 in
     let room = c.requires.room.1 in
-    early_so c.args.plan.now.side at c.args.plan.now.end (EndsEarly c.args.shared.now.layout c.loop-turn.pass c.args.tries c.args.plan.now.room c.so_far-2.result.count) c.so_far-2.result.next c.so_far-2.ensures.next (λ _. absurd (omega (arith, all, tries, turns, some, count, room)))
+    early_so c.args.plan.now.side at c.args.plan.now.end
+    (EndsEarly c.args.shared.now.layout c.loop-turn.pass c.args.tries c.args.plan.now.room c.so_far-2.result.count)
+    c.so_far-2.result.next c.so_far-2.ensures.next (λ _. absurd (omega (arith, all, tries, turns, some, count, room)))

@@ -18,10 +18,12 @@ use Rattle.nm_calls.proofs.stretches.read_on.Goals as goal
 use Rattle.nm_calls.proofs.stretches.read_on.Goals.{then-is_null-via-then-is_null, then-is_null-via-else-is_null+then-on-stretch, then-is_null-via-else-is_null+else-on-stretch+then-stretch-on}
 
 pub read_node-on-requires-clause-known : goal.read_node-on-requires-clause-known
-read_node-on-requires-clause-known c = subst (λ (x : ℕ). Tells c.args.pass.now (KnowsSlot x)) (sym c.slot-node.ensures) c.requires.known
+read_node-on-requires-clause-known c = subst (λ (x : ℕ). Tells c.args.pass.now (KnowsSlot x))
+    (sym c.slot-node.ensures) c.requires.known
 
 pub look_edge-right-requires-clause-known : goal.look_edge-right-requires-clause-known
-look_edge-right-requires-clause-known c = c.read_node-on.ensures.on.keeps (KnowsSlot c.slot-node.result) (subst (λ (x : ℕ). Tells c.args.pass.now (KnowsSlot x)) (sym c.slot-node.ensures) c.requires.known)
+look_edge-right-requires-clause-known c = c.read_node-on.ensures.on.keeps (KnowsSlot c.slot-node.result)
+    (subst (λ (x : ℕ). Tells c.args.pass.now (KnowsSlot x)) (sym c.slot-node.ensures) c.requires.known)
 
 pub returns-then-is_null-clause-walks : goal.returns-then-is_null-clause-walks
 returns-then-is_null-clause-walks c end n w all =
@@ -41,7 +43,8 @@ returns-then-is_null-clause-walks c end n w all =
             | then-is_null-via-else-is_null+then-on-stretch v ↦ inl v.if-on-stretch.true
             | then-is_null-via-else-is_null+else-on-stretch+then-stretch-on v ↦ inr v.if-stretch-on.true
           ]),
-      stretches_still side end 0 p q (read_added d.low d.next.slot p.view.log q.view.log on looks) did.on c.args.stretches.now.items all,
+      stretches_still side end 0 p q (read_added d.low d.next.slot p.view.log q.view.log on looks) did.on
+          c.args.stretches.now.items all,
     )
 
 pub returns-clause-walks : goal.returns-clause-walks
@@ -63,10 +66,15 @@ returns-clause-walks c end n w all =
     let more = c.is_null.ensures.no c.if-is_null.false in
     let lower : Stretch = record { low = d.low; high = on.found; next = on.next; found = on.found } in
     let upper : Stretch = record { low = on.found; high = d.high; next = e; found = on.found } in
-    chosen side (IsStretch side end (n + 1) z) (IsStretch side end 0 z) c.args.stretches.now.items c.choose.new.stretches.items lower upper c.choose.result c.choose.ensures
-    (stretches_still side end 0 q z (look_added q z d.next.slot Right e step) then.on c.args.stretches.now.items (stretches_still side end 0 p q (read_added d.low d.next.slot p.view.log q.view.log on looks) did.on c.args.stretches.now.items all))
-    (lower_still side end n p q d on looks told w c.requires.some more c.if-on-stretch.false c.if-stretch-on.false z e step then.on edge)
-    (upper_on side end n p q d on looks told w c.requires.some more c.if-on-stretch.false c.if-stretch-on.false z e step then.on edge)
+    chosen side (IsStretch side end (n + 1) z) (IsStretch side end 0 z) c.args.stretches.now.items
+    c.choose.new.stretches.items lower upper c.choose.result c.choose.ensures
+    (stretches_still side end 0 q z (look_added q z d.next.slot Right e step) then.on c.args.stretches.now.items
+    (stretches_still side end 0 p q (read_added d.low d.next.slot p.view.log q.view.log on looks) did.on
+    c.args.stretches.now.items all))
+    (lower_still side end n p q d on looks told w c.requires.some more c.if-on-stretch.false c.if-stretch-on.false z
+    e step then.on edge)
+    (upper_on side end n p q d on looks told w c.requires.some more c.if-on-stretch.false c.if-stretch-on.false z e
+    step then.on edge)
     (stretch_sooner side end (n + 1) z)
 
 pub returns-then-is_null-clause-hit : goal.returns-then-is_null-clause-hit
@@ -77,7 +85,8 @@ returns-then-is_null-clause-hit c end n w null le less =
     let on = c.read_node-on.result in
     let did = c.read_node-on.ensures in
     let is = c.slot-node.ensures in
-    leaf_on c.args.side end n p q d on (subst (λ (x : ℕ). Reads d.low x p.view.log q.view.log on) is did.looks) (subst (λ (x : ℕ). OnwardTold p q d.low x on.found on.side on.next) is did.told) w c.requires.some
+    leaf_on c.args.side end n p q d on (subst (λ (x : ℕ). Reads d.low x p.view.log q.view.log on) is did.looks)
+    (subst (λ (x : ℕ). OnwardTold p q d.low x on.found on.side on.next) is did.told) w c.requires.some
     (subst (λ (x : ℕ). IsLeafRead x p.view.log q.view.log on) is did.leaf) null le less
 
 pub returns-clause-hit : goal.returns-clause-hit
@@ -99,7 +108,9 @@ returns-clause-hit c end n w null le less =
     let more = c.is_null.ensures.no c.if-is_null.false in
     let lower : Stretch = record { low = d.low; high = on.found; next = on.next; found = on.found } in
     let upper : Stretch = record { low = on.found; high = d.high; next = e; found = on.found } in
-    (chosen side (λ (x : Stretch). x.next.slot ≡ 0 → HasEndedAt z x.found d.next.slot) (λ (x : Stretch). ⊤) c.args.stretches.now.items c.choose.new.stretches.items lower upper c.choose.result c.choose.ensures
+    (chosen side (λ (x : Stretch). x.next.slot ≡ 0 → HasEndedAt z x.found d.next.slot) (λ (x : Stretch). ⊤)
+    c.args.stretches.now.items c.choose.new.stretches.items lower upper c.choose.result c.choose.ensures
     (λ k x below. tt) (λ none. absurd (more none))
-    (leaf_right side end n p q d on looks told w c.requires.some more c.if-on-stretch.false c.if-stretch-on.false z e step then.on edge)
+    (leaf_right side end n p q d on looks told w c.requires.some more c.if-on-stretch.false c.if-stretch-on.false z e
+    step then.on edge)
     (λ x is'. tt)).0 null

@@ -24,7 +24,8 @@ loop-node-init c =
     }
 
 pub read_on-on-requires-clause-pinned : goal.read_on-on-requires-clause-pinned
-read_on-on-requires-clause-pinned c = pinned_in_still c.args.shared.now c.args.pass.now c.loop-node.pass c.loop-node.invariant.on c.requires.pinned
+read_on-on-requires-clause-pinned c = pinned_in_still c.args.shared.now c.args.pass.now c.loop-node.pass
+    c.loop-node.invariant.on c.requires.pinned
 
 pub read_on-on-requires-clause-known : goal.read_on-on-requires-clause-known
 read_on-on-requires-clause-known c = c.loop-node.invariant.walks.known (c.is_null.ensures.no c.if-is_null.false)
@@ -42,11 +43,13 @@ loop-node-preserved c =
     let layout = ap reach c.layout-layout.ensures in
     record {
       inside = omega (arith, below, size, layout);
-      looks = looks_in ((c.loop-node._node + 1) * 4) o.view.log q.view.log (omega arith) (looks_then o.view.log p.view.log q.view.log held.looks did.looks);
+      looks = looks_in ((c.loop-node._node + 1) * 4) o.view.log q.view.log (omega arith)
+          (looks_then o.view.log p.view.log q.view.log held.looks did.looks);
       walks = walked.0;
       kept = walked.1;
       entry = did.entry ∙ held.entry;
-      hit = λ what. subst (EndsAt q c.read_on-on.result) (sym c.slot.ensures) (did.hit c.args.plan.now.end c.loop-node._node held.walks);
+      hit = λ what. subst (EndsAt q c.read_on-on.result) (sym c.slot.ensures)
+          (did.hit c.args.plan.now.end c.loop-node._node held.walks);
       on = goes_then o p q held.on did.on;
       only = only_then o p q held.only did.only;
     }
@@ -55,19 +58,23 @@ pub returns-then-is_null-clause-looks : goal.returns-then-is_null-clause-looks
 returns-then-is_null-clause-looks c =
     let held = c.loop-node.invariant in
     let inside = held.inside in
-    looks_in (reach c.args.shared.now.layout * 4) c.args.pass.now.view.log c.loop-node.pass.view.log (omega (arith, inside)) held.looks
+    looks_in (reach c.args.shared.now.layout * 4) c.args.pass.now.view.log c.loop-node.pass.view.log
+    (omega (arith, inside)) held.looks
 
 pub returns-then-is_null-clause-walks : goal.returns-then-is_null-clause-walks
-returns-then-is_null-clause-walks c = stretch_sooner c.args.plan.now.side c.args.plan.now.end c.loop-node._node c.loop-node.pass c.loop-node.stretch c.loop-node.invariant.walks
+returns-then-is_null-clause-walks c = stretch_sooner c.args.plan.now.side c.args.plan.now.end c.loop-node._node
+    c.loop-node.pass c.loop-node.stretch c.loop-node.invariant.walks
 
 pub returns-clause-looks : goal.returns-clause-looks
 returns-clause-looks c =
     let held = c.loop-node.invariant in
     let inside = held.inside in
-    looks_in (reach c.args.shared.now.layout * 4) c.args.pass.now.view.log c.loop-node.pass.view.log (omega (arith, inside)) held.looks
+    looks_in (reach c.args.shared.now.layout * 4) c.args.pass.now.view.log c.loop-node.pass.view.log
+    (omega (arith, inside)) held.looks
 
 pub returns-clause-walks : goal.returns-clause-walks
-returns-clause-walks c = stretch_sooner c.args.plan.now.side c.args.plan.now.end c.loop-node._node c.loop-node.pass c.loop-node.stretch c.loop-node.invariant.walks
+returns-clause-walks c = stretch_sooner c.args.plan.now.side c.args.plan.now.end c.loop-node._node c.loop-node.pass
+    c.loop-node.stretch c.loop-node.invariant.walks
 
 pub returns-clause-long : goal.returns-clause-long
 returns-clause-long c some =
@@ -78,4 +85,6 @@ returns-clause-long c some =
     let end = c.loop-node-test.false in
     let size = c.reach-node-end.ensures.reach in
     let layout = ap reach c.layout-layout.ensures in
-    too_far c.args.shared.now p (pinned_in_still c.args.shared.now o p held.on c.requires.pinned) c.args.plan.now.side c.args.plan.now.end c.loop-node._node c.loop-node.stretch held.walks some (omega (arith, inside, end, size, layout))
+    too_far c.args.shared.now p (pinned_in_still c.args.shared.now o p held.on c.requires.pinned)
+    c.args.plan.now.side c.args.plan.now.end c.loop-node._node c.loop-node.stretch held.walks some
+    (omega (arith, inside, end, size, layout))

@@ -32,13 +32,15 @@ loop-node-init c =
       came = subst (HasPassed 0 (after_entries (length o.view.log) q).view.log c.args.key) (sym c.slot-node.ensures)
           (comes_first_after (length o.view.log) o q edge did.step (omega arith) there c.args.key);
       known = subst (λ (n : ℕ). Tells q (KnowsSlot n)) (sym c.slot-node.ensures) (did.told.learned.leads there);
-      within = subst (λ (n : ℕ). n ≤ c.args.shared.now.layout.nodes) (sym c.slot-node.ensures) (subst (λ (L : Layout). edge.slot ≤ L.nodes) c.requires.pinned.own.layout did.told.within);
+      within = subst (λ (n : ℕ). n ≤ c.args.shared.now.layout.nodes) (sym c.slot-node.ensures)
+          (subst (λ (L : Layout). edge.slot ≤ L.nodes) c.requires.pinned.own.layout did.told.within);
       on = did.on;
       only = did.only;
     }
 
 pub read_node-on-requires-clause-pinned : goal.read_node-on-requires-clause-pinned
-read_node-on-requires-clause-pinned c = pinned_in_still c.args.shared.now c.args.pass.now c.loop-node.pass c.loop-node.invariant.on c.requires.pinned
+read_node-on-requires-clause-pinned c = pinned_in_still c.args.shared.now c.args.pass.now c.loop-node.pass
+    c.loop-node.invariant.on c.requires.pinned
 
 pub loop-node-preserved : goal.loop-node-preserved
 loop-node-preserved c =
@@ -58,13 +60,15 @@ loop-node-preserved c =
       inside = omega (arith, below, size, layout);
       some = λ none. some (sym c.slot-node-in-loop-node.ensures ∙ none);
       looks = looks_in (1 + (c.loop-node._node + 1) * (3 * 1)) o.view.log q.view.log (omega arith)
-          (looks_then o.view.log p.view.log q.view.log held.looks (read_added c.args.key x p.view.log q.view.log on did.looks));
+          (looks_then o.view.log p.view.log q.view.log held.looks
+          (read_added c.args.key x p.view.log q.view.log on did.looks));
       came = subst (HasPassed (c.loop-node._node + 1) (after_entries from q).view.log c.args.key)
           (sym c.slot-node-in-loop-node.ensures)
           (comes_on (after_entries from p) (after_entries from q) c.loop-node._node c.args.key x on
           (reads_after from c.args.key x p.view.log q.view.log on (not_shorter o p held.looks) did.looks) held.came
           some);
-      known = subst (λ (n : ℕ). Tells q (KnowsSlot n)) (sym c.slot-node-in-loop-node.ensures) (did.told.learned.leads some);
+      known = subst (λ (n : ℕ). Tells q (KnowsSlot n)) (sym c.slot-node-in-loop-node.ensures)
+          (did.told.learned.leads some);
       within = subst (λ (n : ℕ). n ≤ c.args.shared.now.layout.nodes) (sym c.slot-node-in-loop-node.ensures) did.within;
       on = goes_then o p q held.on did.on;
       only = only_then o p q held.only did.only;
@@ -86,7 +90,8 @@ returns-then-is_null c =
     let from = length o.view.log in
     record {
       looks = looks_in _ o.view.log q.view.log (omega (arith, below, size, layout))
-          (looks_then o.view.log p.view.log q.view.log held.looks (read_added c.args.key x p.view.log q.view.log on did.looks));
+          (looks_then o.view.log p.view.log q.view.log held.looks
+          (read_added c.args.key x p.view.log q.view.log on did.looks));
       ended = record {
         parent = held.came.0;
         side = held.came.1;
@@ -94,7 +99,8 @@ returns-then-is_null c =
             (reads_after from c.args.key x p.view.log q.view.log on (not_shorter o p held.looks) did.looks) held.came
             (c.is_null.ensures.yes c.if-is_null.true);
         high = did.told.high;
-        within = subst (λ (L : Layout). x ≤ L.nodes) (sym (own_still c.args.shared.now o q c.requires.pinned.own went.same).layout) held.within;
+        within = subst (λ (L : Layout). x ≤ L.nodes) (sym
+            (own_still c.args.shared.now o q c.requires.pinned.own went.same).layout) held.within;
       };
       gave = tt;
       on = went;

@@ -9,10 +9,13 @@ use Rattle.nm_calls.proofs.PlainLooks.{may_end}
 use Rattle.nm_calls.proofs.values.get.Goals as goal
 
 pub returns-in_default : goal.returns-in_default
-returns-in_default c = get_without_pin c.args.shared.now.layout c.args.tries c.args.key c.args.pass.now c.pin.new.pass c.if-tries-eq0.false c.pin.ensures.on c.in_default.ensures.moved c.in_default.ensures.rests c.pin.ensures.hands
+returns-in_default c = get_without_pin c.args.shared.now.layout c.args.tries c.args.key c.args.pass.now
+    c.pin.new.pass c.if-tries-eq0.false c.pin.ensures.on c.in_default.ensures.moved c.in_default.ensures.rests
+    c.pin.ensures.hands
 
 pub unpin-requires-clause-may : goal.unpin-requires-clause-may
-unpin-requires-clause-may c = may_end c.in-Ok._epoch c.pin.new.pass c.look_up-found.new.pass c.in-Ok.ensures.at c.look_up-found.ensures.only
+unpin-requires-clause-may c = may_end c.in-Ok._epoch c.pin.new.pass c.look_up-found.new.pass c.in-Ok.ensures.at
+    c.look_up-found.ensures.only
 
 pub returns : goal.returns
 returns c =
@@ -29,5 +32,8 @@ returns c =
     c.pin.ensures.on on k is_key q c.unpin.ensures.took c.know_run-2.ensures.seen (length a.view.log) found
     (subst (λ (j : ℕ). HasLookedUp (length a.view.log) p j found) c.get.ensures.number h))
     c.look_up-found.ensures.found in
-    get_after_walk c.args.shared.now.layout c.args.tries k c.in-Ok._epoch o a p q r c.pin.ensures.on c.in-Ok.ensures.pinned c.pin.ensures.hands on c.look_up-found.ensures.only c.look_up-found.ensures.looks
-    c.unpin.ensures.took c.unpin.ensures.rests c.unpin.ensures.hands moment (subst (λ (j : ℕ). IfErr r (λ e. GiveUp c.args.shared.now.layout (j ∷ []) a.view.log p.view.log)) c.get.ensures.number c.look_up-found.ensures.missed) c.look_up-found.ensures.busy
+    get_after_walk c.args.shared.now.layout c.args.tries k c.in-Ok._epoch o a p q r c.pin.ensures.on
+    c.in-Ok.ensures.pinned c.pin.ensures.hands on c.look_up-found.ensures.only c.look_up-found.ensures.looks
+    c.unpin.ensures.took c.unpin.ensures.rests c.unpin.ensures.hands moment
+    (subst (λ (j : ℕ). IfErr r (λ e. GiveUp c.args.shared.now.layout (j ∷ []) a.view.log p.view.log))
+    c.get.ensures.number c.look_up-found.ensures.missed) c.look_up-found.ensures.busy

@@ -24,5 +24,6 @@ returns c =
           c.look_up-answer.ensures.on.same c.look_up-answer.ensures.on.past k is_key c.know_run-2.ensures.seen found
           (subst (λ (j : ℕ). HasLookedUp (length p.view.log) q j found) same h)) c.look_up-answer.ensures.found;
       busy = c.look_up-answer.ensures.busy;
-      missed = subst (λ (j : ℕ). IfErr r (λ e. GiveUp c.args.shared.now.layout (j ∷ []) p.view.log q.view.log)) same c.look_up-answer.ensures.missed;
+      missed = subst (λ (j : ℕ). IfErr r (λ e. GiveUp c.args.shared.now.layout (j ∷ []) p.view.log q.view.log)) same
+          c.look_up-answer.ensures.missed;
     }

@@ -17,20 +17,24 @@ returns-clause-found c =
     let leaf = c.in-Some.leaf in
     let ended = c.in-Some.ensures.ended in
     let looks = c.look_value-value.ensures.looks in
-    let walk = subst (λ (v : ℕ). WalkEnds k (since_pin [] (after_entries n p).view.log) leaf.slot ended.parent ended.side v)
+    let walk = subst (λ (v : ℕ). WalkEnds k (since_pin [] (after_entries n p).view.log) leaf.slot ended.parent
+    ended.side v)
     c.if-leaf-key.false ended.walk in
     let same = c.find_leaf.ensures.on.same in
-    let layout : IsLayout p.view.layout = subst (λ (x : PassView). IsLayout x.view.layout) (sym same) c.requires.pinned.run.fits in
+    let layout : IsLayout p.view.layout = subst (λ (x : PassView). IsLayout x.view.layout) (sym same)
+    c.requires.pinned.run.fits in
     let fits = subst (λ (x : PassView). IsLayout x.view.layout) (sym looks.same) layout in
     read_later n p q (ap (λ (x : PassView). x.view.log) looks.same) fits k leaf.slot c.look_value-value.result
     c.requires.key (ended.parent, ended.side, walk) looks.seen c.look_value-value.ensures.value
 
 pub look_value-value-requires-clause-own : goal.look_value-value-requires-clause-own
-look_value-value-requires-clause-own c = own_still c.args.shared.now c.args.pass.now c.find_leaf.new.pass c.requires.pinned.own c.find_leaf.ensures.on.same
+look_value-value-requires-clause-own c = own_still c.args.shared.now c.args.pass.now c.find_leaf.new.pass
+    c.requires.pinned.own c.find_leaf.ensures.on.same
 
 pub look_value-value-requires-clause-slot : goal.look_value-value-requires-clause-slot
 look_value-value-requires-clause-slot c =
-    let own = own_still c.args.shared.now c.args.pass.now c.find_leaf.new.pass c.requires.pinned.own c.find_leaf.ensures.on.same in
+    let own = own_still c.args.shared.now c.args.pass.now c.find_leaf.new.pass c.requires.pinned.own
+    c.find_leaf.ensures.on.same in
     let leaf = c.in-Some.leaf in
     let same : leaf.key ≡ c.args.key = c.if-leaf-key.false in
     let le = c.requires.key in

@@ -7,6 +7,8 @@ overflow_sub-below c = zeros_below c.args.key c.args.other c.ranges.key.fits c.r
 
 pub returns : goal.returns
 returns c = elim c.if-key-other.branch [
-  | then-key-other w ↦ when_less c.args.key c.args.other c.ranges.key.fits c.ranges.other.fits c.requires c.if-key-other.greater w.if-key-other.true w.greater-is
-  | else-key-other w ↦ when_greater c.args.key c.args.other c.ranges.key.fits c.ranges.other.fits c.requires c.if-key-other.greater w.if-key-other.false w.greater-is
+  | then-key-other w ↦ when_less c.args.key c.args.other c.ranges.key.fits c.ranges.other.fits c.requires
+      c.if-key-other.greater w.if-key-other.true w.greater-is
+  | else-key-other w ↦ when_greater c.args.key c.args.other c.ranges.key.fits c.ranges.other.fits c.requires
+      c.if-key-other.greater w.if-key-other.false w.greater-is
 ]

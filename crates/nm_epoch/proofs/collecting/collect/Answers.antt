@@ -16,7 +16,8 @@ use Rattle.nm_epoch.proofs.Sighted.{held_seen, seen_retires}
 use Rattle.nm_epoch.proofs.collecting.collect.Goals as goal
 
 pub collect_fronts-freed-requires-clause-queues : goal.collect_fronts-freed-requires-clause-queues
-collect_fronts-freed-requires-clause-queues c = held_seen c.args.pass.now c.read-epoch.new.pass c.read-epoch.result c.read-epoch.ensures.on.same c.read-epoch.ensures.step c.args.queues.now c.requires.queues
+collect_fronts-freed-requires-clause-queues c = held_seen c.args.pass.now c.read-epoch.new.pass c.read-epoch.result
+    c.read-epoch.ensures.on.same c.read-epoch.ensures.step c.args.queues.now c.requires.queues
 
 pub returns-clause-after : goal.returns-clause-after
 returns-clause-after c =
@@ -26,7 +27,8 @@ returns-clause-after c =
     let read = c.read-epoch.ensures in
     let frees = c.collect_fronts-freed.ensures.after in
     let least = read.on.run.fits.least in
-    let has : AreHeld (knowledge p.view) c.args.queues.now = held_seen o p e read.on.same read.step c.args.queues.now c.requires.queues in
+    let has : AreHeld (knowledge p.view) c.args.queues.now = held_seen o p e read.on.same read.step c.args.queues.now
+    c.requires.queues in
     record {
       on = continues_then _ _ _ read.on frees.on;
       part = (p.view.log, read.step, frees.entries);
@@ -34,10 +36,14 @@ returns-clause-after c =
       lost = frees.lost;
       blocks = frees.blocks;
       queues = frees.queues;
-      others = λ origin none'. frees.others origin none' ∙ ap (λ (ls : List (Option Ledger)). held ls origin) read.ledgers;
+      others = λ origin none'. frees.others origin none'
+          ∙ ap (λ (ls : List (Option Ledger)). held ls origin) read.ledgers;
       retired = λ origin. frees.only.retired origin ∙ seen_retires o p e read.ledgers origin;
-      steps = subst (λ (L : Layout). length c.collect_fronts-freed.new.pass.view.log ≤ length o.view.log + L.nodes) (ap (λ (s : PassView). s.view.layout) read.on.same ∙ c.requires.own.layout)
-          (collect_steps p.view.layout (knowledge p.view) e c.args.queues.now o.view.log c.collect_fronts-freed.new.pass.view.log (apart_in_run p read.on.run) has (omega (arith, least)) (p.view.log, read.step, frees.entries));
+      steps = subst (λ (L : Layout). length c.collect_fronts-freed.new.pass.view.log ≤ length o.view.log + L.nodes)
+          (ap (λ (s : PassView). s.view.layout) read.on.same ∙ c.requires.own.layout)
+          (collect_steps p.view.layout (knowledge p.view) e c.args.queues.now o.view.log
+          c.collect_fronts-freed.new.pass.view.log (apart_in_run p read.on.run) has (omega (arith, least))
+          (p.view.log, read.step, frees.entries));
       newest = is_newest o p e read.step read.seen read.on.run;
       seen = ap (λ (b : Brief). b.seen) frees.only.epochs_are ∙ read.seen;
       settles = settled_on o p c.collect_fronts-freed.new.pass read.settles frees.only;

@@ -15,7 +15,13 @@ use Rattle.nm_epoch.proofs.handing.hand_out_front.Goals as goal
 pub loop-node-init : goal.loop-node-init
 loop-node-init c =
     record {
-      handing = ([], handing_begins c.args.epoch c.args.held.now.origin c.args.pass.now c.args.held.now.queue.items (collecting_begins c.args.epoch c.args.held.now.origin c.args.pass.now c.args.held.now.queue.items c.requires.queue), sym (append-nil (take c.args.count c.args.out.now)));
+      handing = (
+        [],
+        handing_begins c.args.epoch c.args.held.now.origin c.args.pass.now c.args.held.now.queue.items
+            (collecting_begins c.args.epoch c.args.held.now.origin c.args.pass.now c.args.held.now.queue.items
+            c.requires.queue),
+        sym (append-nil (take c.args.count c.args.out.now)),
+      );
       on = search rules;
       more = omega arith;
       room = c.requires.room;

@@ -6,7 +6,8 @@ use Rattle.nm_epoch.proofs.handing.hand_out_front.Given as goal
 
 abbrev pub invariant-loop-node : goal.invariant-loop-node
 invariant-loop-node l = record {
-  handing : (values : List ℕ) × IsHanding l.epoch l.fn.held.origin l.fn.pass l.fn.held.queue.items l.pass l.held.queue.items values
+  handing : (values : List ℕ) × IsHanding l.epoch l.fn.held.origin l.fn.pass l.fn.held.queue.items l.pass
+      l.held.queue.items values
       × (take l.written l.out ≡ take l.fn.count l.fn.out ++ values);
   on : Continues l.fn.pass l.pass;
   more : l.fn.count ≤ l.written;

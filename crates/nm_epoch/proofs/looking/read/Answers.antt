@@ -17,7 +17,9 @@ returns c =
       step = search rules;
       seen = read_seen c.args.pass.now c.sight.new.pass reply c.epoch_of.result step c.epoch_of.ensures;
       small = search rules;
-      ledgers = ledgers_after c.args.pass.now c.sight.new.pass reply c.epoch_of.result step c.sight.ensures.reply c.epoch_of.ensures;
+      ledgers = ledgers_after c.args.pass.now c.sight.new.pass reply c.epoch_of.result step c.sight.ensures.reply
+          c.epoch_of.ensures;
       settles = settles c.args.pass.now c.sight.new.pass reply step c.sight.ensures.reply;
-      hands = hands_kept c.args.pass.now c.sight.new.pass Sight reply step refl (sight_is_silent (epochs c.args.pass.now) reply c.sight.ensures.reply);
+      hands = hands_kept c.args.pass.now c.sight.new.pass Sight reply step refl
+          (sight_is_silent (epochs c.args.pass.now) reply c.sight.ensures.reply);
     }

@@ -11,8 +11,11 @@ loop-done-preserved g c =
     let n = c.in-Ok.n in
     let text = c.args.text.now in
     let bound = rw (take_rest text i) at c.in-Ok.ensures.bound in
-    let took : Appends (contents c.loop-done.writer) (contents c.write.new.self) (take n (drop i text)) = rw (take_rest text i) at c.in-Ok.ensures.bytes in
+    let took : Appends (contents c.loop-done.writer) (contents c.write.new.self) (take n (drop i text)) = rw
+    (take_rest text i) at c.in-Ok.ensures.bytes in
     record {
       within = omega (arith, length-drop i text, bound, c.loop-done-test.true);
-      written = appends_then (contents c.args.writer.now) (contents c.loop-done.writer) (contents c.write.new.self) (take i text) (take n (drop i text)) (take (i + n) text) c.loop-done.invariant.written took (take_sum i n text);
+      written = appends_then (contents c.args.writer.now) (contents c.loop-done.writer) (contents c.write.new.self)
+          (take i text) (take n (drop i text)) (take (i + n) text) c.loop-done.invariant.written took
+          (take_sum i n text);
     }

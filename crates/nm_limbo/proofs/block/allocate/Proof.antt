@@ -95,8 +95,10 @@ module _ (E : El) (Z : Al) where
   abbrev Out : RattleType
   Out = RS.the_row Both AE.the_row
 
-module _ (E : El) (Z : Al) {M : Type 1} {𝓤 : Ura M} (𝓛 : Logic 𝓤) (at_mem : Memory → SProp 𝓤) (run : Routine → Fun 𝓤) (C : Calls 𝓤 𝓛.H) (Λ : Loops 𝓤 𝓛.H) (fm : FmC 𝓤 𝓛.H 𝓛.laws C)
-    (callee : Triple 𝓤 (C (takes_key Z)) (Takes Z 𝓛 at_mem run)) (κ κ₁ κ₂ : Lft) (q q₁ q₂ : Share) (short : κ ⊑ κ₂) (within : κ₂ ⊑ Z.row.lives) (rb ro : ℕ) (a : Z.row.Denot) (us0 : List Val) where
+module _ (E : El) (Z : Al) {M : Type 1} {𝓤 : Ura M} (𝓛 : Logic 𝓤) (at_mem : Memory → SProp 𝓤) (run : Routine → Fun 𝓤)
+    (C : Calls 𝓤 𝓛.H) (Λ : Loops 𝓤 𝓛.H) (fm : FmC 𝓤 𝓛.H 𝓛.laws C)
+    (callee : Triple 𝓤 (C (takes_key Z)) (Takes Z 𝓛 at_mem run)) (κ κ₁ κ₂ : Lft) (q q₁ q₂ : Share) (short : κ ⊑ κ₂)
+    (within : κ₂ ⊑ Z.row.lives) (rb ro : ℕ) (a : Z.row.Denot) (us0 : List Val) where
   open 𝓛 use {H, A}
 
   abbrev self : Bor Z.row.Denot
@@ -111,10 +113,12 @@ module _ (E : El) (Z : Al) {M : Type 1} {𝓤 : Ura M} (𝓛 : Logic 𝓤) (at_m
   abbrev Post : Val → SProp 𝓤
   Post = (walk_of 𝓛 (ended E Z) (stayed E Z) (clauses E Z 𝓛 at_mem run)).post bound
 
-  exits : (r : (Out E Z).Denot) (v : Val) → IfOk r (λ s. (s.1.at ≡ s.0.ptr) × (s.1.alloc ≡ a)) → ent 𝓤 (⋆ 𝓛 (‵ ((Out E Z).own_val r (v ∷ [])) ∷ ‵ (flft κ q) ∷ others ∷ [])) (Post v)
+  exits : (r : (Out E Z).Denot) (v : Val) → IfOk r (λ s. (s.1.at ≡ s.0.ptr) × (s.1.alloc ≡ a))
+      → ent 𝓤 (⋆ 𝓛 (‵ ((Out E Z).own_val r (v ∷ [])) ∷ ‵ (flft κ q) ∷ others ∷ [])) (Post v)
   exits r v g =
       qed 𝓛 (‵ ((Out E Z).own_val r (v ∷ [])) ∷ ‵ (flft κ q) ∷ others ∷ []) ∵
-      suffices ! _ (ends_at 𝓛 (ended E Z) (stayed E Z) (clauses E Z 𝓛 at_mem run) bound v r (tt, tt) (tt, tt)) $ says ! g $
+      suffices ! _ (ends_at 𝓛 (ended E Z) (stayed E Z) (clauses E Z 𝓛 at_mem run) bound v r (tt, tt) (tt, tt)) $ says
+      ! g $
       move ! (1 ∷ 2 ∷ []) $ join ! $ frame ! $ nothing ! $ nothing ! $ fjoin ! $ done !
 
   abbrev Had : List (Item 𝓤)
@@ -125,13 +129,18 @@ module _ (E : El) (Z : Al) {M : Type 1} {𝓤 : Ura M} (𝓛 : Logic 𝓤) (at_m
       qed 𝓛 Had ∵ enter ! C Λ (function E Z) (vptr rb ro ∷ []) _ $ alloc_all ! (λ l. pass_all ! refl ((tt, tt), tt) $
       let En : Env 𝓤 H = env (function E Z).locals l in
       let both : Body = head (after 1 (function E Z).body) in
-      let Then : After 𝓤 H = any_q (after_seq 𝓤 H (Wp 𝓤 H C Λ En (after 2 (function E Z).body) (at_return 𝓤 H En Post)) (at_return 𝓤 H En Post)) in
+      let Then : After 𝓤 H = any_q (after_seq 𝓤 H (Wp 𝓤 H C Λ En (after 2 (function E Z).body)
+      (at_return 𝓤 H En Post)) (at_return 𝓤 H En Post)) in
       let s : ℕ = capped (size (written E)) in
       let al : ℕ = capped (align (written E)) in
       let y : (Takes Z 𝓛 at_mem run).Ghost = at_takes Z 𝓛 at_mem run κ q (rb, ro) a s al (block E) in
-      use2 𝓛 (raw ((Takes Z 𝓛 at_mem run).pre y)) (Takes-goes Z 𝓛 at_mem run κ q (rb, ro) a (Incl-trans short within) s al (block E) (ap capped (size-raw (written E))) (ap capped (align-raw (written E))) (capped_fits (size (written E))) (capped_fits (align (written E)))) $
-      calls_at ! fm (Takes Z 𝓛 at_mem run) callee y (and_then ! (get ! refl) (and_then ! (size_word !) (and_then ! (align_word !) (no_more !)))) (λ v.
-      use1 𝓛 (later (raw (Answered Z 𝓛 at_mem run a (block E) v) ⊛ ‵ (flft κ q))) (Takes-gives Z 𝓛 at_mem run κ q (rb, ro) a s al (block E) v) $ await ! tt $ split ! $
+      use2 𝓛 (raw ((Takes Z 𝓛 at_mem run).pre y)) (Takes-goes Z 𝓛 at_mem run κ q (rb, ro) a (Incl-trans short within)
+      s al (block E) (ap capped (size-raw (written E))) (ap capped (align-raw (written E)))
+      (capped_fits (size (written E))) (capped_fits (align (written E)))) $
+      calls_at ! fm (Takes Z 𝓛 at_mem run) callee y (and_then ! (get ! refl)
+      (and_then ! (size_word !) (and_then ! (align_word !) (no_more !)))) (λ v.
+      use1 𝓛 (later (raw (Answered Z 𝓛 at_mem run a (block E) v) ⊛ ‵ (flft κ q)))
+      (Takes-gives Z 𝓛 at_mem run κ q (rb, ro) a s al (block E) v) $ await ! tt $ split ! $
       answers Z ! at_mem run a (block E) v
       (λ b o e.
       let p : Ptr = block_ptr b o in
@@ -140,43 +149,68 @@ module _ (E : El) (Z : Al) {M : Type 1} {𝓤 : Ura M} (𝓛 : Logic 𝓤) (at_m
       let made : Val = pair_val (word p) mark in
       let typed : Good (layout (Both E Z)) made = (tt, ((tt, tt), ((tt, tt), tt))) in
       let ok = first_Good (layout (Both E Z)) made typed in
-      lands_as ! e refl (Answer-typed true b o) $ first ! $ switches_on ! (get_tag ! (vrt ! refl (fld ! refl (stop !))) (whole !)) $ exec ! C Λ En (arm_body 0 both) Then $
-      sets ! (of_opd ! (get_in ! (vrt ! refl (fld ! refl (stop !))) (in_variant ! 0 0 refl refl (whole !)))) refl (tt, tt) $ sets ! (of_opd ! (get ! refl)) refl (tt, tt) $
-      sets ! (agg ! (and_then ! (get ! refl) (no_more !))) refl (word-Good [] p) $ sets ! (agg ! (no_more !)) refl (tt, tt) $
+      lands_as ! e refl (Answer-typed true b o) $ first ! $ switches_on !
+      (get_tag ! (vrt ! refl (fld ! refl (stop !))) (whole !)) $ exec ! C Λ En (arm_body 0 both) Then $
+      sets ! (of_opd ! (get_in ! (vrt ! refl (fld ! refl (stop !))) (in_variant ! 0 0 refl refl (whole !)))) refl
+      (tt, tt) $ sets ! (of_opd ! (get ! refl)) refl (tt, tt) $
+      sets ! (agg ! (and_then ! (get ! refl) (no_more !))) refl (word-Good [] p) $ sets ! (agg ! (no_more !)) refl
+      (tt, tt) $
       sets ! (agg ! (and_then ! (get ! refl) (no_more !))) refl (tt, (tt, tt)) $
       sets ! (agg ! (and_then ! (get ! refl) (and_then ! (get ! refl) (no_more !)))) refl typed $
       sets_last ! (agg ! (and_then ! (lit ! tt) (and_then ! (get ! refl) (no_more !)))) refl ok $
       exec ! C Λ En (after 2 (function E Z).body) (at_ret En Post) $ sets ! (of_opd ! (get ! refl)) refl ok $
-      use1 𝓛 (‵ (room_owns (R E) p) ⊛ ‵ (Rejoins E p)) (block_cut E 𝓛 b o small) $ split ! $ move ! (2 ∷ 1 ∷ []) $ fjoin ! $
-      use0 𝓛 (‵ ((Mark E).own_val (tt, tt) (mark ∷ []))) (mark_made E 𝓛) $ fjoin ! $ move ! (1 ∷ []) $ word_made ! p $ fjoin ! $
+      use1 𝓛 (‵ (room_owns (R E) p) ⊛ ‵ (Rejoins E p)) (block_cut E 𝓛 b o small) $ split ! $ move ! (2 ∷ 1 ∷ []) $
+      fjoin ! $
+      use0 𝓛 (‵ ((Mark E).own_val (tt, tt) (mark ∷ []))) (mark_made E 𝓛) $ fjoin ! $ move ! (1 ∷ []) $ word_made ! p
+      $ fjoin ! $
       use2 𝓛 (‵ ((Both E Z).own_val (room, deed) (made ∷ []))) (pair_of 𝓛 (Rm E) (Dd E Z) room deed (word p) mark) $
-      use1 𝓛 (‵ ((Out E Z).own_val (Ok (room, deed)) (live 0 (vcons made vnil) ∷ []))) (ok_of 𝓛 (Both E Z) AE.the_row (room, deed) made) $
-      returns ! (look_at ! 0 refl) $ free_all ! refl $ keep ! (0 ∷ 1 ∷ 2 ∷ []) $ by ! (exits (Ok (room, deed)) (live 0 (vcons made vnil)) (refl, refl)))
+      use1 𝓛 (‵ ((Out E Z).own_val (Ok (room, deed)) (live 0 (vcons made vnil) ∷ [])))
+      (ok_of 𝓛 (Both E Z) AE.the_row (room, deed) made) $
+      returns ! (look_at ! 0 refl) $ free_all ! refl $ keep ! (0 ∷ 1 ∷ 2 ∷ []) $ by !
+      (exits (Ok (room, deed)) (live 0 (vcons made vnil)) (refl, refl)))
       (λ e.
       let Refusal : RattleType = Struct (Declared.shape AE.the_type) in
       let none : Val = live 1 (vcons (vstruct vnil) vnil) in
-      lands_as ! e refl (Answer-typed false 0 0) $ first ! $ switches_on ! (get_tag ! (vrt ! refl (fld ! refl (stop !))) (whole !)) $ exec ! C Λ En (arm_body 1 both) Then $
-      sets ! (of_opd ! (get_in ! (vrt ! refl (fld ! refl (stop !))) (in_variant ! 1 0 refl refl (whole !)))) refl (tt, tt) $
-      sets_last ! (agg ! (and_then ! (lit ! tt) (and_then ! (get ! refl) (no_more !)))) refl (tt, (record { fits = lit< tt }, (tt, tt))) $
-      exec ! C Λ En (after 2 (function E Z).body) (at_ret En Post) $ sets ! (of_opd ! (get ! refl)) refl (tt, (record { fits = lit< tt }, (tt, tt))) $
-      owned ! Refusal (Is Refusal) (Struct-Makes 𝓛 (Declared.shape AE.the_type) tt) tt (vstruct vnil ∷ []) (tt, (refl, tt)) $
-      use1 𝓛 (‵ ((Out E Z).own_val (Err (record {})) (none ∷ []))) (err_of 𝓛 (Both E Z) AE.the_row (record {}) (vstruct vnil)) $
-      returns ! (look_at ! 0 refl) $ free_all ! refl $ keep ! (0 ∷ 1 ∷ 2 ∷ []) $ by ! (exits (Err (record {})) none tt))))
+      lands_as ! e refl (Answer-typed false 0 0) $ first ! $ switches_on !
+      (get_tag ! (vrt ! refl (fld ! refl (stop !))) (whole !)) $ exec ! C Λ En (arm_body 1 both) Then $
+      sets ! (of_opd ! (get_in ! (vrt ! refl (fld ! refl (stop !))) (in_variant ! 1 0 refl refl (whole !)))) refl
+      (tt, tt) $
+      sets_last ! (agg ! (and_then ! (lit ! tt) (and_then ! (get ! refl) (no_more !)))) refl
+      (tt, (record { fits = lit< tt }, (tt, tt))) $
+      exec ! C Λ En (after 2 (function E Z).body) (at_ret En Post) $ sets ! (of_opd ! (get ! refl)) refl
+      (tt, (record { fits = lit< tt }, (tt, tt))) $
+      owned ! Refusal (Is Refusal) (Struct-Makes 𝓛 (Declared.shape AE.the_type) tt) tt (vstruct vnil ∷ [])
+      (tt, (refl, tt)) $
+      use1 𝓛 (‵ ((Out E Z).own_val (Err (record {})) (none ∷ [])))
+      (err_of 𝓛 (Both E Z) AE.the_row (record {}) (vstruct vnil)) $
+      returns ! (look_at ! 0 refl) $ free_all ! refl $ keep ! (0 ∷ 1 ∷ 2 ∷ []) $ by !
+      (exits (Err (record {})) none tt))))
 
-  entry : 32 * sz E < 2 ^ 63 → ent 𝓤 (on_entry 𝓛 (ended E Z).signature (κ, (κ₁, (κ₂, tt))) (q, (q₁, (q₂, tt))) (self, tt) (us0, tt)) (WpFn 𝓤 H C Λ (function E Z) (us0 ++ []) Post)
+  entry : 32 * sz E < 2 ^ 63 → ent 𝓤 (on_entry 𝓛 (ended E Z).signature (κ, (κ₁, (κ₂, tt))) (q, (q₁, (q₂, tt)))
+      (self, tt) (us0, tt)) (WpFn 𝓤 H C Λ (function E Z) (us0 ++ []) Post)
   entry small =
-      qed 𝓛 ((‵ (flft κ q) ⊛ others) ∷ ‵ (owns (ShrRef (named 0) κ (P E Z) ∷ []) (self, tt) (us0, tt)) ∷ []) ∵ split ! $ move ! (2 ∷ []) $ fsplit ! $ fsplit ! $ feq_l ! (λ e0.
-      keep ! (0 ∷ 2 ∷ 3 ∷ []) $ by ! (subst (λ (ws : List Val). ent 𝓤 (⋆ 𝓛 Had) (WpFn 𝓤 H C Λ (function E Z) (ws ++ []) Post)) (sym e0) (walk small)))
+      qed 𝓛 ((‵ (flft κ q) ⊛ others) ∷ ‵ (owns (ShrRef (named 0) κ (P E Z) ∷ []) (self, tt) (us0, tt)) ∷ []) ∵ split
+      ! $ move ! (2 ∷ []) $ fsplit ! $ fsplit ! $ feq_l ! (λ e0.
+      keep ! (0 ∷ 2 ∷ 3 ∷ []) $ by ! (subst (λ (ws : List Val). ent 𝓤 (⋆ 𝓛 Had)
+      (WpFn 𝓤 H C Λ (function E Z) (ws ++ []) Post)) (sym e0) (walk small)))
 
-meets : (E : El) (Z : Al) {M : Type 1} {𝓤 : Ura M} (𝓛 : Logic 𝓤) (at_mem : Memory → SProp 𝓤) (run : Routine → Fun 𝓤) (𝓣 : Tables 𝓤 𝓛.H) → Triple 𝓤 (𝓣.C (takes_key Z)) (Takes Z 𝓛 at_mem run)
-    → Meets 𝓛 (ended E Z).signature (WpFn 𝓤 𝓛.H 𝓣.C 𝓣.Λ (function E Z)) (closing 𝓛 (ended E Z) (clauses E Z 𝓛 at_mem run))
+meets : (E : El) (Z : Al) {M : Type 1} {𝓤 : Ura M} (𝓛 : Logic 𝓤) (at_mem : Memory → SProp 𝓤) (run : Routine → Fun 𝓤)
+    (𝓣 : Tables 𝓤 𝓛.H) → Triple 𝓤 (𝓣.C (takes_key Z)) (Takes Z 𝓛 at_mem run)
+    → Meets 𝓛 (ended E Z).signature (WpFn 𝓤 𝓛.H 𝓣.C 𝓣.Λ (function E Z))
+    (closing 𝓛 (ended E Z) (clauses E Z 𝓛 at_mem run))
 meets E Z {𝓤 = 𝓤} 𝓛 at_mem run 𝓣 callee =
-    walk_Meets 𝓛 (ended E Z) (stayed E Z) (Goes-dropped 𝓛 3 (RefOf (0 ∷ []) tt (plain (λ _. P E Z)) (λ _. tt)) yes (λ κs x f. refl), tt)
+    walk_Meets 𝓛 (ended E Z) (stayed E Z) (
+      Goes-dropped 𝓛 3 (RefOf (0 ∷ []) tt (plain (λ _. P E Z)) (λ _. tt)) yes
+          (λ κs x f. refl),
+      tt,
+    )
     (clauses E Z 𝓛 at_mem run) (WpFn 𝓤 𝓛.H 𝓣.C 𝓣.Λ (function E Z)) (WpFn-mono 𝓤 𝓛.H 𝓛.laws 𝓣 (function E Z))
-    (λ z. let κs = z.0.0 in let qs = z.0.1 in let a = z.0.3 in let vss = z.0.4 in let On : SProp 𝓤 = on_entry 𝓛 (ended E Z).signature κs qs a vss in
+    (λ z. let κs = z.0.0 in let qs = z.0.1 in let a = z.0.3 in let vss = z.0.4 in
+    let On : SProp 𝓤 = on_entry 𝓛 (ended E Z).signature κs qs a vss in
     let asks = 32 * sz E < 2 ^ 63 in
     second 𝓤 (κs.1.0 ⊑ E.row.lives) (κs.1.1.0 ⊑ Z.row.lives) On (fact 𝓤 asks) (λ within. needs 𝓤 asks On
-    (entry E Z 𝓛 at_mem run 𝓣.C 𝓣.Λ (fm_of 𝓤 𝓛.H 𝓛.laws 𝓣) callee κs.0 κs.1.0 κs.1.1.0 qs.0 qs.1.0 qs.1.1.0 z.0.2.0 within a.0.ref_ptr.0 a.0.ref_ptr.1 a.0.now vss.0)))
+    (entry E Z 𝓛 at_mem run 𝓣.C 𝓣.Λ (fm_of 𝓤 𝓛.H 𝓛.laws 𝓣) callee κs.0 κs.1.0 κs.1.1.0 qs.0 qs.1.0 qs.1.1.0 z.0.2.0
+    within a.0.ref_ptr.0 a.0.ref_ptr.1 a.0.now vss.0)))
 
 pub allocate_spec : {M : Type 1} → stated.statement M
 unfolding tables_of
@@ -184,5 +218,6 @@ allocate_spec 𝓤 𝓛 𝓜 𝓡 wired X W LX LW g d dd met md =
     let E : El = record { row = X; laws = LX } in
     let Z : Al = record { row = W; laws = LW; g = g; d = d; drops = dd } in
     let 𝓣 : Tables 𝓤 𝓛.H = tables_of 𝓤 𝓛.H 𝓜 (tables 𝓤 𝓛.H 𝓜 𝓡 𝓡.env) in
-    entered 𝓤 𝓛.H (triple_of 𝓛 (ended E Z).signature (F.spec X W g d dd 𝓛 𝓜.mem 𝓡.returns)) 𝓣.C 𝓣.Λ (#self (args E Z)) (function E Z) (code.unfolded 𝓤 𝓛.H 𝓜 𝓡 wired (X, (W, tt)) d dd)
+    entered 𝓤 𝓛.H (triple_of 𝓛 (ended E Z).signature (F.spec X W g d dd 𝓛 𝓜.mem 𝓡.returns)) 𝓣.C 𝓣.Λ
+    (#self (args E Z)) (function E Z) (code.unfolded 𝓤 𝓛.H 𝓜 𝓡 wired (X, (W, tt)) d dd)
     (meets E Z 𝓛 𝓜.mem 𝓡.returns 𝓣 (met.allocate dd))

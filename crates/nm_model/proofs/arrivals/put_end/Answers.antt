@@ -7,6 +7,11 @@ use Rattle.nm_model.proofs.arrivals.put_end.Goals as goal
 
 pub loop-index-preserved : goal.loop-index-preserved
 loop-index-preserved c = elim c.if-goes_on_yet.branch [
-  | then-goes_on_yet w ↦ rw (w.arrivals-is, w.ended.ensures) (map_over_more (ended c.args.key c.args.slot c.args.side) c.args.arrivals.now.items c.loop-index.arrivals.items c.loop-index.index w.index-then-goes_on_yet.result.now (search rules) c.loop-index.invariant w.index-then-goes_on_yet.ensures)
-  | else-goes_on_yet w ↦ rw w.arrivals-is (map_over_kept (ended c.args.key c.args.slot c.args.side) c.args.arrivals.now.items c.loop-index.arrivals.items c.loop-index.index c.index.result.now (search rules) c.loop-index.invariant c.index.ensures (w.if-goes_on_yet.ensures refl))
+  | then-goes_on_yet w ↦ rw (w.arrivals-is, w.ended.ensures)
+      (map_over_more (ended c.args.key c.args.slot c.args.side) c.args.arrivals.now.items c.loop-index.arrivals.items
+      c.loop-index.index w.index-then-goes_on_yet.result.now (search rules) c.loop-index.invariant
+      w.index-then-goes_on_yet.ensures)
+  | else-goes_on_yet w ↦ rw w.arrivals-is (map_over_kept (ended c.args.key c.args.slot c.args.side)
+      c.args.arrivals.now.items c.loop-index.arrivals.items c.loop-index.index c.index.result.now (search rules)
+      c.loop-index.invariant c.index.ensures (w.if-goes_on_yet.ensures refl))
 ]

@@ -4,4 +4,5 @@ use Rattle.nm_model.proofs.arrivals.put_end.Given as goal
 
 -- the arrivals so far are done
 abbrev pub invariant-loop-index : goal.invariant-loop-index
-invariant-loop-index l = l.arrivals.items ≡ map (ended l.key l.slot l.side) (take l.index l.initial.arrivals.items) ++ drop l.index l.initial.arrivals.items
+invariant-loop-index l = l.arrivals.items ≡ map (ended l.key l.slot l.side) (take l.index l.initial.arrivals.items)
+    ++ drop l.index l.initial.arrivals.items

@@ -9,7 +9,9 @@ returns-in-Some-clause-part c =
     let part = c.in-Some.ensures.part in
     let least = part.least in
     let most = part.most in
-    wider 1 nodes nodes c.args.pass.now.view.log c.claim_shown.new.pass.view.log (Some c.in-Some.node) (omega (arith, least, most)) part
+    wider 1 nodes nodes c.args.pass.now.view.log c.claim_shown.new.pass.view.log (Some c.in-Some.node)
+    (omega (arith, least, most)) part
 
 pub returns-clause-part : goal.returns-clause-part
-returns-clause-part c = rw c.some_node.ensures (c.claim_in_turn.ensures.part c.args.pass.now.view.log c.in_default.ensures.part)
+returns-clause-part c = rw c.some_node.ensures (c.claim_in_turn.ensures.part c.args.pass.now.view.log
+    c.in_default.ensures.part)

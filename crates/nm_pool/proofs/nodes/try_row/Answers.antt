@@ -12,7 +12,8 @@ returns-then-shown-from-clause-part c =
     let shown = c.pass_row-shown.result in (
       omega arith,
       omega arith,
-      passed_by_look from (shown - from) c.args.pass.now.view.log c.pass_row-shown.new.pass.view.log c.pass_row-shown.ensures.passed,
+      passed_by_look from (shown - from) c.args.pass.now.view.log c.pass_row-shown.new.pass.view.log
+          c.pass_row-shown.ensures.passed,
     )
 
 pub returns-in-Got-clause-part : goal.returns-in-Got-clause-part
@@ -23,7 +24,8 @@ returns-in-Got-clause-part c =
       least = omega arith;
       below = grind arith;
       before = c.pass_row-shown.new.pass.view.log;
-      passed = passed_by_look from (shown - from) c.args.pass.now.view.log c.pass_row-shown.new.pass.view.log c.pass_row-shown.ensures.passed;
+      passed = passed_by_look from (shown - from) c.args.pass.now.view.log c.pass_row-shown.new.pass.view.log
+          c.pass_row-shown.ensures.passed;
       made = search rules;
     }
 
@@ -40,9 +42,11 @@ returns c =
       part = (
         omega arith,
         omega (arith, less),
-        one_more PassedOver from shown c.args.pass.now.view.log mid.log new.log c.pass_row-shown.ensures.least (passed_by_look from (shown - from) c.args.pass.now.view.log mid.log c.pass_row-shown.ensures.passed) over,
+        one_more PassedOver from shown c.args.pass.now.view.log mid.log new.log c.pass_row-shown.ensures.least
+            (passed_by_look from (shown - from) c.args.pass.now.view.log mid.log c.pass_row-shown.ensures.passed) over,
       );
       made = tt;
       new = tt;
-      learned = learns_both (knowledge c.args.pass.now.view) (knowledge mid) (knowledge new) (learns_nothing _ _ c.pass_row-shown.ensures.learned) c.try_slot.ensures.learned;
+      learned = learns_both (knowledge c.args.pass.now.view) (knowledge mid) (knowledge new)
+          (learns_nothing _ _ c.pass_row-shown.ensures.learned) c.try_slot.ensures.learned;
     }

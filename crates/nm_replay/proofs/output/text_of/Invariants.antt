@@ -5,4 +5,5 @@ use Rattle.nm_replay.specs.Output.{lines_with}
 use Rattle.nm_replay.proofs.output.text_of.Given as goal
 
 abbrev pub invariant-loop-turn : goal.invariant-loop-turn
-invariant-loop-turn l = l.out.items ++ lines_with (further 10 (option_copied l.rest)) (drop l.turn-index l.turns) ≡ lines_with (parts l.body) l.turns
+invariant-loop-turn l = l.out.items ++ lines_with (further 10 (option_copied l.rest)) (drop l.turn-index l.turns)
+    ≡ lines_with (parts l.body) l.turns

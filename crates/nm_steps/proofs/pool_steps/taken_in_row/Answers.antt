@@ -6,4 +6,5 @@ pub returns-then-found-eq0 : goal.returns-then-found-eq0
 returns-then-found-eq0 c = sym (all_shown c.args.found c.args.from c.args.most (grind arith))
 
 pub returns : goal.returns
-returns c = c.min.ensures ∙ sym (shown_by_bits c.args.found c.args.from c.args.most c.requires.low c.requires.row c.ranges.found.fits)
+returns c = c.min.ensures ∙ sym (shown_by_bits c.args.found c.args.from c.args.most c.requires.low c.requires.row
+    c.ranges.found.fits)

@@ -4,13 +4,18 @@ use Rattle.nm_walks.proofs.Looks.{may_look, goes_on, only_looks, key_told}
 use Rattle.nm_walks.proofs.looking.look_key.Goals as goal
 
 pub look_key-key-requires-clause-may : goal.look_key-key-requires-clause-may
-look_key-key-requires-clause-may c = may_look c.args.pass.now c.args.slot _ c.requires.pinned.run c.requires.pinned.pin c.requires.known
+look_key-key-requires-clause-may c = may_look c.args.pass.now c.args.slot _ c.requires.pinned.run
+    c.requires.pinned.pin c.requires.known
 
 pub returns-clause-on : goal.returns-clause-on
-returns-clause-on c = goes_on c.args.pass.now c.look_key-key.new.pass _ _ c.look_key-key.ensures.step (seen_by_turn _ _ _ _ c.look_key-key.ensures.past) c.look_key-key.ensures.stores refl refl c.know_run.ensures.fits c.know_run.ensures.run
+returns-clause-on c = goes_on c.args.pass.now c.look_key-key.new.pass _ _ c.look_key-key.ensures.step
+    (seen_by_turn _ _ _ _ c.look_key-key.ensures.past) c.look_key-key.ensures.stores refl refl
+    c.know_run.ensures.fits c.know_run.ensures.run
 
 pub returns-clause-told : goal.returns-clause-told
-returns-clause-told c = key_told c.args.pass.now c.look_key-key.new.pass c.args.slot c.know_run.ensures.fits c.know_run.ensures.run c.look_key-key.result c.look_key-key.ensures.step
+returns-clause-told c = key_told c.args.pass.now c.look_key-key.new.pass c.args.slot c.know_run.ensures.fits
+    c.know_run.ensures.run c.look_key-key.result c.look_key-key.ensures.step
 
 pub returns-clause-only : goal.returns-clause-only
-returns-clause-only c = only_looks c.args.pass.now c.look_key-key.new.pass c.args.slot _ _ c.look_key-key.ensures.step c.requires.pinned.run c.requires.known
+returns-clause-only c = only_looks c.args.pass.now c.look_key-key.new.pass c.args.slot _ _
+    c.look_key-key.ensures.step c.requires.pinned.run c.requires.known

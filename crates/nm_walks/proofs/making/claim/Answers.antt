@@ -9,7 +9,8 @@ returns-clause-others c =
     let nodes = c.args.shared.now.layout.nodes in
     let o = c.claim_by.result in
     let e = c.claim_by.ensures in
-    claim_keeps p q c.args.placement.now nodes o e.on.same e.part (record { fits = c.know_run.ensures.fits; run = c.know_run.ensures.run }) (part_after p q e.on.same e.on.run)
+    claim_keeps p q c.args.placement.now nodes o e.on.same e.part
+    (record { fits = c.know_run.ensures.fits; run = c.know_run.ensures.run }) (part_after p q e.on.same e.on.run)
 
 pub returns-clause-only : goal.returns-clause-only
 returns-clause-only c =
@@ -18,7 +19,9 @@ returns-clause-only c =
     let nodes = c.args.shared.now.layout.nodes in
     let o = c.claim_by.result in
     let e = c.claim_by.ensures in
-    only_claims p q c.args.placement.now nodes o e.on.same e.part (record { fits = c.know_run.ensures.fits; run = c.know_run.ensures.run }) (part_after p q e.on.same e.on.run) e.learned
+    only_claims p q c.args.placement.now nodes o e.on.same e.part
+    (record { fits = c.know_run.ensures.fits; run = c.know_run.ensures.run }) (part_after p q e.on.same e.on.run)
+    e.learned
 
 pub returns-clause-on : goal.returns-clause-on
 returns-clause-on c =

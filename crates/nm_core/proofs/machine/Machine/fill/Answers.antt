@@ -24,4 +24,5 @@ pub filled-node-requires : goal.filled-node-requires
 filled-node-requires c = is_slot c.args.self.now c.args.worker _ _ _ _ c.self.view_is c.nodes.ensures.fits c.requires
 
 pub fill-requires-clause-fits : goal.fill-requires-clause-fits
-fill-requires-clause-fits c = is_slot c.args.self.now c.args.worker _ _ _ _ c.self.view_is c.nodes.ensures.fits c.requires
+fill-requires-clause-fits c = is_slot c.args.self.now c.args.worker _ _ _ _ c.self.view_is c.nodes.ensures.fits
+    c.requires

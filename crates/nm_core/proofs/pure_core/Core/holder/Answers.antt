@@ -7,4 +7,5 @@ pub holder-requires : goal.holder-requires
 holder-requires c = reachable_shaped _ (reached_state _ c.self.invariant)
 
 pub returns-clause-none : goal.returns-clause-none
-returns-clause-none c = rw c.holder.ensures (rw (← c.self.view_is) (holder_none _ (reached_state _ c.self.invariant) c.args.origin))
+returns-clause-none c = rw c.holder.ensures (rw (← c.self.view_is)
+    (holder_none _ (reached_state _ c.self.invariant) c.args.origin))

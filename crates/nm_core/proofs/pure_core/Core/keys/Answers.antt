@@ -11,7 +11,8 @@ use Rattle.nm_core.proofs.pure_core.Core.keys.Goals as goal
 
 pub returns-clause-paths : goal.returns-clause-paths
 returns-clause-paths c = rw (← c.self.view_is) (IfOk-weaker c.keys.result _ _
-    (λ found is. subst (AreKeysFromTheLeft c.self.inside.machine.memory) (sym is) (of_reachable KeysAreFromTheLeft each_state_tells_keys_from_the_left _ (reached_state _ c.self.invariant)))
+    (λ found is. subst (AreKeysFromTheLeft c.self.inside.machine.memory) (sym is)
+    (of_reachable KeysAreFromTheLeft each_state_tells_keys_from_the_left _ (reached_state _ c.self.invariant)))
     c.keys.ensures)
 
 pub returns-clause-set : goal.returns-clause-set

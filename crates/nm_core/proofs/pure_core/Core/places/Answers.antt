@@ -13,7 +13,9 @@ pub places-requires-clause-sum : goal.places-requires-clause-sum
 places-requires-clause-sum c = of_reachable CountsAddUp each_state_adds_up _ (reached_state _ c.self.invariant)
 
 pub returns-clause-sum : goal.returns-clause-sum
-returns-clause-sum c = rw (← c.self.view_is) (of_reachable CountsAddUp each_state_adds_up _ (reached_state _ c.self.invariant))
+returns-clause-sum c = rw (← c.self.view_is) (of_reachable CountsAddUp each_state_adds_up _
+    (reached_state _ c.self.invariant))
 
 pub returns-clause-slots : goal.returns-clause-slots
-returns-clause-slots c = rw (← c.self.view_is, c.places.ensures) (of_reachable CountsAreNumbersOfSlots each_count_is_a_number_of_slots _ (reached_state _ c.self.invariant))
+returns-clause-slots c = rw (← c.self.view_is, c.places.ensures)
+    (of_reachable CountsAreNumbersOfSlots each_count_is_a_number_of_slots _ (reached_state _ c.self.invariant))

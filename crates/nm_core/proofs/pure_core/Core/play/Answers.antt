@@ -17,6 +17,7 @@ loop-done-preserved c =
       trace = grind (arith, common_steps);
       state = grind (arith, common_steps);
       len = grind (arith, common_steps);
-      keys = keys_to c.args.events.now c.loop-done.done c.index-events-done.result below c.index-events-done.is c.settle.ensures.key c.loop-done.invariant.keys;
+      keys = keys_to c.args.events.now c.loop-done.done c.index-events-done.result below c.index-events-done.is
+          c.settle.ensures.key c.loop-done.invariant.keys;
       room = grind (arith, common_steps);
     }

@@ -12,4 +12,5 @@ returns c = rw (← c.self.view_is)
     (map-set tells c.self.inside.by_worker.items c.args.worker c.learn.new.self
     ∙ ap (λ t. set (map tells c.self.inside.by_worker.items) c.args.worker t)
     (c.learn.ensures ∙ ap (λ s. searched s c.args.event.now c.args.reply.now)
-    (ap tells c.index_mut.ensures.value ∙ sym (get_or-map tells c.self.inside.by_worker.items c.args.worker c.index_mut.result.now idle (rw c.self.view_is c.requires.is_there)))))
+    (ap tells c.index_mut.ensures.value ∙ sym (get_or-map tells c.self.inside.by_worker.items c.args.worker
+    c.index_mut.result.now idle (rw c.self.view_is c.requires.is_there)))))

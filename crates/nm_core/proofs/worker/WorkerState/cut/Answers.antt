@@ -6,22 +6,32 @@ use Rattle.nm_core.proofs.worker.WorkerState.cut.Goals as goal
 
 pub returns-then-at-to : goal.returns-then-at-to
 returns-then-at-to c =
-    let here = way_here (c.args.fuel - c.loop.counter) (c.args.fuel - (c.loop.counter + 1)) c.args.self.now c.loop.at c.args.to (omega arith) c.if-at-to.true in
+    let here = way_here (c.args.fuel - c.loop.counter) (c.args.fuel - (c.loop.counter + 1)) c.args.self.now c.loop.at
+    c.args.to (omega arith) c.if-at-to.true in
     rw (c.in_ok-push_both.ensures, c.slot_read.ensures, c.other.ensures)
-    (ap (λ o. c.loop.slots.items ++ cut_by c.args.self.now c.loop.at (unwrap_or o []) c.args.keep) (sym here) ∙ c.loop.invariant.slots)
+    (ap (λ o. c.loop.slots.items ++ cut_by c.args.self.now c.loop.at (unwrap_or o []) c.args.keep) (sym here)
+    ∙ c.loop.invariant.slots)
 
 pub returns-in_default : goal.returns-in_default
 returns-in_default c =
-    let end = way_end (c.args.fuel - c.loop.counter) (c.args.fuel - (c.loop.counter + 1)) c.args.self.now c.loop.at c.args.to (omega arith) c.if-at-to.false (sym c.onward.ensures ∙ c.in_default.is) in
+    let end = way_end (c.args.fuel - c.loop.counter) (c.args.fuel - (c.loop.counter + 1)) c.args.self.now c.loop.at
+    c.args.to (omega arith) c.if-at-to.false (sym c.onward.ensures ∙ c.in_default.is) in
     absurd (false≢true (ap is_some (sym end) ∙ c.loop.invariant.leads))
 
 pub loop-preserved : goal.loop-preserved
 loop-preserved c =
-    let next = way_next (c.args.fuel - c.loop.counter) (c.args.fuel - (c.loop.counter + 1)) c.args.self.now c.loop.at c.args.to c.in-Some.side (omega arith) c.if-at-to.false (sym c.onward.ensures ∙ c.in-Some.is) in
+    let next = way_next (c.args.fuel - c.loop.counter) (c.args.fuel - (c.loop.counter + 1)) c.args.self.now c.loop.at
+    c.args.to c.in-Some.side (omega arith) c.if-at-to.false (sym c.onward.ensures ∙ c.in-Some.is) in
     let leads = sym (some_before c.in-Some.side _) ∙ sym (ap is_some next) ∙ c.loop.invariant.leads in
     record {
-      slots = rw (c.in_ok-push_both-2.ensures, c.slot_read-in-loop.ensures, c.other-in-loop.ensures, c.slot_read-at.ensures)
+      slots = rw (
+        c.in_ok-push_both-2.ensures,
+        c.slot_read-in-loop.ensures,
+        c.other-in-loop.ensures,
+        c.slot_read-at.ensures,
+      )
           (cut_before c.args.self.now c.loop.slots.items c.loop.at c.in-Some.side c.args.keep _ leads
-          ∙ ap (λ o. c.loop.slots.items ++ cut_by c.args.self.now c.loop.at (unwrap_or o []) c.args.keep) (sym next) ∙ c.loop.invariant.slots);
+          ∙ ap (λ o. c.loop.slots.items ++ cut_by c.args.self.now c.loop.at (unwrap_or o []) c.args.keep) (sym next)
+          ∙ c.loop.invariant.slots);
       leads = rw c.slot_read-at.ensures leads;
     }

@@ -6,6 +6,7 @@ use Rattle.nm_core.proofs.worker.WorkerState.cut.Given as goal
 abbrev pub invariant-loop : goal.invariant-loop
 invariant-loop l =
     record {
-      slots : l.slots.items ++ cut_by l.self l.at (unwrap_or (way (l.fuel - l.counter) l.self l.at l.to) []) l.keep ≡ cut_by l.self l.from (unwrap_or (way l.fuel l.self l.from l.to) []) l.keep;
+      slots : l.slots.items ++ cut_by l.self l.at (unwrap_or (way (l.fuel - l.counter) l.self l.at l.to) []) l.keep
+          ≡ cut_by l.self l.from (unwrap_or (way l.fuel l.self l.from l.to) []) l.keep;
       leads : is_some (way (l.fuel - l.counter) l.self l.at l.to) ≡ true;
     }

@@ -7,4 +7,5 @@ use Rattle.nm_core.proofs.worker.WorkerState.has_way.Goals as goal
 pub returns-clause-way : goal.returns-clause-way
 returns-clause-way c =
     let known = ap (λ (k : Knowledge). k.known) c.self.view_is in
-    c.has_way.ensures.way ∙ ap (λ m. leads_to c.args.fuel m c.args.from c.args.to) known ∙ sym (way_leads c.args.fuel c.args.self.now c.args.from c.args.to)
+    c.has_way.ensures.way ∙ ap (λ m. leads_to c.args.fuel m c.args.from c.args.to) known
+    ∙ sym (way_leads c.args.fuel c.args.self.now c.args.from c.args.to)

@@ -8,7 +8,8 @@ use Rattle.nm_files.proofs.read.file.entries_of.Given as goal
 abbrev pub invariant-loop-after : goal.invariant-loop-after
 invariant-loop-after g l = record {
   number : l.number ≤ 100002;
-  told : with_front l.entries.items (entries_from (line_of g.T.FileEntry.kinds l.header) l.number (parts l.rest)) ≡ entries_from (line_of g.T.FileEntry.kinds l.header) 2 (parts l.body);
+  told : with_front l.entries.items (entries_from (line_of g.T.FileEntry.kinds l.header) l.number (parts l.rest))
+      ≡ entries_from (line_of g.T.FileEntry.kinds l.header) 2 (parts l.body);
 }
 
 abbrev pub decreases-loop-after : goal.decreases-loop-after

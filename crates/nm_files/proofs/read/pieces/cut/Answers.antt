@@ -8,4 +8,5 @@ returns-in-None-clause-pieces c = cut_none c.args.c c.args.text.now (sym c.in-No
 
 pub returns-in-Some-clause-pieces : goal.returns-in-Some-clause-pieces
 returns-in-Some-clause-pieces c =
-    rw (take_rest c.args.text.now (c.in-Some.at + 1)) (cut_some c.args.c c.args.text.now c.in-Some.at (sym c.in-Some.ensures))
+    rw (take_rest c.args.text.now (c.in-Some.at + 1))
+    (cut_some c.args.c c.args.text.now c.in-Some.at (sym c.in-Some.ensures))

@@ -7,10 +7,14 @@ pub edge-word-requires : goal.edge-word-requires
 edge-word-requires c = let slot = fill_slot _ _ _ c.args.slot _ _ c.requires.may in search (rules, slot)
 
 pub store-requires-clause-ready : goal.store-requires-clause-ready
-store-requires-clause-ready c = rw (← c.self.view_is) (ready _ _ _ _ _ _ _ _ _ c.self.invariant.laid c.pass.invariant (search rules) (search rules) (rw (← c.pass.view_is, ← c.from.ensures) at c.requires.may) (search rules) tt)
+store-requires-clause-ready c = rw (← c.self.view_is)
+    (ready _ _ _ _ _ _ _ _ _ c.self.invariant.laid c.pass.invariant (search rules) (search rules)
+    (rw (← c.pass.view_is, ← c.from.ensures) at c.requires.may) (search rules) tt)
 
 pub invariant_of-pass : goal.invariant_of-pass
-invariant_of-pass c = tied_after _ _ _ _ _ _ _ _ c.pass.invariant (rw (← c.pass.view_is, ← c.from.ensures) at c.requires.may) c.store.ensures (search rules)
+invariant_of-pass c = tied_after _ _ _ _ _ _ _ _ c.pass.invariant
+    (rw (← c.pass.view_is, ← c.from.ensures) at c.requires.may) c.store.ensures (search rules)
 
 pub returns : goal.returns
-returns c = rw (← c.from.ensures) (takes_step _ _ _ _ _ _ _ _ _ c.pass.invariant (rw (← c.pass.view_is, ← c.from.ensures) at c.requires.may) c.store.ensures (search rules) c.pass.view_is)
+returns c = rw (← c.from.ensures) (takes_step _ _ _ _ _ _ _ _ _ c.pass.invariant
+    (rw (← c.pass.view_is, ← c.from.ensures) at c.requires.may) c.store.ensures (search rules) c.pass.view_is)

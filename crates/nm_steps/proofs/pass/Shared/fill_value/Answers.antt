@@ -26,4 +26,6 @@ pub invariant_of-pass : goal.invariant_of-pass
 invariant_of-pass c = looked_tied _ _ _ _ _ c.pass.invariant c.store_value.ensures.put.0 c.store_value.ensures.put.1
 
 pub returns-clause-looks : goal.returns-clause-looks
-returns-clause-looks c = subst (λ (p : PassView). OnlySees p (standing c.store_value.new.seat)) c.pass.view_is (looks_only c.pass.inside.seat c.store_value.new.seat c.store_value.ensures.table c.store_value.ensures.seat c.store_value.ensures.put.1)
+returns-clause-looks c = subst (λ (p : PassView). OnlySees p (standing c.store_value.new.seat)) c.pass.view_is
+    (looks_only c.pass.inside.seat c.store_value.new.seat c.store_value.ensures.table c.store_value.ensures.seat
+    c.store_value.ensures.put.1)

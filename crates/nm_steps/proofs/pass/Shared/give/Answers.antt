@@ -7,10 +7,14 @@ pub pool-place-requires : goal.pool-place-requires
 pool-place-requires c = let slot = give_slot _ _ _ c.args.slot c.requires.may in search (rules, slot)
 
 pub mark-requires-clause-ready : goal.mark-requires-clause-ready
-mark-requires-clause-ready c = rw (← c.self.view_is) (ready _ _ _ _ _ _ _ _ _ c.self.invariant.laid c.pass.invariant (search rules) (search rules) (rw (← c.pass.view_is) at c.requires.may) (search rules) tt)
+mark-requires-clause-ready c = rw (← c.self.view_is)
+    (ready _ _ _ _ _ _ _ _ _ c.self.invariant.laid c.pass.invariant (search rules) (search rules)
+    (rw (← c.pass.view_is) at c.requires.may) (search rules) tt)
 
 pub invariant_of-pass : goal.invariant_of-pass
-invariant_of-pass c = tied_after _ _ _ _ _ _ _ _ c.pass.invariant (rw (← c.pass.view_is) at c.requires.may) c.mark.ensures (search rules)
+invariant_of-pass c = tied_after _ _ _ _ _ _ _ _ c.pass.invariant (rw (← c.pass.view_is) at c.requires.may)
+    c.mark.ensures (search rules)
 
 pub returns : goal.returns
-returns c = takes_step _ _ _ _ _ _ _ _ _ c.pass.invariant (rw (← c.pass.view_is) at c.requires.may) c.mark.ensures (search rules) c.pass.view_is
+returns c = takes_step _ _ _ _ _ _ _ _ _ c.pass.invariant (rw (← c.pass.view_is) at c.requires.may) c.mark.ensures
+    (search rules) c.pass.view_is

@@ -4,16 +4,23 @@ use Rattle.nm_steps.proofs.Noting.{ready, tied_after, takes_step}
 use Rattle.nm_steps.proofs.pass.Shared.link.Goals as goal
 
 pub edge-word-requires : goal.edge-word-requires
-edge-word-requires c = let slot = link_slot _ _ _ c.args.parent c.args.side c.args.leaf c.args.new c.requires.may in search (rules, slot)
+edge-word-requires c = let slot = link_slot _ _ _ c.args.parent c.args.side c.args.leaf c.args.new c.requires.may in
+    search (rules, slot)
 
 pub exchange-found-requires-clause-ready : goal.exchange-found-requires-clause-ready
-exchange-found-requires-clause-ready c = rw (← c.self.view_is) (ready _ _ _ _ _ _ _ _ _ c.self.invariant.laid c.pass.invariant (search rules) (search rules) (rw (← c.pass.view_is) at c.requires.may) (search rules) (rw (← c.pass.view_is, ← c.self.view_is) at c.requires.stored))
+exchange-found-requires-clause-ready c = rw (← c.self.view_is)
+    (ready _ _ _ _ _ _ _ _ _ c.self.invariant.laid c.pass.invariant (search rules) (search rules)
+    (rw (← c.pass.view_is) at c.requires.may) (search rules)
+    (rw (← c.pass.view_is, ← c.self.view_is) at c.requires.stored))
 
 pub edge_of-requires : goal.edge_of-requires
-edge_of-requires c = finds_edge _ _ _ _ _ c.args.parent c.args.side c.exchange-found.ensures.found refl refl (link_slot _ _ _ c.args.parent c.args.side c.args.leaf c.args.new (rw (← c.pass.view_is) at c.requires.may))
+edge_of-requires c = finds_edge _ _ _ _ _ c.args.parent c.args.side c.exchange-found.ensures.found refl refl
+    (link_slot _ _ _ c.args.parent c.args.side c.args.leaf c.args.new (rw (← c.pass.view_is) at c.requires.may))
 
 pub invariant_of-pass : goal.invariant_of-pass
-invariant_of-pass c = tied_after _ _ _ _ _ _ _ _ c.pass.invariant (rw (← c.pass.view_is) at c.requires.may) c.exchange-found.ensures (search rules)
+invariant_of-pass c = tied_after _ _ _ _ _ _ _ _ c.pass.invariant (rw (← c.pass.view_is) at c.requires.may)
+    c.exchange-found.ensures (search rules)
 
 pub returns : goal.returns
-returns c = takes_step _ _ _ _ _ _ _ _ _ c.pass.invariant (rw (← c.pass.view_is) at c.requires.may) c.exchange-found.ensures (search rules) c.pass.view_is
+returns c = takes_step _ _ _ _ _ _ _ _ _ c.pass.invariant (rw (← c.pass.view_is) at c.requires.may)
+    c.exchange-found.ensures (search rules) c.pass.view_is

@@ -8,13 +8,18 @@ pub birth-word-requires : goal.birth-word-requires
 birth-word-requires c = let slot = look_slot _ _ _ c.args.slot _ c.requires.may in search (rules, slot)
 
 pub load-requires-clause-ready : goal.load-requires-clause-ready
-load-requires-clause-ready c = rw (← c.self.view_is) (ready _ _ _ _ _ _ _ _ _ c.self.invariant.laid c.pass.invariant (search rules) (search rules) (rw (← c.pass.view_is) at c.requires.may) (search rules) tt)
+load-requires-clause-ready c = rw (← c.self.view_is)
+    (ready _ _ _ _ _ _ _ _ _ c.self.invariant.laid c.pass.invariant (search rules) (search rules)
+    (rw (← c.pass.view_is) at c.requires.may) (search rules) tt)
 
 pub invariant_of-pass : goal.invariant_of-pass
-invariant_of-pass c = tied_after _ _ _ _ _ _ _ _ c.pass.invariant (rw (← c.pass.view_is) at c.requires.may) c.load.ensures (search rules)
+invariant_of-pass c = tied_after _ _ _ _ _ _ _ _ c.pass.invariant (rw (← c.pass.view_is) at c.requires.may)
+    c.load.ensures (search rules)
 
 pub returns-clause-small : goal.returns-clause-small
-returns-clause-small c = finds_birth _ _ _ _ _ c.args.slot c.load.ensures.found refl refl (look_slot _ _ _ c.args.slot _ (rw (← c.pass.view_is) at c.requires.may))
+returns-clause-small c = finds_birth _ _ _ _ _ c.args.slot c.load.ensures.found refl refl
+    (look_slot _ _ _ c.args.slot _ (rw (← c.pass.view_is) at c.requires.may))
 
 pub returns-clause-took : goal.returns-clause-took
-returns-clause-took c = takes_step _ _ _ _ _ _ _ _ _ c.pass.invariant (rw (← c.pass.view_is) at c.requires.may) c.load.ensures (search rules) c.pass.view_is
+returns-clause-took c = takes_step _ _ _ _ _ _ _ _ _ c.pass.invariant (rw (← c.pass.view_is) at c.requires.may)
+    c.load.ensures (search rules) c.pass.view_is

@@ -20,4 +20,6 @@ pub invariant_of-pass : goal.invariant_of-pass
 invariant_of-pass c = looked_tied _ _ _ _ _ c.pass.invariant c.look_at_value.ensures.saw.0 c.look_at_value.ensures.saw.1
 
 pub returns-clause-looks : goal.returns-clause-looks
-returns-clause-looks c = subst (λ (p : PassView). OnlySees p (standing c.look_at_value.new.seat)) c.pass.view_is (looks_only c.pass.inside.seat c.look_at_value.new.seat c.look_at_value.ensures.table c.look_at_value.ensures.seat c.look_at_value.ensures.saw.1)
+returns-clause-looks c = subst (λ (p : PassView). OnlySees p (standing c.look_at_value.new.seat)) c.pass.view_is
+    (looks_only c.pass.inside.seat c.look_at_value.new.seat c.look_at_value.ensures.table
+    c.look_at_value.ensures.seat c.look_at_value.ensures.saw.1)

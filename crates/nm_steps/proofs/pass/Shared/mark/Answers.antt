@@ -3,7 +3,9 @@ use Rattle.nm_steps.proofs.Noting.{ready_by_key}
 use Rattle.nm_steps.proofs.pass.Shared.mark.Goals as goal
 
 pub fetch_or-requires : goal.fetch_or-requires
-fetch_or-requires g c = asked_plainly _ _ _ _ _ _ _ c.requires.pick (ready_by_key _ _ _ _ _ _ c.self.invariant.laid (rw (← c.self.view_is) at c.requires.ready)) c.requires.changes
+fetch_or-requires g c = asked_plainly _ _ _ _ _ _ _ c.requires.pick
+    (ready_by_key _ _ _ _ _ _ c.self.invariant.laid (rw (← c.self.view_is) at c.requires.ready)) c.requires.changes
 
 pub returns : goal.returns
-returns g c = is_done c.args.seat.now c.fetch_or.new.seat _ c.args.event.now c.fetch_or.result c.requires.pick c.fetch_or.ensures.0 c.fetch_or.ensures.1 c.fetch_or.ensures.2
+returns g c = is_done c.args.seat.now c.fetch_or.new.seat _ c.args.event.now c.fetch_or.result c.requires.pick
+    c.fetch_or.ensures.0 c.fetch_or.ensures.1 c.fetch_or.ensures.2

@@ -7,13 +7,18 @@ pub edge-word-requires : goal.edge-word-requires
 edge-word-requires c = let slot = tag_slot _ _ _ c.args.parent c.args.side c.requires.may in search (rules, slot)
 
 pub mark-requires-clause-ready : goal.mark-requires-clause-ready
-mark-requires-clause-ready c = rw (← c.self.view_is) (ready _ _ _ _ _ _ _ _ _ c.self.invariant.laid c.pass.invariant (search rules) (search rules) (rw (← c.pass.view_is) at c.requires.may) (search rules) tt)
+mark-requires-clause-ready c = rw (← c.self.view_is)
+    (ready _ _ _ _ _ _ _ _ _ c.self.invariant.laid c.pass.invariant (search rules) (search rules)
+    (rw (← c.pass.view_is) at c.requires.may) (search rules) tt)
 
 pub edge_of-requires : goal.edge_of-requires
-edge_of-requires c = finds_edge _ _ _ _ _ c.args.parent c.args.side c.mark.ensures.found refl refl (tag_slot _ _ _ c.args.parent c.args.side (rw (← c.pass.view_is) at c.requires.may))
+edge_of-requires c = finds_edge _ _ _ _ _ c.args.parent c.args.side c.mark.ensures.found refl refl
+    (tag_slot _ _ _ c.args.parent c.args.side (rw (← c.pass.view_is) at c.requires.may))
 
 pub invariant_of-pass : goal.invariant_of-pass
-invariant_of-pass c = tied_after _ _ _ _ _ _ _ _ c.pass.invariant (rw (← c.pass.view_is) at c.requires.may) c.mark.ensures (search rules)
+invariant_of-pass c = tied_after _ _ _ _ _ _ _ _ c.pass.invariant (rw (← c.pass.view_is) at c.requires.may)
+    c.mark.ensures (search rules)
 
 pub returns : goal.returns
-returns c = takes_step _ _ _ _ _ _ _ _ _ c.pass.invariant (rw (← c.pass.view_is) at c.requires.may) c.mark.ensures (search rules) c.pass.view_is
+returns c = takes_step _ _ _ _ _ _ _ _ _ c.pass.invariant (rw (← c.pass.view_is) at c.requires.may) c.mark.ensures
+    (search rules) c.pass.view_is

@@ -20,14 +20,20 @@ loop-number-init c = record {
 
 pub split_seat-own-requires : goal.split_seat-own-requires
 split_seat-own-requires c =
-    let h = c.loop-number.invariant in
-    (h.table, (let many = h.words_are in omega (arith, many)), rw h.key (deals c.args.layout _ c.loop-number.number _ h.view (rw h.end at c.loop-number-test.true)))
+    let h = c.loop-number.invariant in (
+      h.table,
+      (let many = h.words_are in omega (arith, many)),
+      rw h.key
+          (deals c.args.layout _ c.loop-number.number _ h.view (rw h.end at c.loop-number-test.true)),
+    )
 
 pub invariant_of-push : goal.invariant_of-push
 invariant_of-push c =
     let h = c.loop-number.invariant in
     let me = c.split_seat-own.ensures.4 in
-    fresh_tied c.args.layout _ c.loop-number.number _ h.fits (rw h.end at c.loop-number-test.true) c.announcement.ensures (ap (λ m. m.0) me ∙ left_own c.args.layout c.loop-number.number _ h.view (rw h.end at c.loop-number-test.true)) (ap (λ m. m.1) me)
+    fresh_tied c.args.layout _ c.loop-number.number _ h.fits (rw h.end at c.loop-number-test.true)
+    c.announcement.ensures (ap (λ m. m.0) me ∙ left_own c.args.layout c.loop-number.number _ h.view
+    (rw h.end at c.loop-number-test.true)) (ap (λ m. m.1) me)
 
 pub loop-number-preserved : goal.loop-number-preserved
 loop-number-preserved c =
@@ -46,5 +52,6 @@ loop-number-preserved c =
       view = ap (λ m. m.0) s.2 ∙ left_others c.args.layout c.loop-number.number _ h.view below;
       empty = ap (λ m. m.1) s.2 ∙ h.empty;
       count = search rules;
-      fresh = rw items (fresh_push _ 0 c.loop-number.number _ _ h.fresh (omega (arith, h.count)) (s.3 ∙ h.table) (ap (λ m. m.0) s.4 ∙ left_own c.args.layout c.loop-number.number _ h.view below));
+      fresh = rw items (fresh_push _ 0 c.loop-number.number _ _ h.fresh (omega (arith, h.count)) (s.3 ∙ h.table)
+          (ap (λ m. m.0) s.4 ∙ left_own c.args.layout c.loop-number.number _ h.view below));
     }

@@ -6,4 +6,5 @@ pub plant-requires-clause-long : goal.plant-requires-clause-long
 plant-requires-clause-long c = ap length c.requires ∙ untouched_long c.args.layout
 
 pub returns : goal.returns
-returns c = five_planted c.args.layout _ _ _ _ _ _ (search rules) c.requires c.plant.ensures.planted c.plant-2.ensures.planted c.plant-3.ensures.planted c.plant-4.ensures.planted c.plant-5.ensures.planted
+returns c = five_planted c.args.layout _ _ _ _ _ _ (search rules) c.requires c.plant.ensures.planted
+    c.plant-2.ensures.planted c.plant-3.ensures.planted c.plant-4.ensures.planted c.plant-5.ensures.planted

@@ -40,7 +40,16 @@ module _ (E : El) (Z : Al) where
   function = inst_fn (args E Z) code.function
 
   abbrev ended : Ended
-  ended = record { signature = record { lifetimes = 0; outlives = []; params = plain (λ _. Ch E Z) ∷ []; result = plain (λ _. unit) }; kept = (no, tt) }
+  ended = record {
+    signature = record {
+      lifetimes = 0;
+      outlives = [];
+      params = plain (λ _. Ch E Z)
+          ∷ [];
+      result = plain (λ _. unit);
+    };
+    kept = (no, tt);
+  }
 
   abbrev stayed : Stays ended.signature.params ended.kept
   stayed = (stay_dropped (plain (λ _. Ch E Z)) no, tt)
@@ -51,7 +60,8 @@ module _ (E : El) (Z : Al) where
   abbrev spec : {M : Type 1} {𝓤 : Ura M} (𝓛 : Logic 𝓤) → Clauses 𝓤 ended
   spec {𝓤 = 𝓤} 𝓛 κs a = record { ghost = Unit {0}; requires = λ _. fact 𝓤 (Asks a.0); ensures = λ _ r w. emp 𝓤 }
 
-module _ (E : El) (Z : Al) {M : Type 1} {𝓤 : Ura M} (𝓛 : Logic 𝓤) (C : Calls 𝓤 𝓛.H) (Λ : Loops 𝓤 𝓛.H) (d : (Ch E Z).Denot) (us0 : List Val) where
+module _ (E : El) (Z : Al) {M : Type 1} {𝓤 : Ura M} (𝓛 : Logic 𝓤) (C : Calls 𝓤 𝓛.H) (Λ : Loops 𝓤 𝓛.H)
+    (d : (Ch E Z).Denot) (us0 : List Val) where
   open 𝓛 use {H, A}
 
   abbrev bound : (walk_of 𝓛 (ended E Z) (stayed E Z) (spec E Z 𝓛)).Ghost
@@ -64,14 +74,16 @@ module _ (E : El) (Z : Al) {M : Type 1} {𝓤 : Ura M} (𝓛 : Logic 𝓤) (C : 
   exits =
       qed 𝓛 [] ∵
       suffices ! _ (ends_at 𝓛 (ended E Z) (stayed E Z) (spec E Z 𝓛) bound vunit tt (tt, tt) (tt, tt)) $
-      feq_i ! (List Val) (vunit ∷ []) (vunit ∷ []) refl $ nothing ! $ nothing ! $ fjoin ! $ join ! $ nothing ! $ join ! $ nothing ! $ move ! (1 ∷ 0 ∷ []) $ done !
+      feq_i ! (List Val) (vunit ∷ []) (vunit ∷ []) refl $ nothing ! $ nothing ! $ fjoin ! $ join ! $ nothing ! $ join
+      ! $ nothing ! $ move ! (1 ∷ 0 ∷ []) $ done !
 
   walk : ent 𝓤 (⋆ 𝓛 []) (WpFn 𝓤 H C Λ (function E Z) (mark ∷ []) Post)
   walk =
       qed 𝓛 [] ∵ enter ! C Λ (function E Z) (mark ∷ []) _ $ alloc_all ! (λ l. pass_all ! refl ((tt, (tt, tt)), tt) $
       sets ! (of_opd ! (unit_lit !)) refl (tt, tt) $ returns ! (look_at ! 0 refl) $ free_all ! refl $ by ! exits)
 
-  entry : Asks E Z d → ent 𝓤 (on_entry 𝓛 (ended E Z).signature tt tt (d, tt) (us0, tt)) (WpFn 𝓤 H C Λ (function E Z) (us0 ++ []) Post)
+  entry : Asks E Z d → ent 𝓤 (on_entry 𝓛 (ended E Z).signature tt tt (d, tt) (us0, tt))
+      (WpFn 𝓤 H C Λ (function E Z) (us0 ++ []) Post)
   entry asked =
       qed 𝓛 (‵ ftrue ∷ ‵ (owns (Ch E Z ∷ []) (d, tt) (us0, tt)) ∷ []) ∵
       move ! (1 ∷ []) $ fsplit ! $ fsplit ! $ mark_had ! E us0 (λ e0. keep ! [] $
@@ -80,7 +92,8 @@ module _ (E : El) (Z : Al) {M : Type 1} {𝓤 : Ura M} (𝓛 : Logic 𝓤) (C : 
 meets : (E : El) (Z : Al) {M : Type 1} {𝓤 : Ura M} (𝓛 : Logic 𝓤) (𝓣 : Tables 𝓤 𝓛.H)
     → Meets 𝓛 (ended E Z).signature (WpFn 𝓤 𝓛.H 𝓣.C 𝓣.Λ (function E Z)) (closing 𝓛 (ended E Z) (spec E Z 𝓛))
 meets E Z {𝓤 = 𝓤} 𝓛 𝓣 =
-    walk_Meets 𝓛 (ended E Z) (stayed E Z) (Goes-blank 𝓛 0 (plain (λ _. Ch E Z)) no (λ κs x f. tt), tt) (spec E Z 𝓛) (WpFn 𝓤 𝓛.H 𝓣.C 𝓣.Λ (function E Z)) (WpFn-mono 𝓤 𝓛.H 𝓛.laws 𝓣 (function E Z))
+    walk_Meets 𝓛 (ended E Z) (stayed E Z) (Goes-blank 𝓛 0 (plain (λ _. Ch E Z)) no (λ κs x f. tt), tt) (spec E Z 𝓛)
+    (WpFn 𝓤 𝓛.H 𝓣.C 𝓣.Λ (function E Z)) (WpFn-mono 𝓤 𝓛.H 𝓛.laws 𝓣 (function E Z))
     (λ z. needs 𝓤 (Asks E Z z.0.3.0) _ (entry E Z 𝓛 𝓣.C 𝓣.Λ z.0.3.0 z.0.4.0))
 
 pub destroy_empty_spec : {M : Type 1} → stated.statement M
@@ -90,6 +103,8 @@ destroy_empty_spec 𝓤 𝓛 𝓜 𝓡 wired X W LX LW g d dd met md y =
     let Z : Al = record { row = W; laws = LW; g = g; d = d; drops = dd } in
     let 𝓣 : Tables 𝓤 𝓛.H = tables_of 𝓤 𝓛.H 𝓜 (tables 𝓤 𝓛.H 𝓜 𝓡 𝓡.env) in
     let k = #self (args E Z) in
-    spared 𝓛 (ended E Z).signature (𝓡.run (𝓡.env k)) (run_framed 𝓤 𝓛.H 𝓜 𝓡 (𝓡.env k)) 2 (X.lives, (W.lives, tt)) (closing 𝓛 (ended E Z) (spec E Z 𝓛))
-    (entered 𝓤 𝓛.H (triple_of 𝓛 (ended E Z).signature (closing 𝓛 (ended E Z) (spec E Z 𝓛))) 𝓣.C 𝓣.Λ k (function E Z) (code.unfolded 𝓤 𝓛.H 𝓜 𝓡 wired (X, (W, tt)) d dd) (meets E Z 𝓛 𝓣))
+    spared 𝓛 (ended E Z).signature (𝓡.run (𝓡.env k)) (run_framed 𝓤 𝓛.H 𝓜 𝓡 (𝓡.env k)) 2 (X.lives, (W.lives, tt))
+    (closing 𝓛 (ended E Z) (spec E Z 𝓛))
+    (entered 𝓤 𝓛.H (triple_of 𝓛 (ended E Z).signature (closing 𝓛 (ended E Z) (spec E Z 𝓛))) 𝓣.C 𝓣.Λ k (function E Z)
+    (code.unfolded 𝓤 𝓛.H 𝓜 𝓡 wired (X, (W, tt)) d dd) (meets E Z 𝓛 𝓣))
     ((y.0.0, y.0.1, tt, y.0.3, y.0.4), y.1)

@@ -63,10 +63,23 @@ module _ (E : El) (Z : Al) where
   Out = R E
 
   abbrev ended : Ended
-  ended = record { signature = record { lifetimes = 1; outlives = []; params = RefOf (0 ∷ []) tt (plain (λ _. Ch E Z)) (λ _. tt) ∷ plain (λ _. Bp E) ∷ plain (λ _. usize) ∷ []; result = RefOf (0 ∷ []) tt (plain (λ _. R E)) (λ _. tt) }; kept = (yes, (no, (no, tt))) }
+  ended = record {
+    signature = record {
+      lifetimes = 1;
+      outlives = [];
+      params = RefOf (0 ∷ []) tt
+          (plain (λ _. Ch E Z)) (λ _. tt) ∷ plain (λ _. Bp E) ∷ plain (λ _. usize)
+          ∷ [];
+      result = RefOf (0 ∷ []) tt (plain (λ _. R E)) (λ _. tt);
+    };
+    kept = (yes, (no, (no, tt)));
+  }
 
   abbrev stayed : Stays ended.signature.params ended.kept
-  stayed = (stay_dropped (RefOf (0 ∷ []) tt (plain (λ _. Ch E Z)) (λ _. tt)) yes, (stay_dropped (plain (λ _. Bp E)) no, (stay_dropped (plain (λ _. usize)) no, tt)))
+  stayed = (
+    stay_dropped (RefOf (0 ∷ []) tt (plain (λ _. Ch E Z)) (λ _. tt)) yes,
+    (stay_dropped (plain (λ _. Bp E)) no, (stay_dropped (plain (λ _. usize)) no, tt)),
+  )
 
   abbrev Asks : (Ch E Z).Denot → (Bp E).Denot → (usize).Denot → Type 0
   Asks d front index = IsFirst d.blocks front.ptr × (index < 32) × IsFilled d.slots index
@@ -75,9 +88,16 @@ module _ (E : El) (Z : Al) where
   Gives0 d front index r = get_or d.slots index None ≡ Some r.now
 
   abbrev spec : {M : Type 1} {𝓤 : Ura M} (𝓛 : Logic 𝓤) → Clauses 𝓤 ended
-  spec {𝓤 = 𝓤} 𝓛 κs a = record { ghost = Unit {0}; requires = λ _. fact 𝓤 (Asks a.0.now a.1.0 a.1.1.0); ensures = λ _ r w. fact 𝓤 (Gives0 a.0.now a.1.0 a.1.1.0 r) }
+  spec {𝓤 = 𝓤} 𝓛 κs a = record {
+    ghost = Unit {0};
+    requires = λ _. fact 𝓤 (Asks a.0.now a.1.0 a.1.1.0);
+    ensures = λ _
+        r w. fact 𝓤 (Gives0 a.0.now a.1.0 a.1.1.0 r);
+  }
 
-module _ (E : El) (Z : Al) {M : Type 1} {𝓤 : Ura M} (𝓛 : Logic 𝓤) (C : Calls 𝓤 𝓛.H) (Λ : Loops 𝓤 𝓛.H) (κ : Lft) (q : Share) (rb ro : ℕ) (d : (Ch E Z).Denot) (front : (Bp E).Denot) (index : (usize).Denot) (us0 us1 us2 : List Val) where
+module _ (E : El) (Z : Al) {M : Type 1} {𝓤 : Ura M} (𝓛 : Logic 𝓤) (C : Calls 𝓤 𝓛.H) (Λ : Loops 𝓤 𝓛.H) (κ : Lft)
+    (q : Share) (rb ro : ℕ) (d : (Ch E Z).Denot) (front : (Bp E).Denot) (index : (usize).Denot)
+    (us0 us1 us2 : List Val) where
   open 𝓛 use {H, A}
 
   abbrev self : Bor (Ch E Z).Denot
@@ -89,16 +109,20 @@ module _ (E : El) (Z : Al) {M : Type 1} {𝓤 : Ura M} (𝓛 : Logic 𝓤) (C : 
   abbrev Post : Val → SProp 𝓤
   Post = (walk_of 𝓛 (ended E Z) (stayed E Z) (spec E Z 𝓛)).post bound
 
-  exits : (r : (ShrRef (named 0) κ (R E)).Denot) (v : Val) → Gives0 E Z d front index r → ent 𝓤 (⋆ 𝓛 (‵ (flft κ q) ∷ ‵ ((ShrRef (named 0) κ (R E)).own_val r (v ∷ [])) ∷ [])) (Post v)
+  exits : (r : (ShrRef (named 0) κ (R E)).Denot) (v : Val) → Gives0 E Z d front index r
+      → ent 𝓤 (⋆ 𝓛 (‵ (flft κ q) ∷ ‵ ((ShrRef (named 0) κ (R E)).own_val r (v ∷ [])) ∷ [])) (Post v)
   exits r v g0 =
       qed 𝓛 (‵ (flft κ q) ∷ ‵ ((ShrRef (named 0) κ (R E)).own_val r (v ∷ [])) ∷ []) ∵
-      suffices ! _ (ends_at 𝓛 (ended E Z) (stayed E Z) (spec E Z 𝓛) bound v r (tt, (tt, (tt, tt))) (tt, (tt, (tt, tt)))) $ says ! g0 $
-      nothing ! $ move ! (1 ∷ 0 ∷ []) $ join ! $ frame ! $ nothing ! $ nothing ! $ fjoin ! $ nothing ! $ fjoin ! $ nothing ! $ fjoin ! $ done !
+      suffices ! _ (ends_at 𝓛 (ended E Z) (stayed E Z) (spec E Z 𝓛) bound v r (tt, (tt, (tt, tt)))
+      (tt, (tt, (tt, tt)))) $ says ! g0 $
+      nothing ! $ move ! (1 ∷ 0 ∷ []) $ join ! $ frame ! $ nothing ! $ nothing ! $ fjoin ! $ nothing ! $ fjoin ! $
+      nothing ! $ fjoin ! $ done !
 
   abbrev Had : List (Item 𝓤)
   Had = ‵ (hidden_shr (Ch E Z) κ d rb ro) ∷ ‵ (flft κ q) ∷ []
 
-  walk : Asks E Z d front index → index < 2 ^ 64 → ent 𝓤 (⋆ 𝓛 Had) (WpFn 𝓤 H C Λ (function E Z) (vptr rb ro ∷ word front.ptr ∷ vint w64 index ∷ []) Post)
+  walk : Asks E Z d front index → index < 2 ^ 64 → ent 𝓤 (⋆ 𝓛 Had)
+      (WpFn 𝓤 H C Λ (function E Z) (vptr rb ro ∷ word front.ptr ∷ vint w64 index ∷ []) Post)
   walk asked fits_index =
       let x = asked.2.0 in let p : Ptr = first_block_of d.blocks in let cs : List (Place E) = take 32 d.slots in
       let more = past_first d.blocks asked.0.0 in
@@ -106,27 +130,38 @@ module _ (E : El) (Z : Al) {M : Type 1} {𝓤 : Ura M} (𝓛 : Logic 𝓤) (C : 
       let within : index < length cs = omega (arith, length-take 32 d.slots, asked.1, inside) in
       let few : length cs ≤ 32 = omega (arith, length-take 32 d.slots) in
       let full : get_or cs index None ≡ Some x = get_or-take 32 d.slots index None asked.1 ∙ asked.2.1 in
-      qed 𝓛 Had ∵ enter ! C Λ (function E Z) (vptr rb ro ∷ word front.ptr ∷ vint w64 index ∷ []) _ $ alloc_all ! (λ l. pass_all ! refl ((tt, tt), (word-Good [] front.ptr, ((tt, record { fits = fits_index }), tt))) $
+      qed 𝓛 Had ∵ enter ! C Λ (function E Z) (vptr rb ro ∷ word front.ptr ∷ vint w64 index ∷ []) _ $ alloc_all !
+      (λ l. pass_all ! refl ((tt, tt), (word-Good [] front.ptr, ((tt, record { fits = fits_index }), tt))) $
       let En : Env 𝓤 H = env (function E Z).locals l in
       unhide ! $ fsplit ! $ skip ! $ rewrite ! 0 (λ (ps : List Ptr). ‵ (chain_lent (R E) ps d.slots κ)) more.1 refl $
       use1 𝓛 (‵ (cells_lent (R E) (places_of (R E) p) cs κ)) (first_seen E 𝓛 κ p more.0 d.slots) $
-      in_a_block ! p (λ a. cells_lent (R E) (places_of (R E) a) cs κ) (id⊢ 𝓤 (never 𝓤)) (λ b o e. fsplit ! $ flt_l ! (λ small.
+      in_a_block ! p (λ a. cells_lent (R E) (places_of (R E) a) cs κ) (id⊢ 𝓤 (never 𝓤))
+      (λ b o e. fsplit ! $ flt_l ! (λ small.
       let s = sz E in let tiny : s < 2 ^ 64 = omega (arith, one_below (length cs) s (2 ^ 63) (omega arith) small) in
       let far : index * s < 2 ^ 64 = omega (arith, times_below index (length cs) s (2 ^ 63) (omega arith) small) in
       let base : ℕ = o + places_offset (R E) in
-      take_at ! 2 $ rewrite ! 0 (λ (a : Ptr). ‵ (fat full_share (layout (Bp E)) (l 2) 0 (word a))) (asked.0.1 ∙ e) refl $ give_at ! 2 $ first ! $ blocks ! $
-      sets ! (addr ! (from ! (fld ! refl (hop ! (look_in_at ! 2 (sub ! 0 refl (whole !))) (fld ! refl (stop !)))))) refl (tt, tt) $
-      sets ! (bin ! (get ! refl) (size_lit ! (record { fits = tiny })) (record { fits = far })) refl (tt, record { fits = far }) $
+      take_at ! 2 $ rewrite ! 0 (λ (a : Ptr). ‵ (fat full_share (layout (Bp E)) (l 2) 0 (word a))) (asked.0.1 ∙ e)
+      refl $ give_at ! 2 $ first ! $ blocks ! $
+      sets ! (addr ! (from ! (fld ! refl (hop ! (look_in_at ! 2 (sub ! 0 refl (whole !))) (fld ! refl (stop !))))))
+      refl (tt, tt) $
+      sets ! (bin ! (get ! refl) (size_lit ! (record { fits = tiny })) (record { fits = far })) refl
+      (tt, record { fits = far }) $
       sets ! (bin ! (get ! refl) (get ! refl) tt) refl (tt, tt) $
-      use1 𝓛 (‵ (slot_lent (R E) b (index * s + base) (get_or cs index None) κ)) (slot_seen E 𝓛 b κ base cs index within) $
+      use1 𝓛 (‵ (slot_lent (R E) b (index * s + base) (get_or cs index None) κ))
+      (slot_seen E 𝓛 b κ base cs index within) $
       rewrite ! 0 (λ (c : Place E). ‵ (slot_lent (R E) b (index * s + base) c κ)) full refl $ hide ! $
-      sets_last ! (addr ! (through ! refl (stop !))) refl (tt, tt) $ exec ! C Λ En (after 1 (function E Z).body) (at_ret En Post) $ sets ! (of_opd ! (get ! refl)) refl (tt, tt) $
+      sets_last ! (addr ! (through ! refl (stop !))) refl (tt, tt) $ exec ! C Λ En (after 1 (function E Z).body)
+      (at_ret En Post) $ sets ! (of_opd ! (get ! refl)) refl (tt, tt) $
       feq_i ! (List Val) (vptr b (index * s + base) ∷ []) (vptr b (index * s + base) ∷ []) refl $ fjoin ! $
-      returns ! (look_at ! 0 refl) $ free_all ! refl $ keep ! (1 ∷ 0 ∷ []) $ by ! (exits (record { ref_ptr = (b, index * s + base); now = x }) (vptr b (index * s + base)) asked.2.1))))
+      returns ! (look_at ! 0 refl) $ free_all ! refl $ keep ! (1 ∷ 0 ∷ []) $ by !
+      (exits (record { ref_ptr = (b, index * s + base); now = x }) (vptr b (index * s + base)) asked.2.1))))
 
-  entry : Asks E Z d front index → ent 𝓤 (on_entry 𝓛 (ended E Z).signature (κ, tt) (q, tt) (self, (front, (index, tt))) (us0, (us1, (us2, tt)))) (WpFn 𝓤 H C Λ (function E Z) (us0 ++ (us1 ++ (us2 ++ ([])))) Post)
+  entry : Asks E Z d front index → ent 𝓤 (on_entry 𝓛 (ended E Z).signature (κ, tt) (q, tt)
+      (self, (front, (index, tt))) (us0, (us1, (us2, tt))))
+      (WpFn 𝓤 H C Λ (function E Z) (us0 ++ (us1 ++ (us2 ++ ([])))) Post)
   entry asked =
-      qed 𝓛 ((‵ (flft κ q) ⊛ ‵ ftrue) ∷ ‵ (owns (ShrRef (named 0) κ (Ch E Z) ∷ Bp E ∷ usize ∷ []) (self, (front, (index, tt))) (us0, (us1, (us2, tt)))) ∷ []) ∵
+      qed 𝓛 ((‵ (flft κ q) ⊛ ‵ ftrue) ∷ ‵ (owns (ShrRef (named 0) κ (Ch E Z) ∷ Bp E ∷ usize ∷ [])
+      (self, (front, (index, tt))) (us0, (us1, (us2, tt)))) ∷ []) ∵
       split ! $ move ! (2 ∷ []) $
       fsplit ! $
       fsplit ! $ feq_l ! (λ e0.
@@ -136,13 +171,25 @@ module _ (E : El) (Z : Al) {M : Type 1} {𝓤 : Ura M} (𝓛 : Logic 𝓤) (C : 
       fsplit ! $
       fsplit ! $ feq_l ! (λ e2. flt_l ! (λ fits_index.
       keep ! (1 ∷ 2 ∷ []) $
-      by ! (subst (λ (ws : List Val × List Val × List Val). ent 𝓤 (⋆ 𝓛 Had) (WpFn 𝓤 H C Λ (function E Z) (ws.0 ++ (ws.1 ++ (ws.2 ++ ([])))) Post)) (λ j. (sym e0 j, sym e1 j, sym e2 j)) (walk asked fits_index))))))
+      by ! (subst (λ (ws : List Val × List Val × List Val). ent 𝓤 (⋆ 𝓛 Had)
+      (WpFn 𝓤 H C Λ (function E Z) (ws.0 ++ (ws.1 ++ (ws.2 ++ ([])))) Post)) (λ j. (sym e0 j, sym e1 j, sym e2 j))
+      (walk asked fits_index))))))
 
 meets : (E : El) (Z : Al) {M : Type 1} {𝓤 : Ura M} (𝓛 : Logic 𝓤) (𝓣 : Tables 𝓤 𝓛.H)
     → Meets 𝓛 (ended E Z).signature (WpFn 𝓤 𝓛.H 𝓣.C 𝓣.Λ (function E Z)) (closing 𝓛 (ended E Z) (spec E Z 𝓛))
 meets E Z {𝓤 = 𝓤} 𝓛 𝓣 =
-    walk_Meets 𝓛 (ended E Z) (stayed E Z) (Goes-dropped 𝓛 1 (RefOf (0 ∷ []) tt (plain (λ _. Ch E Z)) (λ _. tt)) yes (λ κs x f. refl), (Goes-dropped 𝓛 1 (plain (λ _. Bp E)) no (λ κs x f. refl), (Goes-dropped 𝓛 1 (plain (λ _. usize)) no (λ κs x f. refl), tt))) (spec E Z 𝓛) (WpFn 𝓤 𝓛.H 𝓣.C 𝓣.Λ (function E Z)) (WpFn-mono 𝓤 𝓛.H 𝓛.laws 𝓣 (function E Z))
-    (λ z. needs 𝓤 (Asks E Z z.0.3.0.now z.0.3.1.0 z.0.3.1.1.0) _ (entry E Z 𝓛 𝓣.C 𝓣.Λ z.0.0.0 z.0.1.0 z.0.3.0.ref_ptr.0 z.0.3.0.ref_ptr.1 z.0.3.0.now z.0.3.1.0 z.0.3.1.1.0 z.0.4.0 z.0.4.1.0 z.0.4.1.1.0))
+    walk_Meets 𝓛 (ended E Z) (stayed E Z) (
+      Goes-dropped 𝓛 1 (RefOf (0 ∷ []) tt (plain (λ _. Ch E Z)) (λ _. tt)) yes
+          (λ κs x f. refl),
+      (
+        Goes-dropped 𝓛 1 (plain (λ _. Bp E)) no (λ κs x f. refl),
+        (Goes-dropped 𝓛 1 (plain (λ _. usize)) no (λ κs x f. refl), tt),
+      ),
+    ) (spec E Z 𝓛)
+    (WpFn 𝓤 𝓛.H 𝓣.C 𝓣.Λ (function E Z)) (WpFn-mono 𝓤 𝓛.H 𝓛.laws 𝓣 (function E Z))
+    (λ z. needs 𝓤 (Asks E Z z.0.3.0.now z.0.3.1.0 z.0.3.1.1.0) _
+    (entry E Z 𝓛 𝓣.C 𝓣.Λ z.0.0.0 z.0.1.0 z.0.3.0.ref_ptr.0 z.0.3.0.ref_ptr.1 z.0.3.0.now z.0.3.1.0 z.0.3.1.1.0
+    z.0.4.0 z.0.4.1.0 z.0.4.1.1.0))
 
 pub get_spec : {M : Type 1} → stated.statement M
 unfolding tables_of
@@ -151,6 +198,8 @@ get_spec 𝓤 𝓛 𝓜 𝓡 wired X W LX LW g d dd met md y =
     let Z : Al = record { row = W; laws = LW; g = g; d = d; drops = dd } in
     let 𝓣 : Tables 𝓤 𝓛.H = tables_of 𝓤 𝓛.H 𝓜 (tables 𝓤 𝓛.H 𝓜 𝓡 𝓡.env) in
     let k = #self (args E Z) in
-    spared 𝓛 (ended E Z).signature (𝓡.run (𝓡.env k)) (run_framed 𝓤 𝓛.H 𝓜 𝓡 (𝓡.env k)) 2 (X.lives, (W.lives, tt)) (closing 𝓛 (ended E Z) (spec E Z 𝓛))
-    (entered 𝓤 𝓛.H (triple_of 𝓛 (ended E Z).signature (closing 𝓛 (ended E Z) (spec E Z 𝓛))) 𝓣.C 𝓣.Λ k (function E Z) (code.unfolded 𝓤 𝓛.H 𝓜 𝓡 wired (X, (W, tt)) d dd) (meets E Z 𝓛 𝓣))
+    spared 𝓛 (ended E Z).signature (𝓡.run (𝓡.env k)) (run_framed 𝓤 𝓛.H 𝓜 𝓡 (𝓡.env k)) 2 (X.lives, (W.lives, tt))
+    (closing 𝓛 (ended E Z) (spec E Z 𝓛))
+    (entered 𝓤 𝓛.H (triple_of 𝓛 (ended E Z).signature (closing 𝓛 (ended E Z) (spec E Z 𝓛))) 𝓣.C 𝓣.Λ k (function E Z)
+    (code.unfolded 𝓤 𝓛.H 𝓜 𝓡 wired (X, (W, tt)) d dd) (meets E Z 𝓛 𝓣))
     ((y.0.0, y.0.1, tt, y.0.3, y.0.4), y.1)

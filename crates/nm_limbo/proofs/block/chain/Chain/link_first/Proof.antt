@@ -55,21 +55,41 @@ module _ (E : El) (Z : Al) where
   Out = Bp E
 
   abbrev ended : Ended
-  ended = record { signature = record { lifetimes = 1; outlives = []; params = RefMutOf (0 ∷ []) tt (plain (λ _. Ch E Z)) (λ _. tt) ∷ plain (λ _. Rm E) ∷ plain (λ _. Dd E Z) ∷ []; result = plain (λ _. Out) }; kept = (yes, (no, (no, tt))) }
+  ended = record {
+    signature = record {
+      lifetimes = 1;
+      outlives = [];
+      params = RefMutOf (0 ∷ []) tt
+          (plain (λ _. Ch E Z)) (λ _. tt) ∷ plain (λ _. Rm E) ∷ plain (λ _. Dd E Z) ∷ [];
+      result = plain (λ _. Out);
+    };
+    kept = (yes, (no, (no, tt)));
+  }
 
   abbrev stayed : Stays ended.signature.params ended.kept
-  stayed = (stay_ref (0 ∷ []) tt (plain (λ _. Ch E Z)), (stay_dropped (plain (λ _. Rm E)) no, (stay_dropped (plain (λ _. Dd E Z)) no, tt)))
+  stayed = (
+    stay_ref (0 ∷ []) tt (plain (λ _. Ch E Z)),
+    (stay_dropped (plain (λ _. Rm E)) no, (stay_dropped (plain (λ _. Dd E Z)) no, tt)),
+  )
 
   abbrev Asks : (Ch E Z).Denot → (Rm E).Denot → (Dd E Z).Denot → Type 0
   Asks d room deed = (d.blocks ≡ []) × (deed.at ≡ room.ptr) × (deed.alloc ≡ d.alloc)
 
   abbrev Gives0 : (Ch E Z).Denot → (Rm E).Denot → (Dd E Z).Denot → (Out).Denot → (Ch E Z).Denot → Type 0
-  Gives0 d room deed r new = (r.ptr ≡ room.ptr) × (new.blocks ≡ room.ptr ∷ []) × (new.slots ≡ replicate 32 None) × (new.alloc ≡ d.alloc)
+  Gives0 d room deed r new = (r.ptr ≡ room.ptr) × (new.blocks ≡ room.ptr ∷ []) × (new.slots ≡ replicate 32 None)
+      × (new.alloc ≡ d.alloc)
 
   abbrev spec : {M : Type 1} {𝓤 : Ura M} (𝓛 : Logic 𝓤) → Clauses 𝓤 ended
-  spec {𝓤 = 𝓤} 𝓛 κs a = record { ghost = Unit {0}; requires = λ _. fact 𝓤 (Asks a.0.now a.1.0 a.1.1.0); ensures = λ _ r w. fact 𝓤 (Gives0 a.0.now a.1.0 a.1.1.0 r w.0.now) }
+  spec {𝓤 = 𝓤} 𝓛 κs a = record {
+    ghost = Unit {0};
+    requires = λ _. fact 𝓤 (Asks a.0.now a.1.0 a.1.1.0);
+    ensures = λ _
+        r w. fact 𝓤 (Gives0 a.0.now a.1.0 a.1.1.0 r w.0.now);
+  }
 
-module _ (E : El) (Z : Al) {M : Type 1} {𝓤 : Ura M} (𝓛 : Logic 𝓤) (C : Calls 𝓤 𝓛.H) (Λ : Loops 𝓤 𝓛.H) (κ : Lft) (q : Share) (rb ro : ℕ) (γ : GName) (d : (Ch E Z).Denot) (room : (Rm E).Denot) (deed : (Dd E Z).Denot) (us0 us1 us2 : List Val) where
+module _ (E : El) (Z : Al) {M : Type 1} {𝓤 : Ura M} (𝓛 : Logic 𝓤) (C : Calls 𝓤 𝓛.H) (Λ : Loops 𝓤 𝓛.H) (κ : Lft)
+    (q : Share) (rb ro : ℕ) (γ : GName) (d : (Ch E Z).Denot) (room : (Rm E).Denot) (deed : (Dd E Z).Denot)
+    (us0 us1 us2 : List Val) where
   open 𝓛 use {H, A}
 
   abbrev self : MutBor (Ch E Z).Denot
@@ -81,41 +101,58 @@ module _ (E : El) (Z : Al) {M : Type 1} {𝓤 : Ura M} (𝓛 : Logic 𝓤) (C : 
   abbrev Post : Val → SProp 𝓤
   Post = (walk_of 𝓛 (ended E Z) (stayed E Z) (spec E Z 𝓛)).post bound
 
-  exits : us0 ≡ vptr rb ro ∷ [] → (r : (Out E Z).Denot) (v : Val) (new : (Ch E Z).Denot) → Gives0 E Z d room deed r new → ent 𝓤 (⋆ 𝓛 (‵ (fobs γ ((Ch E Z).coded.code new)) ∷ ‵ (fbor κ (Borrowed (mem (Ch E Z)) rb ro γ)) ∷ ‵ (flft κ q) ∷ ‵ ((Out E Z).own_val r (v ∷ [])) ∷ [])) (Post v)
+  exits : us0 ≡ vptr rb ro ∷ [] → (r : (Out E Z).Denot) (v : Val) (new : (Ch E Z).Denot)
+      → Gives0 E Z d room deed r new → ent 𝓤 (⋆ 𝓛 (‵ (fobs γ ((Ch E Z).coded.code new))
+      ∷ ‵ (fbor κ (Borrowed (mem (Ch E Z)) rb ro γ)) ∷ ‵ (flft κ q) ∷ ‵ ((Out E Z).own_val r (v ∷ [])) ∷ [])) (Post v)
   exits passed r v new g0 =
-      qed 𝓛 (‵ (fobs γ ((Ch E Z).coded.code new)) ∷ ‵ (fbor κ (Borrowed (mem (Ch E Z)) rb ro γ)) ∷ ‵ (flft κ q) ∷ ‵ ((Out E Z).own_val r (v ∷ [])) ∷ []) ∵
-      suffices ! _ (ends_at 𝓛 (ended E Z) (stayed E Z) (spec E Z 𝓛) bound v r (new, (tt, (tt, tt))) (tt, (tt, (tt, tt)))) $ says ! g0 $
-      nothing ! $ move ! (3 ∷ 0 ∷ []) $ join ! $ frame ! $ feq_i ! (List Val) us0 (vptr rb ro ∷ []) passed $ fjoin3 ! $ nothing ! $ nothing ! $ fjoin ! $ nothing ! $ fjoin ! $ move ! (1 ∷ 0 ∷ []) $ fjoin ! $ done !
+      qed 𝓛 (‵ (fobs γ ((Ch E Z).coded.code new)) ∷ ‵ (fbor κ (Borrowed (mem (Ch E Z)) rb ro γ)) ∷ ‵ (flft κ q)
+      ∷ ‵ ((Out E Z).own_val r (v ∷ [])) ∷ []) ∵
+      suffices ! _ (ends_at 𝓛 (ended E Z) (stayed E Z) (spec E Z 𝓛) bound v r (new, (tt, (tt, tt)))
+      (tt, (tt, (tt, tt)))) $ says ! g0 $
+      nothing ! $ move ! (3 ∷ 0 ∷ []) $ join ! $ frame ! $ feq_i ! (List Val) us0 (vptr rb ro ∷ []) passed $ fjoin3 !
+      $ nothing ! $ nothing ! $ fjoin ! $ nothing ! $ fjoin ! $ move ! (1 ∷ 0 ∷ []) $ fjoin ! $ done !
 
   abbrev Had : List (Item 𝓤)
-  Had = ‵ (fobs γ ((Ch E Z).coded.code d)) ∷ ‵ (fbor κ (Borrowed (mem (Ch E Z)) rb ro γ)) ∷ ‵ (flft κ q) ∷ ‵ (room_owns (R E) room.ptr) ∷ ‵ (deed_owns (R E) (token Z deed.alloc) deed.at) ∷ []
+  Had = ‵ (fobs γ ((Ch E Z).coded.code d)) ∷ ‵ (fbor κ (Borrowed (mem (Ch E Z)) rb ro γ)) ∷ ‵ (flft κ q)
+      ∷ ‵ (room_owns (R E) room.ptr) ∷ ‵ (deed_owns (R E) (token Z deed.alloc) deed.at) ∷ []
 
-  walk : us0 ≡ vptr rb ro ∷ [] → Asks E Z d room deed → ent 𝓤 (⋆ 𝓛 Had) (WpFn 𝓤 H C Λ (function E Z) (vptr rb ro ∷ word room.ptr ∷ mark ∷ []) Post)
+  walk : us0 ≡ vptr rb ro ∷ [] → Asks E Z d room deed
+      → ent 𝓤 (⋆ 𝓛 Had) (WpFn 𝓤 H C Λ (function E Z) (vptr rb ro ∷ word room.ptr ∷ mark ∷ []) Post)
   walk passed asked =
       let p : Ptr = room.ptr in let none : List (Place E) = replicate 32 None in
       let new : (Ch E Z).Denot = record { mark = d.mark; blocks = p ∷ []; slots = none; alloc = d.alloc } in
-      qed 𝓛 Had ∵ enter ! C Λ (function E Z) (vptr rb ro ∷ word room.ptr ∷ mark ∷ []) _ $ alloc_all ! (λ l. pass_all ! refl ((tt, tt), (word-Good [] room.ptr, ((tt, (tt, tt)), tt))) $
+      qed 𝓛 Had ∵ enter ! C Λ (function E Z) (vptr rb ro ∷ word room.ptr ∷ mark ∷ []) _ $ alloc_all !
+      (λ l. pass_all ! refl ((tt, tt), (word-Good [] room.ptr, ((tt, (tt, tt)), tt))) $
       let En : Env 𝓤 H = env (function E Z).locals l in
       opens ! tt (Ch E Z) {h = d} rb ro (λ vs. move ! (1 ∷ []) $ fsplit ! $ move ! (1 ∷ []) $ skip ! $
       -- [the mark; its cell; the open borrow; obs; auth; the room; the deed]
-      move ! (6 ∷ []) $ rewrite ! 0 (λ (x : Z.row.Denot × Ptr). ‵ (deed_owns (R E) (token Z x.0) x.1)) (λ i. (asked.2 i, asked.1 i)) refl $
+      move ! (6 ∷ []) $ rewrite ! 0 (λ (x : Z.row.Denot × Ptr). ‵ (deed_owns (R E) (token Z x.0) x.1))
+      (λ i. (asked.2 i, asked.1 i)) refl $
       move ! (6 ∷ []) $ in_a_block ! p (room_owns (R E)) (fst∗ 𝓤 (never 𝓤) (never 𝓤)) (λ b o e. fsplit ! $
       -- [the room of its link; its places; its deed; the mark; ..]
-      sets ! (is ! (of_opd ! (get_in ! (fld ! refl (stop !)) (sub ! 0 refl (whole !)))) (ap ptr_val e)) refl (tt, tt) $ first ! $ blocks ! $
+      sets ! (is ! (of_opd ! (get_in ! (fld ! refl (stop !)) (sub ! 0 refl (whole !)))) (ap ptr_val e)) refl (tt, tt)
+      $ first ! $ blocks ! $
       assigns_last ! (of_opd ! (lit ! tt)) (through ! refl (fld ! refl (stop !))) (init ! 0 refl (Ptr-Good null_ptr)) $
-      exec ! C Λ En (after 2 (function E Z).body) (at_ret En Post) $ sets ! (is ! (agg ! (and_then ! (get ! refl) (no_more !))) (ap word (sym e))) refl (word-Good [] p) $
-      pointer_in ! null_ptr b (o + 0) $ rewrite ! 0 (λ (a : Ptr). ‵ (link_owns a null_ptr)) (sym e) refl $ nothing ! $ move ! (1 ∷ 0 ∷ []) $ fjoin ! $
+      exec ! C Λ En (after 2 (function E Z).body) (at_ret En Post) $ sets !
+      (is ! (agg ! (and_then ! (get ! refl) (no_more !))) (ap word (sym e))) refl (word-Good [] p) $
+      pointer_in ! null_ptr b (o + 0) $ rewrite ! 0 (λ (a : Ptr). ‵ (link_owns a null_ptr)) (sym e) refl $ nothing !
+      $ move ! (1 ∷ 0 ∷ []) $ fjoin ! $
       -- [the links; its places; its deed; the mark; ..]
-      move ! (1 ∷ []) $ rewrite ! 0 (λ (a : Ptr). ‵ (Cells E a none)) (sym e) refl $ nothing ! $ move ! (1 ∷ 0 ∷ []) $ fjoin ! $
+      move ! (1 ∷ []) $ rewrite ! 0 (λ (a : Ptr). ‵ (Cells E a none)) (sym e) refl $ nothing ! $ move ! (1 ∷ 0 ∷ [])
+      $ fjoin ! $
       move ! (2 ∷ []) $ nothing ! $ move ! (1 ∷ 0 ∷ []) $ fjoin ! $
       -- [the deeds; the places; the links; the mark; its cell; the open borrow; obs; auth]
-      move ! (1 ∷ 2 ∷ 0 ∷ []) $ fjoin3 ! $ move ! (1 ∷ 0 ∷ []) $ fjoin ! $ move ! (1 ∷ 0 ∷ []) $ closes ! tt (Ch E Z) new vs rb ro $
-      returns ! (look_at ! 0 refl) $ free_all ! refl $ keep ! (0 ∷ 1 ∷ 2 ∷ []) $ word_made ! p $ move ! (1 ∷ 2 ∷ 3 ∷ 0 ∷ []) $
+      move ! (1 ∷ 2 ∷ 0 ∷ []) $ fjoin3 ! $ move ! (1 ∷ 0 ∷ []) $ fjoin ! $ move ! (1 ∷ 0 ∷ []) $ closes ! tt (Ch E Z)
+      new vs rb ro $
+      returns ! (look_at ! 0 refl) $ free_all ! refl $ keep ! (0 ∷ 1 ∷ 2 ∷ []) $ word_made ! p $ move !
+      (1 ∷ 2 ∷ 3 ∷ 0 ∷ []) $
       by ! (exits passed (record { ptr = p }) (word p) new (refl, refl, refl, refl)))))
 
-  entry : Asks E Z d room deed → ent 𝓤 (on_entry 𝓛 (ended E Z).signature (κ, tt) (q, tt) (self, (room, (deed, tt))) (us0, (us1, (us2, tt)))) (WpFn 𝓤 H C Λ (function E Z) (us0 ++ (us1 ++ (us2 ++ ([])))) Post)
+  entry : Asks E Z d room deed → ent 𝓤 (on_entry 𝓛 (ended E Z).signature (κ, tt) (q, tt) (self, (room, (deed, tt)))
+      (us0, (us1, (us2, tt)))) (WpFn 𝓤 H C Λ (function E Z) (us0 ++ (us1 ++ (us2 ++ ([])))) Post)
   entry asked =
-      qed 𝓛 ((‵ (flft κ q) ⊛ ‵ ftrue) ∷ ‵ (owns (MutRef (named 0) κ (Ch E Z) ∷ Rm E ∷ Dd E Z ∷ []) (self, (room, (deed, tt))) (us0, (us1, (us2, tt)))) ∷ []) ∵
+      qed 𝓛 ((‵ (flft κ q) ⊛ ‵ ftrue) ∷ ‵ (owns (MutRef (named 0) κ (Ch E Z) ∷ Rm E ∷ Dd E Z ∷ [])
+      (self, (room, (deed, tt))) (us0, (us1, (us2, tt)))) ∷ []) ∵
       split ! $ move ! (2 ∷ []) $
       fsplit ! $
       fsplit3 ! $ feq_l ! (λ e0.
@@ -126,13 +163,24 @@ module _ (E : El) (Z : Al) {M : Type 1} {𝓤 : Ura M} (𝓛 : Logic 𝓤) (C : 
       fsplit ! $
       fsplit ! $ mark_had ! E us2 (λ e2.
       keep ! (3 ∷ 4 ∷ 5 ∷ 2 ∷ 0 ∷ []) $
-      by ! (subst (λ (ws : List Val × List Val × List Val). ent 𝓤 (⋆ 𝓛 Had) (WpFn 𝓤 H C Λ (function E Z) (ws.0 ++ (ws.1 ++ (ws.2 ++ ([])))) Post)) (λ j. (sym e0 j, sym e1 j, sym e2 j)) (walk e0 asked)))))
+      by ! (subst (λ (ws : List Val × List Val × List Val). ent 𝓤 (⋆ 𝓛 Had)
+      (WpFn 𝓤 H C Λ (function E Z) (ws.0 ++ (ws.1 ++ (ws.2 ++ ([])))) Post)) (λ j. (sym e0 j, sym e1 j, sym e2 j))
+      (walk e0 asked)))))
 
 meets : (E : El) (Z : Al) {M : Type 1} {𝓤 : Ura M} (𝓛 : Logic 𝓤) (𝓣 : Tables 𝓤 𝓛.H)
     → Meets 𝓛 (ended E Z).signature (WpFn 𝓤 𝓛.H 𝓣.C 𝓣.Λ (function E Z)) (closing 𝓛 (ended E Z) (spec E Z 𝓛))
 meets E Z {𝓤 = 𝓤} 𝓛 𝓣 =
-    walk_Meets 𝓛 (ended E Z) (stayed E Z) (Goes-ref 𝓛 1 0 tt (plain (λ _. Ch E Z)), (Goes-blank 𝓛 1 (plain (λ _. Rm E)) no (λ κs x f. tt), (Goes-blank 𝓛 1 (plain (λ _. Dd E Z)) no (λ κs x f. tt), tt))) (spec E Z 𝓛) (WpFn 𝓤 𝓛.H 𝓣.C 𝓣.Λ (function E Z)) (WpFn-mono 𝓤 𝓛.H 𝓛.laws 𝓣 (function E Z))
-    (λ z. needs 𝓤 (Asks E Z z.0.3.0.now z.0.3.1.0 z.0.3.1.1.0) _ (entry E Z 𝓛 𝓣.C 𝓣.Λ z.0.0.0 z.0.1.0 z.0.3.0.ref_ptr.0 z.0.3.0.ref_ptr.1 z.0.3.0.ghost_name z.0.3.0.now z.0.3.1.0 z.0.3.1.1.0 z.0.4.0 z.0.4.1.0 z.0.4.1.1.0))
+    walk_Meets 𝓛 (ended E Z) (stayed E Z) (
+      Goes-ref 𝓛 1 0 tt (plain (λ _. Ch E Z)),
+      (
+        Goes-blank 𝓛 1 (plain (λ _. Rm E)) no (λ κs x f. tt),
+        (Goes-blank 𝓛 1 (plain (λ _. Dd E Z)) no (λ κs x f. tt), tt),
+      ),
+    ) (spec E Z 𝓛) (WpFn 𝓤 𝓛.H 𝓣.C 𝓣.Λ (function E Z))
+    (WpFn-mono 𝓤 𝓛.H 𝓛.laws 𝓣 (function E Z))
+    (λ z. needs 𝓤 (Asks E Z z.0.3.0.now z.0.3.1.0 z.0.3.1.1.0) _
+    (entry E Z 𝓛 𝓣.C 𝓣.Λ z.0.0.0 z.0.1.0 z.0.3.0.ref_ptr.0 z.0.3.0.ref_ptr.1 z.0.3.0.ghost_name z.0.3.0.now
+    z.0.3.1.0 z.0.3.1.1.0 z.0.4.0 z.0.4.1.0 z.0.4.1.1.0))
 
 pub link_first_spec : {M : Type 1} → stated.statement M
 unfolding tables_of
@@ -141,6 +189,8 @@ link_first_spec 𝓤 𝓛 𝓜 𝓡 wired X W LX LW g d dd met md y =
     let Z : Al = record { row = W; laws = LW; g = g; d = d; drops = dd } in
     let 𝓣 : Tables 𝓤 𝓛.H = tables_of 𝓤 𝓛.H 𝓜 (tables 𝓤 𝓛.H 𝓜 𝓡 𝓡.env) in
     let k = #self (args E Z) in
-    spared 𝓛 (ended E Z).signature (𝓡.run (𝓡.env k)) (run_framed 𝓤 𝓛.H 𝓜 𝓡 (𝓡.env k)) 2 (X.lives, (W.lives, tt)) (closing 𝓛 (ended E Z) (spec E Z 𝓛))
-    (entered 𝓤 𝓛.H (triple_of 𝓛 (ended E Z).signature (closing 𝓛 (ended E Z) (spec E Z 𝓛))) 𝓣.C 𝓣.Λ k (function E Z) (code.unfolded 𝓤 𝓛.H 𝓜 𝓡 wired (X, (W, tt)) d dd) (meets E Z 𝓛 𝓣))
+    spared 𝓛 (ended E Z).signature (𝓡.run (𝓡.env k)) (run_framed 𝓤 𝓛.H 𝓜 𝓡 (𝓡.env k)) 2 (X.lives, (W.lives, tt))
+    (closing 𝓛 (ended E Z) (spec E Z 𝓛))
+    (entered 𝓤 𝓛.H (triple_of 𝓛 (ended E Z).signature (closing 𝓛 (ended E Z) (spec E Z 𝓛))) 𝓣.C 𝓣.Λ k (function E Z)
+    (code.unfolded 𝓤 𝓛.H 𝓜 𝓡 wired (X, (W, tt)) d dd) (meets E Z 𝓛 𝓣))
     ((y.0.0, y.0.1, tt, y.0.3, y.0.4), y.1)

@@ -63,21 +63,48 @@ module _ (E : El) (Z : Al) where
   Out = unit
 
   abbrev ended : Ended
-  ended = record { signature = record { lifetimes = 1; outlives = []; params = RefMutOf (0 ∷ []) tt (plain (λ _. Ch E Z)) (λ _. tt) ∷ plain (λ _. Bp E) ∷ plain (λ _. usize) ∷ plain (λ _. R E) ∷ []; result = plain (λ _. Out) }; kept = (yes, (no, (no, (no, tt)))) }
+  ended = record {
+    signature = record {
+      lifetimes = 1;
+      outlives = [];
+      params = RefMutOf (0 ∷ []) tt
+          (plain (λ _. Ch E Z)) (λ _. tt) ∷ plain (λ _. Bp E) ∷ plain (λ _. usize) ∷ plain (λ _. R E)
+          ∷ [];
+      result = plain (λ _. Out);
+    };
+    kept = (yes, (no, (no, (no, tt))));
+  }
 
   abbrev stayed : Stays ended.signature.params ended.kept
-  stayed = (stay_ref (0 ∷ []) tt (plain (λ _. Ch E Z)), (stay_dropped (plain (λ _. Bp E)) no, (stay_dropped (plain (λ _. usize)) no, (stay_dropped (plain (λ _. R E)) no, tt))))
+  stayed = (
+    stay_ref (0 ∷ []) tt (plain (λ _. Ch E Z)),
+    (
+      stay_dropped (plain (λ _. Bp E)) no,
+      (
+        stay_dropped (plain (λ _. usize)) no,
+        (stay_dropped (plain (λ _. R E)) no, tt),
+      ),
+    ),
+  )
 
   abbrev Asks : (Ch E Z).Denot → (Bp E).Denot → (usize).Denot → (R E).Denot → Type 0
-  Asks d last index item = IsLast d.blocks last.ptr × (index < 32) × IsEmptyAt d.slots (32 * (length d.blocks - 1) + index)
+  Asks d last index item = IsLast d.blocks last.ptr × (index < 32)
+      × IsEmptyAt d.slots (32 * (length d.blocks - 1) + index)
 
   abbrev Gives0 : (Ch E Z).Denot → (Bp E).Denot → (usize).Denot → (R E).Denot → (Out).Denot → (Ch E Z).Denot → Type 0
-  Gives0 d last index item r new = (new.blocks ≡ d.blocks) × (new.slots ≡ set d.slots (32 * (length d.blocks - 1) + index) (Some item)) × (new.alloc ≡ d.alloc)
+  Gives0 d last index item r new = (new.blocks ≡ d.blocks)
+      × (new.slots ≡ set d.slots (32 * (length d.blocks - 1) + index) (Some item)) × (new.alloc ≡ d.alloc)
 
   abbrev spec : {M : Type 1} {𝓤 : Ura M} (𝓛 : Logic 𝓤) → Clauses 𝓤 ended
-  spec {𝓤 = 𝓤} 𝓛 κs a = record { ghost = Unit {0}; requires = λ _. fact 𝓤 (Asks a.0.now a.1.0 a.1.1.0 a.1.1.1.0); ensures = λ _ r w. fact 𝓤 (Gives0 a.0.now a.1.0 a.1.1.0 a.1.1.1.0 r w.0.now) }
+  spec {𝓤 = 𝓤} 𝓛 κs a = record {
+    ghost = Unit {0};
+    requires = λ _. fact 𝓤 (Asks a.0.now a.1.0 a.1.1.0 a.1.1.1.0);
+    ensures = λ _ r w. fact 𝓤 (Gives0 a.0.now a.1.0 a.1.1.0 a.1.1.1.0 r w.0.now);
+  }
 
-module _ (E : El) (Z : Al) {M : Type 1} {𝓤 : Ura M} (𝓛 : Logic 𝓤) (C : Calls 𝓤 𝓛.H) (Λ : Loops 𝓤 𝓛.H) (κ : Lft) (q : Share) (rb ro : ℕ) (γ : GName) (d : (Ch E Z).Denot) (last : (Bp E).Denot) (index : (usize).Denot) (item : (R E).Denot) (us0 us1 us2 us3 : List Val) where
+module _ (E : El) (Z : Al) {M : Type 1} {𝓤 : Ura M} (𝓛 : Logic 𝓤) (C : Calls 𝓤 𝓛.H) (Λ : Loops 𝓤 𝓛.H) (κ : Lft)
+    (q : Share) (rb ro : ℕ) (γ : GName) (d : (Ch E Z).Denot) (last : (Bp E).Denot) (index : (usize).Denot)
+    (item : (R E).Denot) (us0 us1 us2 us3 : List Val) where
   open 𝓛 use {H, A}
 
   abbrev self : MutBor (Ch E Z).Denot
@@ -89,55 +116,99 @@ module _ (E : El) (Z : Al) {M : Type 1} {𝓤 : Ura M} (𝓛 : Logic 𝓤) (C : 
   abbrev Post : Val → SProp 𝓤
   Post = (walk_of 𝓛 (ended E Z) (stayed E Z) (spec E Z 𝓛)).post bound
 
-  exits : us0 ≡ vptr rb ro ∷ [] → (r : (Out E Z).Denot) (v : Val) (new : (Ch E Z).Denot) → Gives0 E Z d last index item r new → ent 𝓤 (⋆ 𝓛 (‵ (fobs γ ((Ch E Z).coded.code new)) ∷ ‵ (fbor κ (Borrowed (mem (Ch E Z)) rb ro γ)) ∷ ‵ (flft κ q) ∷ ‵ ((Out E Z).own_val r (v ∷ [])) ∷ [])) (Post v)
+  exits : us0 ≡ vptr rb ro ∷ [] → (r : (Out E Z).Denot) (v : Val) (new : (Ch E Z).Denot)
+      → Gives0 E Z d last index item r new → ent 𝓤 (⋆ 𝓛
+      (‵ (fobs γ ((Ch E Z).coded.code new)) ∷ ‵ (fbor κ (Borrowed (mem (Ch E Z)) rb ro γ)) ∷ ‵ (flft κ q)
+      ∷ ‵ ((Out E Z).own_val r (v ∷ [])) ∷ [])) (Post v)
   exits passed r v new g0 =
-      qed 𝓛 (‵ (fobs γ ((Ch E Z).coded.code new)) ∷ ‵ (fbor κ (Borrowed (mem (Ch E Z)) rb ro γ)) ∷ ‵ (flft κ q) ∷ ‵ ((Out E Z).own_val r (v ∷ [])) ∷ []) ∵
-      suffices ! _ (ends_at 𝓛 (ended E Z) (stayed E Z) (spec E Z 𝓛) bound v r (new, (tt, (tt, (tt, tt)))) (tt, (tt, (tt, (tt, tt))))) $ says ! g0 $
-      nothing ! $ move ! (3 ∷ 0 ∷ []) $ join ! $ frame ! $ feq_i ! (List Val) us0 (vptr rb ro ∷ []) passed $ fjoin3 ! $ nothing ! $ nothing ! $ fjoin ! $ nothing ! $ fjoin ! $ nothing ! $ fjoin ! $ move ! (1 ∷ 0 ∷ []) $ fjoin ! $ done !
+      qed 𝓛 (‵ (fobs γ ((Ch E Z).coded.code new)) ∷ ‵ (fbor κ (Borrowed (mem (Ch E Z)) rb ro γ)) ∷ ‵ (flft κ q)
+      ∷ ‵ ((Out E Z).own_val r (v ∷ [])) ∷ []) ∵
+      suffices ! _ (ends_at 𝓛 (ended E Z) (stayed E Z) (spec E Z 𝓛) bound v r (new, (tt, (tt, (tt, tt))))
+      (tt, (tt, (tt, (tt, tt))))) $ says ! g0 $
+      nothing ! $ move ! (3 ∷ 0 ∷ []) $ join ! $ frame ! $ feq_i ! (List Val) us0 (vptr rb ro ∷ []) passed $ fjoin3 !
+      $ nothing ! $ nothing ! $ fjoin ! $ nothing ! $ fjoin ! $ nothing ! $ fjoin ! $ move ! (1 ∷ 0 ∷ []) $ fjoin !
+      $ done !
 
   abbrev Had : Val → List (Item 𝓤)
-  Had v_item = ‵ (fobs γ ((Ch E Z).coded.code d)) ∷ ‵ (fbor κ (Borrowed (mem (Ch E Z)) rb ro γ)) ∷ ‵ (flft κ q) ∷ ‵ ((R E).own_val item (v_item ∷ [])) ∷ []
+  Had v_item = ‵ (fobs γ ((Ch E Z).coded.code d)) ∷ ‵ (fbor κ (Borrowed (mem (Ch E Z)) rb ro γ)) ∷ ‵ (flft κ q)
+      ∷ ‵ ((R E).own_val item (v_item ∷ [])) ∷ []
 
-  walk : us0 ≡ vptr rb ro ∷ [] → Asks E Z d last index item → index < 2 ^ 64 → (v_item : Val) → Good (layout (R E)) v_item → ent 𝓤 (⋆ 𝓛 (Had v_item)) (WpFn 𝓤 H C Λ (function E Z) (vptr rb ro ∷ word last.ptr ∷ vint w64 index ∷ v_item ∷ []) Post)
+  walk : us0 ≡ vptr rb ro ∷ [] → Asks E Z d last index item → index < 2 ^ 64 → (v_item : Val)
+      → Good (layout (R E)) v_item → ent 𝓤 (⋆ 𝓛 (Had v_item))
+      (WpFn 𝓤 H C Λ (function E Z) (vptr rb ro ∷ word last.ptr ∷ vint w64 index ∷ v_item ∷ []) Post)
   walk passed asked fits_index v_item good_item =
       let k = length d.blocks - 1 in let at : ℕ = 32 * k in let p : Ptr = nth d.blocks k in
       let cs : List (Place E) = take 32 (drop at d.slots) in
       let there : k < length d.blocks = omega (arith, asked.0.0) in
-      let within : index < length cs = omega (arith, length-take 32 (drop at d.slots), length-drop at d.slots, asked.1, asked.2.0) in
+      let within : index < length cs = omega (
+        arith,
+        length-take 32 (drop at d.slots),
+        length-drop at d.slots,
+        asked.1,
+        asked.2.0,
+      ) in
       let few : length cs ≤ 32 = omega (arith, length-take 32 (drop at d.slots)) in
-      let empty : get_or cs index None ≡ None = get_or-take 32 (drop at d.slots) index None asked.1 ∙ get_or-drop at d.slots index None ∙ asked.2.1 in
+      let empty : get_or cs index None ≡ None = get_or-take 32 (drop at d.slots) index None asked.1
+      ∙ get_or-drop at d.slots index None ∙ asked.2.1 in
       let full : List (Place E) = set cs index (Some item) in
-      let new : (Ch E Z).Denot = record { mark = d.mark; blocks = d.blocks; slots = set d.slots (at + index) (Some item); alloc = d.alloc } in
-      qed 𝓛 (Had v_item) ∵ enter ! C Λ (function E Z) (vptr rb ro ∷ word last.ptr ∷ vint w64 index ∷ v_item ∷ []) _ $ alloc_all ! (λ l. pass_all ! refl ((tt, tt), (word-Good [] last.ptr, ((tt, record { fits = fits_index }), (good_item, tt)))) $
+      let new : (Ch E Z).Denot = record {
+        mark = d.mark;
+        blocks = d.blocks;
+        slots = set d.slots (at + index)
+            (Some item);
+        alloc = d.alloc;
+      } in
+      qed 𝓛 (Had v_item) ∵ enter ! C Λ (function E Z) (vptr rb ro ∷ word last.ptr ∷ vint w64 index ∷ v_item ∷ []) _ $
+      alloc_all ! (λ l. pass_all ! refl (
+        (tt, tt),
+        (
+          word-Good [] last.ptr,
+          ((tt, record { fits = fits_index }), (good_item, tt)),
+        ),
+      ) $
       let En : Env 𝓤 H = env (function E Z).locals l in
       opens ! tt (Ch E Z) {h = d} rb ro (λ vs. move ! (1 ∷ []) $ fsplit ! $ move ! (1 ∷ []) $ fsplit ! $
-      use1 𝓛 (‵ (Cells E p cs) ⊛ ‵ (Others E k d.blocks d.slots)) (block_out E 𝓛 k d.blocks d.slots at there refl) $ split ! $
+      use1 𝓛 (‵ (Cells E p cs) ⊛ ‵ (Others E k d.blocks d.slots)) (block_out E 𝓛 k d.blocks d.slots at there refl) $
+      split ! $
       in_a_block ! p (λ a. Cells E a cs) (id⊢ 𝓤 (never 𝓤)) (λ b o e. fsplit ! $ flt_l ! (λ small.
       let s = sz E in let tiny : s < 2 ^ 64 = omega (arith, one_below (length cs) s (2 ^ 63) (omega arith) small) in
       let far : index * s < 2 ^ 64 = omega (arith, times_below index (length cs) s (2 ^ 63) (omega arith) small) in
       let base : ℕ = o + places_offset (R E) in
-      take_at ! 2 $ rewrite ! 0 (λ (a : Ptr). ‵ (fat full_share (layout (Bp E)) (l 2) 0 (word a))) (asked.0.1 ∙ e) refl $ give_at ! 2 $ first ! $ blocks ! $
-      sets ! (addr ! (from ! (fld ! refl (hop ! (look_in_at ! 2 (sub ! 0 refl (whole !))) (fld ! refl (stop !)))))) refl (tt, tt) $
-      sets ! (bin ! (get ! refl) (size_lit ! (record { fits = tiny })) (record { fits = far })) refl (tt, record { fits = far }) $
+      take_at ! 2 $ rewrite ! 0 (λ (a : Ptr). ‵ (fat full_share (layout (Bp E)) (l 2) 0 (word a))) (asked.0.1 ∙ e)
+      refl $ give_at ! 2 $ first ! $ blocks ! $
+      sets ! (addr ! (from ! (fld ! refl (hop ! (look_in_at ! 2 (sub ! 0 refl (whole !))) (fld ! refl (stop !))))))
+      refl (tt, tt) $
+      sets ! (bin ! (get ! refl) (size_lit ! (record { fits = tiny })) (record { fits = far })) refl
+      (tt, record { fits = far }) $
       sets ! (bin ! (get ! refl) (get ! refl) tt) refl (tt, tt) $
-      use1 𝓛 (‵ (slot (R E) b (index * s + base) (get_or cs index None)) ⊛ ‵ (Besides E 𝓛 b base cs index)) (slot_out E 𝓛 b base cs index within) $ split ! $
-      rewrite ! 0 (λ (c : Place E). ‵ (slot (R E) b (index * s + base) c)) empty refl $ as_written ! (elτ E) b (index * s + base) $
+      use1 𝓛 (‵ (slot (R E) b (index * s + base) (get_or cs index None)) ⊛ ‵ (Besides E 𝓛 b base cs index))
+      (slot_out E 𝓛 b base cs index within) $ split ! $
+      rewrite ! 0 (λ (c : Place E). ‵ (slot (R E) b (index * s + base) c)) empty refl $ as_written ! (elτ E) b
+      (index * s + base) $
       -- [the room; the block's other places; the other blocks'; the links and deeds; the mark; its
       -- cell; the open borrow; obs; auth; what the item owns]
-      sets ! (of_opd ! (get ! refl)) refl good_item $ assigns_last ! (of_opd ! (get ! refl)) (through ! refl (stop !)) (init ! 0 refl good_item) $
+      sets ! (of_opd ! (get ! refl)) refl good_item $ assigns_last ! (of_opd ! (get ! refl))
+      (through ! refl (stop !)) (init ! 0 refl good_item) $
       exec ! C Λ En (after 1 (function E Z).body) (at_ret En Post) $ sets ! (of_opd ! (unit_lit !)) refl (tt, tt) $
-      move ! (0 ∷ 9 ∷ []) $ use2 𝓛 (‵ (slot (R E) b (index * s + base) (Some item))) (value_in 0 E.row E.laws 𝓛 item b (index * s + base) v_item) $
+      move ! (0 ∷ 9 ∷ []) $ use2 𝓛 (‵ (slot (R E) b (index * s + base) (Some item)))
+      (value_in 0 E.row E.laws 𝓛 item b (index * s + base) v_item) $
       use2 𝓛 (‵ (slots (R E) b base full)) (slot_in E 𝓛 b base cs index within (Some item)) $
-      flt_i ! (length full * s) (2 ^ 63) (subst (λ k. k * s < 2 ^ 63) (sym (length-set cs index (Some item))) small) $ fjoin ! $
+      flt_i ! (length full * s) (2 ^ 63) (subst (λ k. k * s < 2 ^ 63) (sym (length-set cs index (Some item))) small)
+      $ fjoin ! $
       rewrite ! 0 (λ (a : Ptr). ‵ (Cells E a full)) (sym e) refl $
-      use2 𝓛 (‵ (Own E 𝓛 d.blocks new.slots)) (block_in E 𝓛 k d.blocks d.slots at index (Some item) there refl asked.1) $
+      use2 𝓛 (‵ (Own E 𝓛 d.blocks new.slots)) (block_in E 𝓛 k d.blocks d.slots at index (Some item) there refl
+      asked.1) $
       fjoin ! $ move ! (1 ∷ 0 ∷ []) $ fjoin ! $ move ! (1 ∷ 0 ∷ []) $ closes ! tt (Ch E Z) new vs rb ro $
-      returns ! (look_at ! 0 refl) $ free_all ! refl $ keep ! (0 ∷ 1 ∷ 2 ∷ []) $ feq_i ! (List Val) (vunit ∷ []) (vunit ∷ []) refl $ move ! (1 ∷ 2 ∷ 3 ∷ 0 ∷ []) $
+      returns ! (look_at ! 0 refl) $ free_all ! refl $ keep ! (0 ∷ 1 ∷ 2 ∷ []) $ feq_i ! (List Val) (vunit ∷ [])
+      (vunit ∷ []) refl $ move ! (1 ∷ 2 ∷ 3 ∷ 0 ∷ []) $
       by ! (exits passed tt vunit new (refl, refl, refl))))))
 
-  entry : Asks E Z d last index item → ent 𝓤 (on_entry 𝓛 (ended E Z).signature (κ, tt) (q, tt) (self, (last, (index, (item, tt)))) (us0, (us1, (us2, (us3, tt))))) (WpFn 𝓤 H C Λ (function E Z) (us0 ++ (us1 ++ (us2 ++ (us3 ++ ([]))))) Post)
+  entry : Asks E Z d last index item → ent 𝓤 (on_entry 𝓛 (ended E Z).signature (κ, tt) (q, tt)
+      (self, (last, (index, (item, tt)))) (us0, (us1, (us2, (us3, tt)))))
+      (WpFn 𝓤 H C Λ (function E Z) (us0 ++ (us1 ++ (us2 ++ (us3 ++ ([]))))) Post)
   entry asked =
-      qed 𝓛 ((‵ (flft κ q) ⊛ ‵ ftrue) ∷ ‵ (owns (MutRef (named 0) κ (Ch E Z) ∷ Bp E ∷ usize ∷ R E ∷ []) (self, (last, (index, (item, tt)))) (us0, (us1, (us2, (us3, tt))))) ∷ []) ∵
+      qed 𝓛 ((‵ (flft κ q) ⊛ ‵ ftrue) ∷ ‵ (owns (MutRef (named 0) κ (Ch E Z) ∷ Bp E ∷ usize ∷ R E ∷ [])
+      (self, (last, (index, (item, tt)))) (us0, (us1, (us2, (us3, tt))))) ∷ []) ∵
       split ! $ move ! (2 ∷ []) $
       fsplit ! $
       fsplit3 ! $ feq_l ! (λ e0.
@@ -149,13 +220,27 @@ module _ (E : El) (Z : Al) {M : Type 1} {𝓤 : Ura M} (𝓛 : Logic 𝓤) (C : 
       fsplit ! $
       tells E.row E.laws ! item us3 (λ v_item e3 good_item.
       keep ! (2 ∷ 3 ∷ 4 ∷ 0 ∷ []) $
-      by ! (subst (λ (ws : List Val × List Val × List Val × List Val). ent 𝓤 (⋆ 𝓛 (Had v_item)) (WpFn 𝓤 H C Λ (function E Z) (ws.0 ++ (ws.1 ++ (ws.2 ++ (ws.3 ++ ([]))))) Post)) (λ j. (sym e0 j, sym e1 j, sym e2 j, sym e3 j)) (walk e0 asked fits_index v_item good_item)))))))
+      by ! (subst (λ (ws : List Val × List Val × List Val × List Val). ent 𝓤 (⋆ 𝓛 (Had v_item))
+      (WpFn 𝓤 H C Λ (function E Z) (ws.0 ++ (ws.1 ++ (ws.2 ++ (ws.3 ++ ([]))))) Post))
+      (λ j. (sym e0 j, sym e1 j, sym e2 j, sym e3 j)) (walk e0 asked fits_index v_item good_item)))))))
 
 meets : (E : El) (Z : Al) {M : Type 1} {𝓤 : Ura M} (𝓛 : Logic 𝓤) (𝓣 : Tables 𝓤 𝓛.H)
     → Meets 𝓛 (ended E Z).signature (WpFn 𝓤 𝓛.H 𝓣.C 𝓣.Λ (function E Z)) (closing 𝓛 (ended E Z) (spec E Z 𝓛))
 meets E Z {𝓤 = 𝓤} 𝓛 𝓣 =
-    walk_Meets 𝓛 (ended E Z) (stayed E Z) (Goes-ref 𝓛 1 0 tt (plain (λ _. Ch E Z)), (Goes-dropped 𝓛 1 (plain (λ _. Bp E)) no (λ κs x f. refl), (Goes-dropped 𝓛 1 (plain (λ _. usize)) no (λ κs x f. refl), (Goes-dropped 𝓛 1 (plain (λ _. R E)) no (λ κs x f. refl), tt)))) (spec E Z 𝓛) (WpFn 𝓤 𝓛.H 𝓣.C 𝓣.Λ (function E Z)) (WpFn-mono 𝓤 𝓛.H 𝓛.laws 𝓣 (function E Z))
-    (λ z. needs 𝓤 (Asks E Z z.0.3.0.now z.0.3.1.0 z.0.3.1.1.0 z.0.3.1.1.1.0) _ (entry E Z 𝓛 𝓣.C 𝓣.Λ z.0.0.0 z.0.1.0 z.0.3.0.ref_ptr.0 z.0.3.0.ref_ptr.1 z.0.3.0.ghost_name z.0.3.0.now z.0.3.1.0 z.0.3.1.1.0 z.0.3.1.1.1.0 z.0.4.0 z.0.4.1.0 z.0.4.1.1.0 z.0.4.1.1.1.0))
+    walk_Meets 𝓛 (ended E Z) (stayed E Z) (
+      Goes-ref 𝓛 1 0 tt (plain (λ _. Ch E Z)),
+      (
+        Goes-dropped 𝓛 1 (plain (λ _. Bp E)) no (λ κs x f. refl),
+        (
+          Goes-dropped 𝓛 1 (plain (λ _. usize)) no (λ κs x f. refl),
+          (Goes-dropped 𝓛 1 (plain (λ _. R E)) no (λ κs x f. refl), tt),
+        ),
+      ),
+    ) (spec E Z 𝓛)
+    (WpFn 𝓤 𝓛.H 𝓣.C 𝓣.Λ (function E Z)) (WpFn-mono 𝓤 𝓛.H 𝓛.laws 𝓣 (function E Z))
+    (λ z. needs 𝓤 (Asks E Z z.0.3.0.now z.0.3.1.0 z.0.3.1.1.0 z.0.3.1.1.1.0) _
+    (entry E Z 𝓛 𝓣.C 𝓣.Λ z.0.0.0 z.0.1.0 z.0.3.0.ref_ptr.0 z.0.3.0.ref_ptr.1 z.0.3.0.ghost_name z.0.3.0.now
+    z.0.3.1.0 z.0.3.1.1.0 z.0.3.1.1.1.0 z.0.4.0 z.0.4.1.0 z.0.4.1.1.0 z.0.4.1.1.1.0))
 
 pub write_spec : {M : Type 1} → stated.statement M
 unfolding tables_of
@@ -164,6 +249,8 @@ write_spec 𝓤 𝓛 𝓜 𝓡 wired X W LX LW g d dd met md y =
     let Z : Al = record { row = W; laws = LW; g = g; d = d; drops = dd } in
     let 𝓣 : Tables 𝓤 𝓛.H = tables_of 𝓤 𝓛.H 𝓜 (tables 𝓤 𝓛.H 𝓜 𝓡 𝓡.env) in
     let k = #self (args E Z) in
-    spared 𝓛 (ended E Z).signature (𝓡.run (𝓡.env k)) (run_framed 𝓤 𝓛.H 𝓜 𝓡 (𝓡.env k)) 2 (X.lives, (W.lives, tt)) (closing 𝓛 (ended E Z) (spec E Z 𝓛))
-    (entered 𝓤 𝓛.H (triple_of 𝓛 (ended E Z).signature (closing 𝓛 (ended E Z) (spec E Z 𝓛))) 𝓣.C 𝓣.Λ k (function E Z) (code.unfolded 𝓤 𝓛.H 𝓜 𝓡 wired (X, (W, tt)) d dd) (meets E Z 𝓛 𝓣))
+    spared 𝓛 (ended E Z).signature (𝓡.run (𝓡.env k)) (run_framed 𝓤 𝓛.H 𝓜 𝓡 (𝓡.env k)) 2 (X.lives, (W.lives, tt))
+    (closing 𝓛 (ended E Z) (spec E Z 𝓛))
+    (entered 𝓤 𝓛.H (triple_of 𝓛 (ended E Z).signature (closing 𝓛 (ended E Z) (spec E Z 𝓛))) 𝓣.C 𝓣.Λ k (function E Z)
+    (code.unfolded 𝓤 𝓛.H 𝓜 𝓡 wired (X, (W, tt)) d dd) (meets E Z 𝓛 𝓣))
     ((y.0.0, y.0.1, tt, y.0.3, y.0.4), y.1)
