@@ -41,7 +41,7 @@ KINDS = {
                          "nm_calls nm_puts nm_tree nm_set nm_shared nm_set_c",
     "proofs alone": "nm_laws nm_order nm_theorem nm_progress",
     "tools": "nm_core nm_files nm_replay nm_serial nm_stress",
-    "tests, callers and benches": "nm_callers nm_tests refused_growths set_bench set_tests",
+    "tests, callers and benches": "map_tests nm_callers nm_tests refused_growths set_bench set_tests",
 }
 NO_CODE = re.compile(r"\s*(?:(?:pub )?(?:ghost )?use |(?:pub )?mod |#!?\[|;?$)")
 CONTRACT = re.compile(r"\b(?:(?:requires|ensures|invariant)(?: \w+)?|decreases|ghost [^{;]*) ?\{")

@@ -41,3 +41,4 @@ pub mod EnoughSlots
 pub mod FreedInLives
 pub mod TwoTakes
 pub mod SharedCalls
+pub mod Counters

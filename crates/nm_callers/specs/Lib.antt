@@ -16,3 +16,4 @@ pub mod Arenas
 pub mod AnyThread
 pub mod Enough
 pub mod Lives
+pub mod Counting

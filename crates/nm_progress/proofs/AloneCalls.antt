@@ -106,7 +106,7 @@ own_events w (t ∷ ts) own (suc i) d below = own_events w ts (λ j e l. own (su
     (omega (arith, below))
 
 -- so none has moved the epoch on, nor linked or cut off a node
-none_moved : (p q : PassView) (n : ℕ) → IsAlone p q → WasMovedPast p q n → n ≡ 0
+pub none_moved : (p q : PassView) (n : ℕ) → IsAlone p q → WasMovedPast p q n → n ≡ 0
 none_moved p q n alone m =
     let same_is = same_turns p.view.past m.turns alone.turns q.view.past m.is alone.is in
     let none = ap (λ (l : List Turn). number_of (moves_of_others p.view.number) l) same_is
@@ -495,7 +495,7 @@ module _ (p q : PassView) (seen_p : HasSeen p.view) (seen_q : HasSeen q.view) (e
       by false true bare tag = true≢false (sym bare)
       by false false bare tag = true≢false (sym tag)
 
-  none_broken : (k : ℕ) (begun new : List Entry) → Mute p.view.log begun → IsBroken p.view.layout k begun new
+  pub none_broken : (k : ℕ) (begun new : List Entry) → Mute p.view.log begun → IsBroken p.view.layout k begun new
       → Longer new q.view.log → ⊥
   none_broken k begun new pin (inl long) rest =
       let a = alone_walk begun new pin (walk_plain k long.1 begun new long.2 long.3 long.4) rest in
@@ -507,7 +507,7 @@ module _ (p q : PassView) (seen_p : HasSeen p.view) (seen_q : HasSeen q.view) (e
       (longer_then deep.2 new q.view.log (reads_longer k deep.3.edge.slot deep.2 new deep.5 deep.8) rest)) deep.10
 
   -- nor is its exchange lost
-  none_lost : (k : ℕ) (r : WalkEnd) (c : List ChainEdge) (e : Edge) (n : ℕ) (begun walked before : List Entry)
+  pub none_lost : (k : ℕ) (r : WalkEnd) (c : List ChainEdge) (e : Edge) (n : ℕ) (begun walked before : List Entry)
       (exchange : Event) → Mute p.view.log begun → Walks k n begun walked r.seek_record c → Plain walked before
       → is_loud (losing exchange e) ≡ false
       → Expects r.seek_record.parent r.seek_record.side r.seek_record.edge.slot exchange

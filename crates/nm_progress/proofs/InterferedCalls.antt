@@ -46,7 +46,7 @@ module _ (p q : PassView) (seen_p : HasSeen p.view) (seen_q : HasSeen q.view) (e
   moved event is (suc n) some m = lost_pins_were_moved_past p q seen_p seen_q enough same on event is n m
 
   -- tries that were lost behind a pin
-  lost : (n : ℕ) (begun ended : List Entry) → Longer p.view.log begun
+  pub lost : (n : ℕ) (begun ended : List Entry) → Longer p.view.log begun
       → (IsLogOf p.view.layout p.view.number ended → Interferes p.view.layout enough p.view.number begun ended n)
       → Longer ended q.view.log → Interference p q n
   lost n begun ended a tries b = was_interfered p q n seen_p seen_q enough same on

@@ -28,7 +28,7 @@ use Rattle.nm_progress.specs.Changes.{is_bare, Expects}
 use Rattle.nm_progress.specs.Changes.Expects.{ToLink, ToFlag}
 use Rattle.nm_progress.specs.Tries.{losing}
 use Rattle.nm_progress.proofs.LostCleanups.{cleanup_interferes}
-use Rattle.nm_progress.proofs.MoreTries.{is_loud, Plain, plain_these, plain_then, quiet_pins, log_prefix}
+use Rattle.nm_progress.proofs.MoreTries.{is_loud, Plain, plain_none, plain_these, plain_then, quiet_pins, log_prefix}
 use Rattle.nm_progress.proofs.WalkInterference.{walk_plain}
 use Rattle.nm_progress.proofs.DeepInterference.{deep_plain}
 use Rattle.nm_progress.proofs.Interfered.{Interferes, of_longer, interferes_then, of_interference, of_deep}
@@ -104,7 +104,7 @@ cut_steady L enough w s c ns old new (kept, mid, (chosen, was, chooses, freezes)
     (steady_then _ mid new (plain_steady _ mid (freezes_plain L enough w s.parent kept.side c _ mid freezes))
     (steady_these ((Splice s.ancestor s.above s.successor s.parent kept.side, Cut ns) ∷ []) mid new refl is)))
 
-help_steady : (L : Layout) (enough : 5 ≤ L.nodes) (w : ℕ) (r : WalkEnd) (c : List ChainEdge) (e : Edge)
+pub help_steady : (L : Layout) (enough : 5 ≤ L.nodes) (w : ℕ) (r : WalkEnd) (c : List ChainEdge) (e : Edge)
     (old new : List Entry) → Helps r c e old new → Steady old new
 help_steady L enough w r c e old new (inr h) = steady_these [] old new refl (h.1 ∙ sym (append-nil old))
 help_steady L enough w r c e old new (inl h) = by h.1
@@ -198,23 +198,28 @@ module _ (L : Layout) (enough : 5 ≤ L.nodes) (w k : ℕ) where
       exchange e (seek_read L enough w old walked r.seek_record
       (walk_read L enough w k n old walked r.seek_record c walk walked_log) bare) plain expects rest
 
-  -- an exchange that was lost behind a walk, at the edge by which it came, and then help
-  lost_at : (r : WalkEnd) (c : List ChainEdge) (e : Edge) (n : ℕ) (old walked before mid new : List Entry)
+  -- an exchange that was lost behind a walk, at the edge by which it came, then entries that change
+  -- nothing, and then help
+  pub lost_at : (r : WalkEnd) (c : List ChainEdge) (e : Edge) (n : ℕ) (old walked before mid back new : List Entry)
       (exchange : Event) → Walks k n old walked r.seek_record c → Plain walked before
       → is_loud (losing exchange e) ≡ false → Expects r.seek_record.parent r.seek_record.side r.seek_record.edge.slot
       exchange
       → (IsLogOf L w (before ++ losing exchange e ∷ [])
       → IsMarked L enough w before r.seek_record.parent r.seek_record.side r.seek_record.edge.slot
       → StillMarked e r.seek_record.edge.slot)
-      → mid ≡ before ++ losing exchange e ∷ [] → Helps r c e mid new → IsLogOf L w new → Interferes L enough w old new 1
-  lost_at r c e n old walked before mid new exchange walk plain quiet expects found is helps l = by
+      → mid ≡ before ++ losing exchange e ∷ [] → Plain mid back → Helps r c e back new → IsLogOf L w new
+      → Interferes L enough w old new 1
+  lost_at r c e n old walked before mid back new exchange walk plain quiet expects found is gap helps l = by
       (is_bare r.seek_record.edge) refl
     where
-      longer : Longer mid new
-      longer = help_longer r c e mid new helps
+      longer : Longer back new
+      longer = help_longer r c e back new helps
+
+      back_log : IsLogOf L w back
+      back_log = log_prefix L w back longer.entries (subst (IsLogOf L w) longer.are l)
 
       mid_log : IsLogOf L w mid
-      mid_log = log_prefix L w mid longer.entries (subst (IsLogOf L w) longer.are l)
+      mid_log = log_prefix L w mid gap.entries (subst (IsLogOf L w) gap.are back_log)
 
       exchange_log : IsLogOf L w (before ++ losing exchange e ∷ [])
       exchange_log = subst (IsLogOf L w) is mid_log
@@ -222,15 +227,16 @@ module _ (L : Layout) (enough : 5 ≤ L.nodes) (w k : ℕ) where
       before_log : IsLogOf L w before
       before_log = log_prefix L w before (losing exchange e ∷ []) exchange_log
 
-      behind : Plain walked mid
-      behind = plain_then walked before mid plain (plain_these (losing exchange e ∷ []) before mid
-          (ap (λ (b : Bool). b || false) quiet) is)
+      behind : Plain walked back
+      behind = plain_then walked mid back (plain_then walked before mid plain
+          (plain_these (losing exchange e ∷ []) before mid (ap (λ (b : Bool). b || false) quiet) is)) gap
 
       by : (b : Bool) → is_bare r.seek_record.edge ≡ b → Interferes L enough w old new 1
       by true bare = bare_at r c e n old walked before new exchange walk plain expects bare
-          (longer_then _ mid new (longer_none _ mid is) longer) before_log
-      by false marked = helped r c e old walked mid new n walk behind
-          (marked_there n old walked mid r c walk behind marked mid_log)
+          (longer_then _ mid new (longer_none _ mid is)
+          (longer_then mid back new (plain_longer mid back gap) longer)) before_log
+      by false marked = helped r c e old walked back new n walk behind
+          (marked_there n old walked back r c walk behind marked back_log)
           (found exchange_log (marked_there n old walked before r c walk plain marked before_log)) helps l
 
 module _ (L : Layout) (enough : 5 ≤ L.nodes) (w k : ℕ) (here : w < L.workers) (crew : L.workers ≤ chain_bound) where
@@ -245,22 +251,22 @@ module _ (L : Layout) (enough : 5 ≤ L.nodes) (w k : ℕ) (here : w < L.workers
       → IsLostInsert fit L k f g old new → IsLogOf L w new → Interferes L enough w old new 1
   insert_interferes fit f g old new for (inl (c, broken, same)) l = broken_interferes old new for broken
   insert_interferes fit f g old new for (inr (made, r, c, e, mid, link, forked, helps)) l =
-      lost_at L enough w k r c e link.walk.0.0 old link.walk.0.1 _ mid new
+      lost_at L enough w k r c e link.walk.0.0 old link.walk.0.1 _ mid mid new
       (Link r.seek_record.parent r.seek_record.side r.seek_record.edge.slot made.internal.slot) link.walk.0.4
       (link_plain L k fit f made r c e old mid link) refl (ToLink made.internal.slot)
       (lost_link_marked L enough w _ r.seek_record.parent r.seek_record.edge.slot made.internal.slot
-      r.seek_record.side r.seek_record.edge.slot e) link.grows.3 helps l
+      r.seek_record.side r.seek_record.edge.slot e) link.grows.3 (plain_none mid mid refl) helps l
 
   -- a lost try to flag
   pub flag_interferes : (c : List ChainEdge) (old new : List Entry) → IsFor k old → IsLostFlag L k c old new
       → IsLogOf L w new → Interferes L enough w old new 1
   flag_interferes c old new for (inl broken) l = broken_interferes old new for broken
   flag_interferes c old new for (inr (r, b, e, mid, flag, helps)) l =
-      lost_at L enough w k r c e flag.walk.0.0 old flag.walk.0.1 _ mid new
+      lost_at L enough w k r c e flag.walk.0.0 old flag.walk.0.1 _ mid mid new
       (Flag r.seek_record.parent r.seek_record.side r.seek_record.edge.slot) flag.walk.0.4
       (flag_plain L k r c b e old mid flag) refl ToFlag
       (lost_flag_marked L enough w _ r.seek_record.parent r.seek_record.edge.slot r.seek_record.side
-      r.seek_record.edge.slot e) flag.entries helps l
+      r.seek_record.edge.slot e) flag.entries (plain_none mid mid refl) helps l
 
   -- ---- tries behind one another
 

@@ -31,3 +31,4 @@ pub mod PendingTurns
 pub mod AloneCalls
 pub mod RunningAlone
 pub mod AloneRemovals
+pub mod LostPuts

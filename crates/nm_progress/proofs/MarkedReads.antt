@@ -12,7 +12,7 @@ use Rattle.nm_edge.specs.Layouts.{Layout}
 use Rattle.nm_edge.specs.declared.edge.Side.{Side}
 use Rattle.nm_edge.specs.declared.edge.Side.TheVariants.{Left, Right}
 use Rattle.nm_model.specs.declared.event.Event.{Event}
-use Rattle.nm_model.specs.declared.event.Event.TheVariants.{Look, Link, Flag, Join}
+use Rattle.nm_model.specs.declared.event.Event.TheVariants.{Look, Link, Flag, Swap, Join}
 use Rattle.nm_model.specs.declared.event.Field.TheVariants.{Key as KeyOf, Edge as EdgeOn}
 use Rattle.nm_model.specs.declared.reply.Reply.{Reply}
 use Rattle.nm_model.specs.declared.reply.Reply.TheVariants.{KeyIs, EdgeIs}
@@ -20,13 +20,13 @@ use Rattle.nm_model.specs.Memory.{child}
 use Rattle.nm_model.specs.Knowledge.{Knowledge, read}
 use Rattle.nm_model.specs.Learning.{read_edge}
 use Rattle.nm_model.specs.Walks.{Entry, begins_anew}
-use Rattle.nm_laws.proofs.Learned.{learn_link_lost, learn_flag_lost}
+use Rattle.nm_laws.proofs.Learned.{learn_link_lost, learn_flag_lost, learn_swap_lost}
 use Rattle.nm_order.specs.Logs.{known_by, IsLogOf}
 use Rattle.nm_order.specs.Facts.{Fact, Holds}
 use Rattle.nm_order.specs.Facts.Fact.{KnowsSlot, IsTagged, IsFlagged}
 use Rattle.nm_order.specs.Taught.{EdgeLearned}
 use Rattle.nm_order.specs.Told.{TellsEdge}
-use Rattle.nm_order.specs.Told.TellsEdge.{ByLook, ByLink, ByFlag}
+use Rattle.nm_order.specs.Told.TellsEdge.{ByLook, ByLink, ByFlag, BySwap}
 use Rattle.nm_order.proofs.FactLaws.{flagged_slots_stand_high, tagged_slots_stand_high}
 use Rattle.nm_order.proofs.FactStays.{facts_stay}
 use Rattle.nm_order.proofs.LastEntries.{LastEntry, last_entry, log_before, known_more}
@@ -157,6 +157,13 @@ module _ (L : Layout) (enough : 5 ≤ L.nodes) (w : ℕ) where
       (ByFlag x leaf d e) flagged
   lost_flag_marked log x leaf d s e l (inr tagged) = tag_told log (losing (Flag x d leaf) e) x d s e l refl
       (known_more w _ log (losing (Flag x d leaf) e) ∙ learn_flag_lost w (known_by L w log) x d leaf e) tagged
+
+  pub lost_swap_marked : (log : List Entry) (x leaf new : ℕ) (d : Side) (s : ℕ) (e : Edge)
+      → IsLogOf L w (log ++ losing (Swap x d leaf new) e ∷ []) → IsMarked log x d s → StillMarked e s
+  lost_swap_marked log x leaf new d s e l (inl flagged) = flag_told log (losing (Swap x d leaf new) e) x d s e l
+      (BySwap x leaf new d e) flagged
+  lost_swap_marked log x leaf new d s e l (inr tagged) = tag_told log (losing (Swap x d leaf new) e) x d s e l refl
+      (known_more w _ log (losing (Swap x d leaf new) e) ∙ learn_swap_lost w (known_by L w log) x d leaf new e) tagged
 
   -- below a flagged edge stands a leaf
   leaf_below : (log : List Entry) (x : ℕ) (g : Side) (e : Edge)

@@ -42,7 +42,7 @@ passed_at nodes [] old new h = plain_none old new h
 passed_at nodes (s ∷ slots) old new h = plain_then old h.0 new (passed_at nodes slots old h.0 h.1)
     (passed_plain s h.0 new h.2.2)
 
-claim_plain : (f : Fit) (nodes : ℕ) (old new : List Entry) (n : NodeId) → IsClaimBy f nodes old new (Some n)
+pub claim_plain : (f : Fit) (nodes : ℕ) (old new : List Entry) (n : NodeId) → IsClaimBy f nodes old new (Some n)
     → Plain old new
 claim_plain fit.FirstFit nodes old new n h = plain_then old h.before new
     (passed_all 6 (n.slot - 6) old h.before h.passed) (plain_these _ h.before new refl h.made.entries)

@@ -8,6 +8,7 @@ pub mod Pins
 pub mod Lost
 pub mod Lookups
 pub mod Inserts
+pub mod Puts
 pub mod Deletes
 pub mod Walked
 pub mod Alone

@@ -11,6 +11,7 @@ mod lost;
 mod moved;
 mod paid;
 mod pins;
+mod puts;
 mod tries;
 mod walked;
 mod worked;
@@ -26,6 +27,7 @@ pub use lost::lost_tries_are_to_others;
 pub use moved::{epochs_are_the_moves, missed_pins_are_moves};
 pub use paid::{splices_are_paid, tags_are_paid};
 pub use pins::lost_pins_were_moved_past;
+pub use puts::{busy_puts_were_lost, puts_alone_are_done};
 pub use tries::{
     hindrances_are_by_others, hindrances_are_paid, tries_are_lost_to_changes, tries_are_paid,
 };

@@ -2,7 +2,6 @@
 //! the steps and walks of `nm_walks`, and the words of maps of `nm_calls`.
 #![tactic(auto, using(nm_steps::proofs::Seeing::seen_all))]
 
-mod helping;
 mod laws;
 mod leaves;
 mod leaving;

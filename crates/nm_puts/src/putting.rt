@@ -1,8 +1,6 @@
 //! Puts: tries to give a key another value, or to insert it.
-ghost use Rattle.std.specs.Prelude.{◌≡◌, ◌≢◌, ◌≤◌, ◌<◌, ℕ, false, length, None, IfSome, IsErrOf};
-ghost use Rattle.nm_edge.specs.Keys.{IsKey};
+ghost use Rattle.std.specs.Prelude.{◌≡◌, ◌≢◌, ◌≤◌, ℕ, false, length, None, IsErrOf};
 ghost use Rattle.nm_model.specs.declared.event.Op.TheVariants.{Insert};
-ghost use Rattle.nm_order.specs.Facts.Fact.{KnowsSlot};
 ghost use Rattle.nm_steps.specs.Rules.{ExtendsStores};
 ghost use Rattle.nm_steps.specs.Steps.{PassView, IsOf, Continues};
 ghost use Rattle.nm_steps.specs.Values.{HasValues};
@@ -11,25 +9,23 @@ ghost use Rattle.nm_walks.specs.Bounds.{cut_bound};
 ghost use Rattle.nm_walks.specs.Cleanups.{KeepsLedgers, HoldsCuts};
 ghost use Rattle.nm_walks.specs.Growing.{HasNewNodes};
 ghost use Rattle.nm_walks.specs.Labelling.{IsPinnedForCall};
-ghost use Rattle.nm_walks.specs.Places.{HasPlace, HasStopped, Stops};
 ghost use Rattle.nm_walks.specs.Rooms.{FillsUp, TakesRoom};
-ghost use Rattle.nm_walks.specs.Telling.{Tells, GoesOn, OnlyLooks, IsPinnedIn};
+ghost use Rattle.nm_walks.specs.Telling.{GoesOn, IsPinnedIn};
 ghost use Rattle.nm_calls.specs.Leaving.{HasChangedNothing};
 ghost use Rattle.nm_calls.specs.Moments.{AnswerHasMoment, HadNoCall};
 ghost use Rattle.nm_puts.specs.Puts.{AfterPut, Does, Finishes, IfAnswered, IfDone, IfReplaced, IsPutTry, MayReplace, OnlyPuts, ReplacesAt, ShowsTry, TriesAt, TryDoes};
 ghost use Rattle.nm_puts.specs.Replaced.{HasReplaced};
 ghost use Rattle.nm_puts.specs.Swaps.{ValueWas};
 
-use crate::helping::{help, make_room, make_room_for};
-use crate::leaves::{claim, give_leaf_back};
+use crate::leaves::{claim_leaf, give_leaf_back};
 use crate::leaving::conclude;
 use crate::swapping::try_swap;
-use nm_calls::{CallFault, leave};
+use nm_calls::{CallFault, help, leave, make_room, make_room_for, seek_place};
 use nm_edge::Key;
 use nm_epoch::{HeldQueue, pin_for};
 use nm_model::Op;
 use nm_steps::{Pass, Shared};
-use nm_walks::{ChainEdges, Stop, WalkEnd, Workspace, claim_new_nodes, give_back, grow, seek};
+use nm_walks::{Stop, WalkEnd, Workspace, claim_new_nodes, give_back, grow, seek};
 
 /// What must be so for a put to change the map.
 #[derive(Clone, Copy, Debug, PartialEq, Eq)]
@@ -66,28 +62,6 @@ pub(crate) enum Attempt {
     Lost,
 }
 
-/// Walks as an insert does, which depends on the shape of the tree.
-#[inline(always)]
-fn stop(shared: &Shared, pass: &mut Pass, key: u64, chain: &mut ChainEdges) -> Option<WalkEnd>
-    requires pinned { IsPinnedIn shared.now pass.old }
-    requires root { Tells pass.old (KnowsSlot 1) }
-    requires known { Tells pass.old (KnowsSlot 2) }
-    requires key { IsKey key }
-    ensures walk { Stops shared.now.layout key pass.old.view.log pass.new.view.log
-        chain.new.items result }
-    ensures came { IfSome result
-        (HasStopped shared.now.layout key pass.old pass.new chain.new.items) }
-    ensures place { IfSome result (HasPlace shared.now.layout.radix pass.old pass.new key) }
-    ensures on { GoesOn pass.old pass.new }
-    ensures only { OnlyLooks pass.old pass.new }
-{
-    if shared.layout().is_radix() {
-        seek(shared, pass, key, Stop::Place, chain)
-    } else {
-        seek(shared, pass, key, Stop::Leaf, chain)
-    }
-}
-
 /// Tries to replace the value of the leaf at which a walk of the call has ended, by one new leaf. If
 /// the swap is lost, the new leaf is given back, and the try helps with at most one cleanup.
 fn replace_at(
@@ -117,7 +91,7 @@ fn replace_at(
     ensures fills { FillsUp held.old.queue held.new.queue }
     ensures fit { workspace.new.placement ≡ workspace.old.placement }
 {
-    let Some(new) = claim(shared, pass, &mut workspace.placement) else {
+    let Some(new) = claim_leaf(shared, pass, &mut workspace.placement) else {
         return Attempt::Full;
     };
     match try_swap(shared, pass, held, key, value, end, &new) {
@@ -273,7 +247,7 @@ fn try_put(
     ensures fit { workspace.new.placement ≡ workspace.old.placement }
 {
     let sought = key.get();
-    let Some(end) = stop(shared, pass, sought, &mut workspace.chain) else {
+    let Some(end) = seek_place(shared, pass, sought, &mut workspace.chain) else {
         return Attempt::Lost;
     };
     if end.key == sought {

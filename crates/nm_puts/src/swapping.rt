@@ -12,11 +12,10 @@ ghost use Rattle.nm_walks.specs.Telling.{Tells, GoesOn, IsPinnedIn};
 ghost use Rattle.nm_puts.specs.Replaced.{HasReplaced};
 ghost use Rattle.nm_puts.specs.Swaps.{HasNotSwapped, HasSwapped, HoldsCutsThen, IsSwapping, MaySwap, Retires, SwapLost, SwapWon, ValueWas};
 
-use crate::leaves::fill_leaf;
 use nm_edge::{Edge, NodeId, Side};
 use nm_epoch::{Entry, HeldQueue, label};
 use nm_steps::{Pass, Shared};
-use nm_walks::{SeekRecord, WalkEnd, look_birth};
+use nm_walks::{SeekRecord, WalkEnd, fill_leaf, look_birth};
 
 /// Exchanges the edge to a leaf for one to a private new leaf. A walk of the call must have ended at
 /// the old leaf, by this edge, with the key of the new one, and the new leaf must have a value. `Ok`:

@@ -10,6 +10,7 @@ pub mod Inside
 pub mod WaitingNodes
 pub mod Managing
 pub mod MapManaging
+pub mod MapPutting
 pub mod Emptied
 pub mod PopRounds
 pub mod Counting

@@ -447,7 +447,7 @@ look_met p q times past (inr (inr reshaped)) = (
       omega (arith, some),
 )
 
-insert_met : (p q : PassView) (times : ℕ) → HasSeenAllOf q p → ChangeWasBusy p q times
+pub insert_met : (p q : PassView) (times : ℕ) → HasSeenAllOf q p → ChangeWasBusy p q times
     → MetInterference Insert p q times
 insert_met p q times past (inl none) = (past.goes_on.more, past.goes_on.is, omega (arith, none))
 insert_met p q times past (inr (inl moved)) = (moved.turns, moved.is, let some = moved.moved in omega (arith, some))
@@ -456,19 +456,20 @@ insert_met p q times past (inr (inr lost)) = (lost.turns, lost.is, let some = lo
 -- ---- a worker that runs alone
 
 -- it does so after what came first
-runs_on : {m n : ℕ} (w x z : WorkerView) → GoesOn m w x → GoesOn n x z → RunsAlone w.pass z.pass
+pub runs_on : {m n : ℕ} (w x z : WorkerView) → GoesOn m w x → GoesOn n x z → RunsAlone w.pass z.pass
     → RunsAlone x.pass z.pass
 runs_on w x z first last runs = runs_later w.pass x.pass z.pass first.same first.past last.past runs
 
-fails_busy : (first all t : ℕ) (z : WorkerView) (r : Result Bool CallFault) → r ≡ busy
+pub fails_busy : {A : Type 0} (first all t : ℕ) (z : WorkerView) (r : Result A CallFault) → r ≡ Err fault.Busy
     → IfErr r (FailsAlone first all t z) → t < first
-fails_busy first all t z r is fails = subst (λ (q : Result Bool CallFault). IfErr q (FailsAlone first all t z)) is fails
+fails_busy {A} first all t z r is fails = subst (λ (q : Result A CallFault). IfErr q (FailsAlone first all t z)) is
+    fails
 
-none_each : (n t : ℕ) → 1 ≤ n → n * t ≡ 0 → t ≡ 0
+pub none_each : (n t : ℕ) → 1 ≤ n → n * t ≡ 0 → t ≡ 0
 none_each zero t some is = absurd (omega (arith, some))
 none_each (suc n) t some is = let one = suc-mul n t in omega (arith, one, is)
 
-all_none : (n t : ℕ) → t ≡ 0 → n * t ≡ 0
+pub all_none : (n t : ℕ) → t ≡ 0 → n * t ≡ 0
 all_none n t is = ap (λ (x : ℕ). n * x) is ∙ mul-zero n
 
 -- ---- one call of the tree

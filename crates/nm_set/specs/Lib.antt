@@ -12,3 +12,4 @@ pub mod Rounds
 pub mod Popping
 pub mod Filling
 pub mod Maps
+pub mod MapPuts

@@ -18,6 +18,7 @@ mod managed;
 mod map_calls;
 mod map_managed;
 mod map_popping;
+mod map_putting;
 mod map_scanning;
 mod member;
 mod opening;
@@ -37,9 +38,9 @@ pub use map_calls::MapMember;
 pub use map_managed::Reclaimed;
 pub use member::{Member, ResignError};
 pub use nm_tree::{
-    Advance, Behind, CallFault, CloseReason, Collected, Counts, Entry, Fit, HandedOut, HeldQueue,
-    MapEntry, MapReport, MapValues, NewError, PinFault, Query, Report, ResignReason, Scanned,
-    Tally,
+    Advance, Behind, CallFault, CloseReason, Collected, Condition, Counts, Entry, Fit, HandedOut,
+    HeldQueue, MapEntry, MapReport, MapValues, NewError, PinFault, PutOutcome, Query, Report,
+    ResignReason, Scanned, Tally,
 };
 pub use posting::{Stamp, letters_are_in_order};
 pub use returning::{ReturnedMapWorker, ReturnedWorker};

@@ -47,7 +47,7 @@ impl Default for Options {
 }
 
 /// Returns whether a call lost each of its tries.
-pub(crate) fn is_busy(told: &Result<bool, CallFault>) -> bool
+pub(crate) fn is_busy<T>(told: &Result<T, CallFault>) -> bool
     ensures yes { result ≡ true → told.now ≡ Err call.Busy }
     ensures no { result ≡ false → told.now ≢ Err call.Busy }
 {

@@ -1,10 +1,9 @@
 //! Managed calls of a map: a call that lost its tries is retried, and a remove that has begun is
 //! finished. Proved: they free no node. `MapMember::reclaim` does, and hands out the values.
-ghost use Rattle.std.specs.Prelude.{◌≡◌, ◌≢◌, ◌+◌, true, false, None, Some, Ok, Err};
+ghost use Rattle.std.specs.Prelude.{◌≡◌, ◌+◌, true, false, None, Some, Ok, Err};
 ghost use Rattle.nm_model.specs.declared.event.Op.TheVariants.{Insert, Delete};
 ghost use Rattle.nm_steps.specs.Values.{HasValues};
 ghost use Rattle.nm_calls.specs.Maps.{HasPut, MapGave};
-ghost use Rattle.nm_calls.specs.declared.fault.CallFault.TheVariants as fault;
 ghost use Rattle.nm_tree.specs.Answers.{IfTaken};
 ghost use Rattle.nm_tree.specs.Calls.{LeavesGet};
 ghost use Rattle.nm_tree.specs.Workers.{WorkerView};
@@ -13,7 +12,7 @@ ghost use Rattle.nm_set.specs.MapRounds.{GetsIn};
 ghost use Rattle.nm_set.specs.Maps.{LeavesReclaim, ManagesGet, SaysChange, SaysGet, TookMeanwhile};
 
 use crate::contents::{Contents, Values};
-use crate::managed::{Options, behind_of, is_pending, is_unfinished, without_one};
+use crate::managed::{Options, behind_of, is_busy, is_pending, is_unfinished, without_one};
 use crate::member::Member;
 use nm_edge::Key;
 use nm_model::Op;
@@ -28,14 +27,6 @@ pub struct Reclaimed {
     /// pinned it. `None`: no worker was found so. Then the epoch was advanced twice during the
     /// call, or it is the last one.
     pub behind: Option<u32>,
-}
-
-/// Returns whether a look-up lost each of its tries.
-fn is_busy(told: &Result<Option<u64>, CallFault>) -> bool
-    ensures yes { result ≡ true → told.now ≡ Err fault.Busy }
-    ensures no { result ≡ false → told.now ≢ Err fault.Busy }
-{
-    matches!(told, Err(CallFault::Busy))
 }
 
 impl Member<Values> {

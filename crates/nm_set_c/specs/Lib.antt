@@ -11,6 +11,7 @@ pub mod NextKeys
 pub mod Scanning
 pub mod Reports
 pub mod Maps
+pub mod MapPuts
 pub mod MapReports
 pub mod MapEntries
 pub mod MapScanning

@@ -58,13 +58,13 @@ abbrev pub TellsGet : Options → ℕ → ℕ → ℕ → MemberView → MemberV
 TellsGet h k = TellsNear k (λ b. SaysGet b h k)
 
 -- what an insert of a key with a value says, and that the map had both if the key was absent
-pub record PutsValue (b : TreeView) (h : Options) (k v : ℕ) (w z : WorkerView) (r : Result Bool CallFault)
+pub record InsertsValue (b : TreeView) (h : Options) (k v : ℕ) (w z : WorkerView) (r : Result Bool CallFault)
     : Type 0 where
   pub says : SaysChange Insert b h k w z r
   pub puts : r ≡ Ok true → HasPut w.pass z.pass k v
 
-abbrev pub TellsPut : Options → ℕ → ℕ → MemberView → MemberView → Outcome → Type 0
-TellsPut h k v m n o = OfKey k (TellsAnswer (PutsValue m.tree h k v) m n o) m n o
+abbrev pub TellsMapInsert : Options → ℕ → ℕ → MemberView → MemberView → Outcome → Type 0
+TellsMapInsert h k v m n o = OfKey k (TellsAnswer (InsertsValue m.tree h k v) m n o) m n o
 
 -- the value that is written if the key of an insert was there, or the number that was there before
 abbrev pub there_written : Result Bool CallFault → ℕ → ℕ → ℕ
@@ -73,18 +73,18 @@ there_written _ there old = old
 
 -- the worker's call is made, and the outcome is that of its answer. If the key was there, the map had
 -- it with the found value at a moment of the call, and this value is written
-pub record FindsOrPuts (h : Options) (k v old found : ℕ) (m n : MemberView) (o : Outcome) : Type 0 where
+pub record FindsOrInserts (h : Options) (k v old found : ℕ) (m n : MemberView) (o : Outcome) : Type 0 where
   pub answer : Result Bool CallFault
   pub told : o ≡ of_answer answer
   pub tree : n.tree ≡ m.tree
-  pub says : PutsValue m.tree h k v m.worker n.worker answer
+  pub says : InsertsValue m.tree h k v m.worker n.worker answer
   pub there : ℕ
   pub finds : answer ≡ Ok false → MapGave m.worker.pass n.worker.pass k (Some there)
   pub written : found ≡ there_written answer there old
 
 -- if the number is a key, that call is made; otherwise the outcome is `Key`, and nothing has changed
-abbrev pub TellsFindOrPut : Options → ℕ → ℕ → ℕ → ℕ → MemberView → MemberView → Outcome → Type 0
-TellsFindOrPut h k v old found m n o = (IsKey k × FindsOrPuts h k v old found m n o)
+abbrev pub TellsFindOrInsert : Options → ℕ → ℕ → ℕ → ℕ → MemberView → MemberView → Outcome → Type 0
+TellsFindOrInsert h k v old found m n o = (IsKey k × FindsOrInserts h k v old found m n o)
     ⊎ ((IsKey k → ⊥) × (o ≡ outcome.Key) × (n ≡ m) × (found ≡ old))
 
 -- the value that is written if the remove has taken its key, whether it is finished or not; or the

@@ -4,6 +4,8 @@ use Rattle.nm_calls.specs.declared.fault.CallFault.{CallFault}
 use Rattle.nm_calls.specs.declared.fault.CallFault.TheVariants as fault
 use Rattle.nm_model.specs.declared.new_error.NewError.{NewError}
 use Rattle.nm_model.specs.declared.new_error.NewError.TheVariants as making
+use Rattle.nm_puts.specs.declared.putting.PutOutcome.{PutOutcome}
+use Rattle.nm_puts.specs.declared.putting.PutOutcome.TheVariants as put
 use Rattle.nm_set.specs.declared.fault.MemberFault.{MemberFault}
 use Rattle.nm_set.specs.declared.fault.MemberFault.TheVariants as taking
 use Rattle.nm_tree.specs.declared.resigning.ResignReason.{ResignReason}
@@ -18,6 +20,10 @@ unfoldable pub code_of : Outcome → ℤ
 code_of outcome.No = pos 0
 code_of outcome.Yes = pos 1
 code_of outcome.Done = pos 2
+code_of outcome.Inserted = pos 3
+code_of outcome.Replaced = pos 4
+code_of outcome.Absent = pos 5
+code_of outcome.Other = pos 6
 code_of outcome.Closed = negsuc 0
 code_of outcome.Open = negsuc 1
 code_of outcome.Kind = negsuc 2
@@ -48,8 +54,8 @@ IsCodeOf P n = (o : Outcome) × (n ≡ code_of o) × P o
 
 -- ---- the results of the calls of a set and its workers, as outcomes
 
--- `of_bool`, `of_fault`, `of_answer`, `of_new`, `of_taking`, `of_staying`, `of_reason`: the outcome
--- for the result of a call of `nm_set`
+-- `of_bool`, `of_fault`, `of_answer`, `of_put`, `of_new`, `of_taking`, `of_staying`, `of_reason`: the
+-- outcome for the result of a call of `nm_set`
 abbrev pub of_bool : Bool → Outcome
 of_bool true = outcome.Yes
 of_bool false = outcome.No
@@ -65,6 +71,13 @@ of_fault fault.Pinned = outcome.Pinned
 abbrev pub of_answer : Result Bool CallFault → Outcome
 of_answer (Ok b) = of_bool b
 of_answer (Err f) = of_fault f
+
+abbrev pub of_put : Result PutOutcome CallFault → Outcome
+of_put (Ok put.Inserted) = outcome.Inserted
+of_put (Ok (put.Replaced value)) = outcome.Replaced
+of_put (Ok put.Absent) = outcome.Absent
+of_put (Ok (put.Other value)) = outcome.Other
+of_put (Err f) = of_fault f
 
 abbrev pub of_new : NewError → Outcome
 of_new making.Nodes = outcome.Nodes

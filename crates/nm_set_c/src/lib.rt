@@ -23,6 +23,7 @@ mod many;
 mod map_entries;
 mod map_epochs;
 mod map_many;
+mod map_puts;
 mod map_reports;
 mod map_scanning;
 mod map_values;

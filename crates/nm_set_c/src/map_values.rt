@@ -3,7 +3,7 @@
 
 ghost use Rattle.std.specs.Prelude.{◌≡◌, ⊤};
 ghost use Rattle.nm_set_c.specs.Handles.{held_by};
-ghost use Rattle.nm_set_c.specs.Maps.{TellsFindOrPut, TellsGet, TellsPut, TellsTake, taken_written, there_written};
+ghost use Rattle.nm_set_c.specs.Maps.{TellsFindOrInsert, TellsGet, TellsMapInsert, TellsTake, taken_written, there_written};
 ghost use Rattle.nm_set_c.specs.NextKeys.{found_written, of_found};
 ghost use Rattle.nm_set_c.specs.Outcomes.{IsCodeOf};
 ghost use Rattle.nm_set_c.specs.Owners.{HasDone, OfMapWorker};
@@ -70,7 +70,7 @@ pub extern "C" fn nm_map_insert(
     value: u64,
     options: &Options,
 ) -> i32
-    ensures tells { IsCodeOf (OfMapWorker (TellsPut options.now key value) ⊤ (held_by worker.old)
+    ensures tells { IsCodeOf (OfMapWorker (TellsMapInsert options.now key value) ⊤ (held_by worker.old)
         (held_by worker.new)) result }
 {
     by_handle!(alloc, worker, MapWorker(member) => insert(member, key, value, options))
@@ -78,7 +78,7 @@ pub extern "C" fn nm_map_insert(
 
 #[inline(always)]
 fn insert(member: &mut MapMember, key: u64, value: u64, options: &Options) -> Outcome
-    ensures tells { HasDone (TellsPut options.now key value) member.old member.new result }
+    ensures tells { HasDone (TellsMapInsert options.now key value) member.old member.new result }
 {
     let Some(key) = Key::new(key) else {
         return Outcome::Key;
@@ -99,7 +99,7 @@ pub extern "C" fn nm_map_get_or_insert(
     options: &Options,
     found: &mut u64,
 ) -> i32
-    ensures tells { IsCodeOf (OfMapWorker (TellsFindOrPut options.now key value found.old found.new)
+    ensures tells { IsCodeOf (OfMapWorker (TellsFindOrInsert options.now key value found.old found.new)
         (found.new ≡ found.old) (held_by worker.old) (held_by worker.new)) result }
 {
     by_handle!(alloc, worker, MapWorker(member) => get_or_insert(member, key, value, options, found))
@@ -113,7 +113,7 @@ fn get_or_insert(
     options: &Options,
     found: &mut u64,
 ) -> Outcome
-    ensures tells { HasDone (TellsFindOrPut options.now key value found.old found.new) member.old
+    ensures tells { HasDone (TellsFindOrInsert options.now key value found.old found.new) member.old
         member.new result }
 {
     let Some(key) = Key::new(key) else {

@@ -1,9 +1,11 @@
 //! What a call returns to C: an answer or an error, as a number.
 ghost use Rattle.std.specs.Prelude.{◌≡◌};
 ghost use Rattle.nm_set.specs.Managed.{of_insert};
-ghost use Rattle.nm_set_c.specs.Outcomes.{code_of, of_bool, of_fault, of_answer, of_new, of_taking, of_staying, of_reason};
+ghost use Rattle.nm_set_c.specs.Outcomes.{code_of, of_bool, of_fault, of_answer, of_put, of_new, of_taking, of_staying, of_reason};
 
-use nm_set::{CallFault, CloseReason, InsertFault, MemberFault, NewError, ResignReason};
+use nm_set::{
+    CallFault, CloseReason, InsertFault, MemberFault, NewError, PutOutcome, ResignReason,
+};
 
 /// What came of a call. After an error nothing has changed, unless its own line says more.
 #[derive(Clone, Copy, Debug, PartialEq, Eq)]
@@ -14,6 +16,14 @@ pub enum Outcome {
     Yes,
     /// The call did what it is for.
     Done,
+    /// The key was absent, and is inserted with the value.
+    Inserted,
+    /// The value of the key is replaced.
+    Replaced,
+    /// The key is absent, and nothing is changed.
+    Absent,
+    /// The key has another value than the expected one, and nothing is changed.
+    Other,
     /// The handle is closed.
     Closed,
     /// The handle that is to be opened is open already.
@@ -73,6 +83,10 @@ impl Outcome {
             Outcome::No => 0,
             Outcome::Yes => 1,
             Outcome::Done => 2,
+            Outcome::Inserted => 3,
+            Outcome::Replaced => 4,
+            Outcome::Absent => 5,
+            Outcome::Other => 6,
             Outcome::Closed => -1,
             Outcome::Open => -2,
             Outcome::Kind => -3,
@@ -127,6 +141,19 @@ impl Outcome {
         match answer {
             Ok(answer) => Outcome::of(answer),
             Err(fault) => Outcome::of_fault(fault),
+        }
+    }
+
+    /// Converts the result of a put, and leaves out the value that was found.
+    pub(crate) fn of_put(done: &Result<PutOutcome, CallFault>) -> Outcome
+        ensures { result ≡ of_put done.now }
+    {
+        match done {
+            Ok(PutOutcome::Inserted) => Outcome::Inserted,
+            Ok(PutOutcome::Replaced(_)) => Outcome::Replaced,
+            Ok(PutOutcome::Absent) => Outcome::Absent,
+            Ok(PutOutcome::Other(_)) => Outcome::Other,
+            Err(fault) => Outcome::of_fault(*fault),
         }
     }
 

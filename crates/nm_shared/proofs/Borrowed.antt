@@ -13,10 +13,13 @@ use Rattle.nm_model.specs.declared.reply.Reply.TheVariants.{Departed}
 use Rattle.nm_steps.specs.declared.view.View.{View}
 use Rattle.nm_steps.specs.Steps.{TreeView, PassView, Notice, IsSamePass, HasSeenAllOf}
 use Rattle.nm_steps.proofs.Seeing.{same_by_step, same_then, seen_itself, seen_through}
+use Rattle.nm_puts.specs.declared.putting.Condition.{Condition}
+use Rattle.nm_puts.specs.declared.putting.PutOutcome.{PutOutcome}
 use Rattle.nm_set.specs.declared.managed.Options.{Options}
 use Rattle.nm_epoch.specs.declared.handing.HandedOut.{HandedOut}
 use Rattle.nm_set.specs.Asked.{AskedToPin}
 use Rattle.nm_set.specs.Managed.{SaysManaged}
+use Rattle.nm_set.specs.MapPuts.{SaysManagedPut}
 use Rattle.nm_set.specs.Maps.{LeavesReclaim, SaysChange, SaysGet}
 use Rattle.nm_set.specs.InTurns.{AskedMany}
 use Rattle.nm_set.specs.NextKeys.{AskedNext, AskedPrev}
@@ -127,6 +130,12 @@ pub change_keeps : (op : Op) (b : TreeView) (h : Options) (k : ℕ) (w z : Worke
     → SaysChange op b h k w z r → Keeps w z
 change_keeps op b h k w z r (inl (held, is, same)) = kept_itself w z same
 change_keeps op b h k w z r (inr (free, t)) = record
+    { same = t.answers.on.same; past = t.answers.on.past; free = λ none'. t.answers.on.held }
+
+pub put_keeps : (b : TreeView) (h : Options) (when : Condition) (k v : ℕ) (w z : WorkerView)
+    (r : Result PutOutcome CallFault) → SaysManagedPut b h when k v w z r → Keeps w z
+put_keeps b h when k v w z r (inl (held, is, same)) = kept_itself w z same
+put_keeps b h when k v w z r (inr (free, t)) = record
     { same = t.answers.on.same; past = t.answers.on.past; free = λ none'. t.answers.on.held }
 
 pub reclaim_keeps : (L : Layout) (old new : List ℕ) (w z : WorkerView) (behind : Option ℕ) (handed : HandedOut)

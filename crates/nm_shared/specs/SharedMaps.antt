@@ -11,6 +11,8 @@ use Rattle.nm_calls.specs.declared.fault.CallFault.TheVariants as fault
 use Rattle.nm_calls.specs.declared.many.Query.{Query}
 use Rattle.nm_calls.specs.declared.map_scanning.MapEntry.{MapEntry}
 use Rattle.nm_calls.specs.declared.scanning.Scanned.{Scanned}
+use Rattle.nm_puts.specs.declared.putting.Condition.{Condition}
+use Rattle.nm_puts.specs.declared.putting.PutOutcome.{PutOutcome}
 use Rattle.nm_tree.specs.declared.fault.PinFault.{PinFault}
 use Rattle.nm_tree.specs.declared.fault.PinFault.TheVariants as pinning
 use Rattle.nm_tree.specs.Answers.{FreesNone, IfTaken}
@@ -19,6 +21,7 @@ use Rattle.nm_tree.specs.Workers.{WorkerView}
 use Rattle.nm_set.specs.declared.managed.Options.{Options}
 use Rattle.nm_set.specs.declared.map_managed.Reclaimed.{Reclaimed}
 use Rattle.nm_set.specs.Asked.{AskedToPin}
+use Rattle.nm_set.specs.MapPuts.{SaysManagedPut}
 use Rattle.nm_set.specs.Maps.{FindsValue, LeavesReclaim, PopsValue, SaysChange, SaysGet, TookMeanwhile}
 use Rattle.nm_set.specs.NextKeys.{AskedNext, AskedPrev}
 use Rattle.nm_set.specs.Popping.{SaysManagedPopOf}
@@ -27,7 +30,7 @@ use Rattle.nm_shared.specs.Sharing.{CallerView, SharedView, Visited}
 
 -- an insert with a value v: if it returns true, the map had the key with v at a moment of the call, and
 -- if it returns false, with the value f
-pub record PutsValue (b : TreeView) (h : Options) (k v f : ℕ) (w z : WorkerView) (r : Result Bool CallFault) : Type
+pub record InsertsValue (b : TreeView) (h : Options) (k v f : ℕ) (w z : WorkerView) (r : Result Bool CallFault) : Type
     0 where
   pub says : SaysChange Insert b h k w z r
   pub puts : r ≡ Ok true → HasPut w.pass z.pass k v
@@ -100,8 +103,13 @@ abbrev pub SaysSharedGetMany : SharedView → Options → List Query → List Qu
 SaysSharedGetMany s h old new was now r =
     Visited (λ w z. GetsMany s.set.tree.layout h.tries old new w z r) s was now
 
-abbrev pub SaysSharedPut : SharedView → Options → ℕ → ℕ → ℕ → CallerView → CallerView → Result Bool CallFault → Type 0
-SaysSharedPut s h k v f was now r = Visited (λ w z. PutsValue s.set.tree h k v f w z r) s was now
+abbrev pub SaysSharedInsert : SharedView → Options → ℕ → ℕ → ℕ → CallerView → CallerView → Result Bool CallFault
+    → Type 0
+SaysSharedInsert s h k v f was now r = Visited (λ w z. InsertsValue s.set.tree h k v f w z r) s was now
+
+abbrev pub SaysSharedPut : SharedView → Options → Condition → ℕ → ℕ → CallerView → CallerView
+    → Result PutOutcome CallFault → Type 0
+SaysSharedPut s h when k v was now r = Visited (λ w z. SaysManagedPut s.set.tree h when k v w z r) s was now
 
 abbrev pub SaysSharedTake : SharedView → Options → ℕ → ℕ → CallerView → CallerView → Result Bool CallFault → Type 0
 SaysSharedTake s h k v was now r = Visited (λ w z. TakesValue s.set.tree h k v w z r) s was now

@@ -3,12 +3,15 @@ ghost use Rattle.std.specs.Prelude.{◌≡◌, ◌<◌, ◌≤◌, IfSome, IfNon
 ghost use Rattle.nm_edge.specs.Keys.{IsKey};
 ghost use Rattle.nm_edge.specs.declared.edge.Side.TheVariants.{Left, Right};
 ghost use Rattle.nm_shared.specs.SharedMaps.{AsksUnderPin, GetsMany, of_pin};
-ghost use Rattle.nm_shared.specs.SharedMaps.{SaysSharedEntries, SaysSharedGet, SaysSharedGetMany, SaysSharedNextEntry, SaysSharedPopEntry, SaysSharedPrevEntry, SaysSharedPut, SaysSharedReclaim, SaysSharedTake};
+ghost use Rattle.nm_shared.specs.SharedMaps.{SaysSharedEntries, SaysSharedGet, SaysSharedGetMany, SaysSharedInsert, SaysSharedNextEntry, SaysSharedPopEntry, SaysSharedPrevEntry, SaysSharedPut, SaysSharedReclaim, SaysSharedTake};
 ghost use Rattle.nm_shared.specs.Sharing.{IsCallerOf, NoneWasFree};
 
 use crate::shared_set::{Caller, SharedSet};
 use nm_edge::Key;
-use nm_set::{CallFault, MapEntry, Member, Options, PinFault, Query, Reclaimed, Scanned, Values};
+use nm_set::{
+    CallFault, Condition, MapEntry, Member, Options, PinFault, PutOutcome, Query, Reclaimed,
+    Scanned, Values,
+};
 
 /// Returns the fault of a call whose worker was not pinned.
 fn of_pin_fault(fault: PinFault) -> CallFault
@@ -127,7 +130,7 @@ impl SharedSet<Values> {
         requires own { IsCallerOf self.now caller }
         ensures own { IsCallerOf self.now result.0 }
         ensures says { IfSome result.1
-            (SaysSharedPut self.now options.now key value found.new caller result.0) }
+            (SaysSharedInsert self.now options.now key value found.new caller result.0) }
         ensures refused { IfNone result.1 (NoneWasFree self.now caller result.0
             × (found.new ≡ found.old)) }
     {
@@ -135,6 +138,36 @@ impl SharedSet<Values> {
             Ok((worker, loan)) => {
                 let mut worker = worker;
                 let told = worker.member.insert(key, value, found, options);
+                (self.give_back(loan, worker), Some(told))
+            }
+            Err(caller) => (caller, None),
+        }
+    }
+
+    /// Gives `key` the value, if the condition holds; returns what it did, or why it changed nothing:
+    /// `MapMember::put`, in the same way. A value that it replaced comes back by `reclaim`, once nobody
+    /// can read it.
+    ///
+    /// Errors: those of `MapMember::put`, except `Pinned`. After `Full` call `reclaim` by each worker: a
+    /// worker frees only what it has removed.
+    pub fn put(
+        &self,
+        caller: Caller<Values>,
+        key: Key,
+        value: u64,
+        condition: Condition,
+        options: &Options,
+    ) -> (Caller<Values>, Option<Result<PutOutcome, CallFault>>)
+        requires own { IsCallerOf self.now caller }
+        ensures own { IsCallerOf self.now result.0 }
+        ensures says { IfSome result.1
+            (SaysSharedPut self.now options.now condition key value caller result.0) }
+        ensures refused { IfNone result.1 (NoneWasFree self.now caller result.0) }
+    {
+        match self.borrow(caller) {
+            Ok((worker, loan)) => {
+                let mut worker = worker;
+                let told = worker.member.put(key, value, condition, options);
                 (self.give_back(loan, worker), Some(told))
             }
             Err(caller) => (caller, None),

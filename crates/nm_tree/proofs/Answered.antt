@@ -17,6 +17,9 @@ use Rattle.nm_calls.specs.Inserts.{InsertDid}
 use Rattle.nm_calls.specs.PlainWalks.{LooksUnderPin, PlainMissed}
 use Rattle.nm_calls.specs.Scans.{count_of}
 use Rattle.nm_calls.specs.declared.scanning.Scanned.{Scanned}
+use Rattle.nm_puts.specs.declared.putting.Condition.{Condition}
+use Rattle.nm_puts.specs.declared.putting.PutOutcome.{PutOutcome}
+use Rattle.nm_puts.specs.Puts.{PutDid}
 use Rattle.nm_tree.specs.Answers.{IsFree, LacksRoom, HasTold, HasAnswered, InsertTold, HasInserted, FailsAlone, FindsNoSlot, FoundNoSlot, HasMade}
 use Rattle.nm_tree.specs.Looked.{HasSeenMore}
 use Rattle.nm_tree.specs.Workers.{WorkerView}
@@ -47,9 +50,9 @@ found_ever p q (turns, is, finds) = λ s low high. subst
     by s (inl made) = inl (Contains-append_right p.view.past turns _ made)
     by s (inr made) = inr (Contains-append_right p.view.past turns _ made)
 
-pub insert_fails : (tries : ℕ) (w z : WorkerView) (r : Result Bool CallFault) → InsertTold w z r
+pub insert_fails : {A : Type 0} (tries : ℕ) (w z : WorkerView) (r : Result A CallFault) → InsertTold w z r
     → (IsErrOf r fault.Busy → tries ≡ 0) → IfErr r (FailsAlone 1 1 tries z)
-insert_fails tries w z (Ok b) told none = tt
+insert_fails tries w z (Ok a) told none = tt
 insert_fails tries w z (Err fault.Busy) told none = let zero = none refl in omega (arith, zero)
 insert_fails tries w z (Err fault.Unfinished) told none = absurd told
 insert_fails tries w z (Err fault.Full) told none = found_ever w.pass z.pass told.1
@@ -91,6 +94,17 @@ module _ (L : Layout) (tries k : ℕ) (w z : WorkerView) (free : IsFree w z) whe
   has_inserted (Err fault.Pending) did = absurd did.3
   has_inserted (Err fault.Pinned) did = absurd did.3
   has_inserted (Err fault.Unfinished) did = absurd did.3
+
+  pub put_told : (when : Condition) (r : Result PutOutcome CallFault)
+      → (IsErrOf r fault.Full → FoundNoSlot w.pass z.pass) → (IsErrOf r fault.NoMemory → LacksRoom z)
+      → PutDid w.fit L tries when k w.pass.view.log z.pass.view.log r → InsertTold w z r
+  put_told when (Ok p) full lacks did = free
+  put_told when (Err fault.Busy) full lacks did = free
+  put_told when (Err fault.Full) full lacks did = (free, full refl)
+  put_told when (Err fault.NoMemory) full lacks did = (free, lacks refl)
+  put_told when (Err fault.Pending) full lacks did = absurd did.3
+  put_told when (Err fault.Pinned) full lacks did = absurd did.3
+  put_told when (Err fault.Unfinished) full lacks did = absurd did.3
 
 pub has_looked : {X : Type 0} (GivesUp : List Entry → List Entry → Type 0) (tries most : ℕ) (w z : WorkerView)
     → IsFree w z → (r : Result X CallFault) → IfOk r (λ x. LooksUnderPin tries most w.pass.view.log z.pass.view.log)

@@ -30,14 +30,14 @@ use Rattle.nm_tree.proofs.Unfreed.{Unfreed, inserts_lost, pin_unfreed, stops_unf
 -- ---- claims
 
 -- these entries passed over the slot
-abbrev WasPassedOver : ℕ → List Entry → Type 0
+abbrev pub WasPassedOver : ℕ → List Entry → Type 0
 WasPassedOver s es = Contains es (Claim s, Taken) ⊎ Contains es (Look s Birth, BirthIs last_number)
 
 -- entries that passed over each of these slots
-record Passes (P : ℕ → Type 0) (old new : List Entry) : Type 0 where
-  claims : List Entry
-  are : new ≡ old ++ claims
-  each : (s : ℕ) → P s → WasPassedOver s claims
+pub record Passes (P : ℕ → Type 0) (old new : List Entry) : Type 0 where
+  pub claims : List Entry
+  pub are : new ≡ old ++ claims
+  pub each : (s : ℕ) → P s → WasPassedOver s claims
 
 passes_then : (P Q R : ℕ → Type 0) (old mid new : List Entry) → ((s : ℕ) → R s → P s ⊎ Q s) → Passes P old mid
     → Passes Q mid new → Passes R old new
@@ -112,10 +112,11 @@ passes_at nodes (x ∷ slots) old new h = passes_then (λ s. IsOneOfSlots s slot
     split s (inr more) = inl more
 
 -- each slot above 5
-abbrev IsAny : ℕ → ℕ → Type 0
+abbrev pub IsAny : ℕ → ℕ → Type 0
 IsAny nodes s = (6 ≤ s) × (s ≤ nodes)
 
-no_node : (f : Fit) (nodes : ℕ) (old new : List Entry) → IsClaimBy f nodes old new None → Passes (IsAny nodes) old new
+pub no_node : (f : Fit) (nodes : ℕ) (old new : List Entry) → IsClaimBy f nodes old new None
+    → Passes (IsAny nodes) old new
 no_node fit.FirstFit nodes old new h = passes_fewer (Between 6 (nodes + 1 - 6)) (IsAny nodes) old new
     (λ s is. (let low = is.0 in let high = is.1 in (low, omega (arith, low, high))))
     (passes_turn 6 (nodes + 1 - 6) old new h)
@@ -131,7 +132,7 @@ one_node fit.NextFit nodes old new n h = passes_then (λ s. IsOneOfSlots s h.slo
     (λ s no. absurd no) (passes_at nodes h.slots old h.before h.passed)
     (record { claims = _; are = h.made.entries; each = λ s no. absurd no })
 
-no_nodes : (f : Fit) (nodes : ℕ) (old new : List Entry) → ClaimsNewNodes f nodes old new None
+pub no_nodes : (f : Fit) (nodes : ℕ) (old new : List Entry) → ClaimsNewNodes f nodes old new None
     → Passes (IsAny nodes) old new
 no_nodes f nodes old new (inl h) = no_node f nodes old new h
 no_nodes f nodes old new (inr (n, mid, all, first, second, back)) =
@@ -153,37 +154,42 @@ claims_made p q first claims last seen_p seen_q on past log e r plain there =
     (part_since p q (first ++ (claims ++ last)) seen_p seen_q on past.goes_on log))
     (Contains-append_right first (claims ++ last) (e, r) (Contains-append_left claims last (e, r) there))))
 
+-- a worker whose last claims passed over each slot, right before its unpin, has found no slot
+module _ (L : Layout) (w z : WorkerView) (same : z.pass.view.layout ≡ L) (seen_w : HasSeen w.pass.view)
+    (seen_z : HasSeen z.pass.view) (on : IsSamePass w.pass z.pass) (past : HasSeenAllOf z.pass w.pass)
+    (at mid : List Entry) (so_far : Unfreed w.pass.view.log at) (passed : Passes (IsAny L.nodes) at mid)
+    (leaves : z.pass.view.log ≡ mid ++ (Leave, Departed) ∷ []) where
+  log : z.pass.view.log ≡ w.pass.view.log ++ (so_far.entries ++ (passed.claims ++ (Leave, Departed) ∷ []))
+  log = leaves
+      ∙ (ap (λ (l : List Entry). l ++ (Leave, Departed) ∷ [])
+      (passed.are ∙ ap (λ (l : List Entry). l ++ passed.claims) so_far.are)
+      ∙ (append_assoc (w.pass.view.log ++ so_far.entries) passed.claims ((Leave, Departed) ∷ [])
+      ∙ append_assoc w.pass.view.log so_far.entries (passed.claims ++ (Leave, Departed) ∷ [])))
+
+  made : (e : Event) (q : Reply) → is_leaver w.pass.view.number e ≡ false → Contains passed.claims (e, q)
+      → HasMade z.pass.view.number past.goes_on.more e q
+  made e q plain there = claims_made w.pass z.pass so_far.entries passed.claims ((Leave, Departed) ∷ []) seen_w
+      seen_z on past log e q plain there
+
+  by : (s : ℕ) → WasPassedOver s passed.claims → HasMade z.pass.view.number past.goes_on.more (Claim s) Taken
+      ⊎ HasMade z.pass.view.number past.goes_on.more (Look s Birth) (BirthIs last_number)
+  by s (inl there) = inl (made (Claim s) Taken refl there)
+  by s (inr there) = inr (made (Look s Birth) (BirthIs last_number) refl there)
+
+  each : FindsNoSlot z.pass.view.layout.nodes z.pass.view.number past.goes_on.more
+  each s low high = by s (passed.each s (low, subst (λ (M : Layout). s ≤ M.nodes) same high))
+
+  pub found_none : FoundNoSlot w.pass z.pass
+  found_none = (past.goes_on.more, past.goes_on.is, each)
+
 pub found_no_slot : (L : Layout) (tries k : ℕ) (w z : WorkerView) → z.pass.view.layout ≡ L → HasSeen w.pass.view
     → HasSeen z.pass.view → IsSamePass w.pass z.pass → HasSeenAllOf z.pass w.pass
     → InsertDid w.fit L tries k w.pass.view.log z.pass.view.log (Err fault.Full) → FoundNoSlot w.pass z.pass
 found_no_slot L tries k w z same seen_w seen_z on past
     (pinned, epoch, pin, (mid, (n, f, begun, few, lost, (r, c, at, walk, other, none', gone, claimed)), leaves)) =
-    (past.goes_on.more, past.goes_on.is, each)
+    found_none L w z same seen_w seen_z on past at mid so_far (no_nodes w.fit L.nodes at mid claimed) leaves
   where
     so_far : Unfreed w.pass.view.log at
     so_far = then' w.pass.view.log pinned at (pin_unfreed (SightFor Insert k) (λ reply. refl) tries w.pass.view.log
         pinned epoch pin) (then' pinned begun at (inserts_lost w.fit L k n f pinned begun lost)
         (stops_unfreed L k begun at c r walk))
-
-    passed : Passes (IsAny L.nodes) at mid
-    passed = no_nodes w.fit L.nodes at mid claimed
-
-    log : z.pass.view.log ≡ w.pass.view.log ++ (so_far.entries ++ (passed.claims ++ (Leave, Departed) ∷ []))
-    log = leaves
-        ∙ (ap (λ (l : List Entry). l ++ (Leave, Departed) ∷ [])
-        (passed.are ∙ ap (λ (l : List Entry). l ++ passed.claims) so_far.are)
-        ∙ (append_assoc (w.pass.view.log ++ so_far.entries) passed.claims ((Leave, Departed) ∷ [])
-        ∙ append_assoc w.pass.view.log so_far.entries (passed.claims ++ (Leave, Departed) ∷ [])))
-
-    made : (e : Event) (q : Reply) → is_leaver w.pass.view.number e ≡ false → Contains passed.claims (e, q)
-        → HasMade z.pass.view.number past.goes_on.more e q
-    made e q plain there = claims_made w.pass z.pass so_far.entries passed.claims ((Leave, Departed) ∷ []) seen_w
-        seen_z on past log e q plain there
-
-    by : (s : ℕ) → WasPassedOver s passed.claims → HasMade z.pass.view.number past.goes_on.more (Claim s) Taken
-        ⊎ HasMade z.pass.view.number past.goes_on.more (Look s Birth) (BirthIs last_number)
-    by s (inl there) = inl (made (Claim s) Taken refl there)
-    by s (inr there) = inr (made (Look s Birth) (BirthIs last_number) refl there)
-
-    each : FindsNoSlot z.pass.view.layout.nodes z.pass.view.number past.goes_on.more
-    each s low high = by s (passed.each s (low, subst (λ (M : Layout). s ≤ M.nodes) same high))

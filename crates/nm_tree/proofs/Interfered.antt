@@ -14,6 +14,8 @@ use Rattle.nm_calls.specs.NearKeys.{GiveUp as GiveUpNear}
 use Rattle.nm_calls.specs.PlainWalks.{GivesUpUnderPin, PlainMissed}
 use Rattle.nm_calls.specs.Scans.{StopsShort}
 use Rattle.nm_calls.specs.Deletes.{DeleteDid, IsRemoving, LosesAfterFlag, LosesEachTry}
+use Rattle.nm_puts.specs.declared.putting.Condition.{Condition}
+use Rattle.nm_puts.specs.Puts.{PutDid}
 use Rattle.nm_progress.specs.Lookups.{WasBusy, WasReshaped}
 use Rattle.nm_progress.specs.Lost.{Interference, WasChanged, ChangeWasBusy}
 use Rattle.nm_epoch.specs.Resting.{IsResting}
@@ -22,6 +24,7 @@ use Rattle.nm_progress.specs.Walked.{ManyWereBusy, NearWasBusy}
 use Rattle.nm_progress.proofs.AloneCalls.{lookups_alone_are_answered, inserts_alone_are_answered, deletes_alone_are_not_busy}
 use Rattle.nm_progress.proofs.AloneRemovals.{deletes_alone_are_finished, finishes_alone_are_answered}
 use Rattle.nm_progress.proofs.LostLookups.{busy_lookups_met_interference}
+use Rattle.nm_progress.proofs.LostPuts.{busy_puts_were_lost, puts_alone_are_done}
 use Rattle.nm_progress.proofs.LostWalked.{busy_many_met_interference, busy_near_met_interference, short_scans_met_interference}
 use Rattle.nm_progress.proofs.InterferedCalls.{busy_inserts_were_lost, busy_deletes_were_lost, unfinished_deletes_were_lost, unfinished_finishes_were_lost}
 
@@ -47,6 +50,13 @@ module _ (b d : TreeView) (o p q : PassView) (k tries : ℕ) (tree : b ≡ d) (a
       subst (λ (x : PassView). ChangeWasBusy x q tries) at
       (busy_inserts_were_lost f k tries o q seen after enough fits.few same past
       (subst (λ (L : Layout). InsertDid f L tries k o.view.log q.view.log (Err fault.Busy)) (sym (layouts own)) did))
+
+  pub put_interfered : IsOf d p → (f : Fit) (when : Condition)
+      → PutDid f b.layout tries when k o.view.log q.view.log (Err fault.Busy) → ChangeWasBusy p q tries
+  put_interfered own f when did =
+      subst (λ (x : PassView). ChangeWasBusy x q tries) at
+      (busy_puts_were_lost f when k tries o q seen after enough fits.few same past
+      (subst (λ (L : Layout). PutDid f L tries when k o.view.log q.view.log (Err fault.Busy)) (sym (layouts own)) did))
 
   pub delete_interfered : IsOf d p → DeleteDid b.layout tries k o.view.log q.view.log (Err fault.Busy)
       → ChangeWasBusy p q tries
@@ -112,6 +122,12 @@ module _ (b d : TreeView) (o p q : PassView) (k tries : ℕ) (tree : b ≡ d) (a
   insert_alone own f runs rests did =
       inserts_alone_are_answered f k tries o q seen after enough same past (mine_too runs) rests
       (subst (λ (L : Layout). InsertDid f L tries k o.view.log q.view.log (Err fault.Busy)) (sym (layouts own)) did)
+
+  pub put_alone : IsOf d p → (f : Fit) (when : Condition) → RunsAlone p q → IsResting o
+      → PutDid f b.layout tries when k o.view.log q.view.log (Err fault.Busy) → tries ≡ 0
+  put_alone own f when runs rests did =
+      puts_alone_are_done f when k tries o q seen after enough same past (mine_too runs) rests
+      (subst (λ (L : Layout). PutDid f L tries when k o.view.log q.view.log (Err fault.Busy)) (sym (layouts own)) did)
 
   pub delete_alone : IsOf d p → RunsAlone p q → IsResting o
       → DeleteDid b.layout tries k o.view.log q.view.log (Err fault.Busy) → tries < 1

@@ -45,5 +45,7 @@ pub mod Answered
 pub mod Unfreed
 pub mod MadeInTurns
 pub mod FullPools
+pub mod UnfreedPuts
+pub mod FullPuts
 pub mod RunSums
 pub mod AddedUp

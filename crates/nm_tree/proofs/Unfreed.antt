@@ -78,7 +78,7 @@ pub freed_still : (old new : List Entry) → Unfreed old new → freed_in new �
 freed_still old new a = ap freed_in a.are ∙ (freed-append old a.entries
     ∙ (ap (λ (ns : List NodeId). freed_in old ++ ns) (none_freed a.entries a.quiet) ∙ append-nil (freed_in old)))
 
-these : (more old new : List Entry) → list_any frees more ≡ false → new ≡ old ++ more → Unfreed old new
+pub these : (more old new : List Entry) → list_any frees more ≡ false → new ≡ old ++ more → Unfreed old new
 these = adds_these frees
 
 pub then' : (old mid new : List Entry) → Unfreed old mid → Unfreed mid new → Unfreed old new
@@ -101,13 +101,13 @@ pin_unfreed by none' tries old new epoch h =
     then' old _ new (these _ old _ refl refl) (then' _ h.2 new (pins by none' h.1 _ h.2 h.4)
     (then' h.2 _ new (these _ h.2 _ refl refl) (these _ _ new (ap (λ (b : Bool). b || false) (none' _)) h.5.1)))
 
-moved : (by : Event) → ((r : Reply) → frees (by, r) ≡ false) → (tries : ℕ) (old new : List Entry)
+pub moved : (by : Event) → ((r : Reply) → frees (by, r) ≡ false) → (tries : ℕ) (old new : List Entry)
     → IsMoved by tries old new → Unfreed old new
 moved by none' zero old new h = these _ old new refl h.1
 moved by none' (suc n) old new h = then' old _ new (these _ old _ refl refl)
     (then' _ h.1 new (pins by none' (suc n) _ h.1 h.2) (these _ h.1 new refl h.3))
 
-by_call : (op : Op) (k : ℕ) (r : Reply) → frees (SightFor op k, r) ≡ false
+pub by_call : (op : Op) (k : ℕ) (r : Reply) → frees (SightFor op k, r) ≡ false
 by_call op k r = refl
 
 by_sight : (r : Reply) → frees (Sight, r) ≡ false
@@ -122,11 +122,12 @@ walks k zero old new s c w = these _ old new refl w.3
 walks k (suc n) old new s c w = then' old w.0 new (walks k n old w.0 w.1 w.2 w.4)
     (reads k w.1.edge.slot w.0 new w.3 w.6)
 
-broken : (L : Layout) (k : ℕ) (old new : List Entry) → IsBroken L k old new → Unfreed old new
+pub broken : (L : Layout) (k : ℕ) (old new : List Entry) → IsBroken L k old new → Unfreed old new
 broken L k old new (inl e) = walks k e.1 old new e.2 e.3 e.4
 broken L k old new (inr e) = then' old e.2 new (walks k e.1 old e.2 e.3 e.4 e.7) (reads k e.3.edge.slot e.2 new e.5 e.8)
 
-seeks : (L : Layout) (k : ℕ) (old new : List Entry) (c : List ChainEdge) (r : WalkEnd) → Seeks L k old new c (Some r)
+pub seeks : (L : Layout) (k : ℕ) (old new : List Entry) (c : List ChainEdge) (r : WalkEnd)
+    → Seeks L k old new c (Some r)
     → Unfreed old new
 seeks L k old new c r h = then' old h.0.1 new (walks k h.0.0 old h.0.1 r.seek_record c h.0.4)
     (reads k r.seek_record.edge.slot h.0.1 new h.0.2 h.0.6)
@@ -162,7 +163,8 @@ passed_at : (nodes : ℕ) (slots : List ℕ) (old new : List Entry) → DoneAt (
 passed_at nodes [] old new h = unfreed_none old new h
 passed_at nodes (s ∷ slots) old new h = then' old h.0 new (passed_at nodes slots old h.0 h.1) (passed s h.0 new h.2.2)
 
-claim : (f : Fit) (nodes : ℕ) (old new : List Entry) (r : Option NodeId) → IsClaimBy f nodes old new r → Unfreed old new
+pub claim : (f : Fit) (nodes : ℕ) (old new : List Entry) (r : Option NodeId) → IsClaimBy f nodes old new r
+    → Unfreed old new
 claim fit.FirstFit nodes old new (Some n) h = then' old h.before new
     (passed_all 6 (n.slot - 6) old h.before h.passed) (these _ h.before new refl h.made.entries)
 claim fit.NextFit nodes old new (Some n) h = then' old h.before new (passed_at nodes h.slots old h.before h.passed)
@@ -210,14 +212,14 @@ lost : (s : SeekRecord) (c : List ChainEdge) (old new : List Entry) → CleanupL
 lost s c old new (inl none') = chosen s None old new none'
 lost s c old new (inr l) = then' old l.1 new (prepared s c l.0 old l.1 l.3) (these _ l.1 new refl l.4)
 
-helps : (r : WalkEnd) (c : List ChainEdge) (e : Edge) (old new : List Entry) → Helps r c e old new → Unfreed old new
+pub helps : (r : WalkEnd) (c : List ChainEdge) (e : Edge) (old new : List Entry) → Helps r c e old new → Unfreed old new
 helps r c e old new (inr h) = unfreed_none old new h.1
 helps r c e old new (inl (asks, inl h)) = won r.seek_record c h.0 h.1 old new h.2
 helps r c e old new (inl (asks, inr h)) = lost r.seek_record c old new h
 
 -- ---- inserts
 
-returned : (f : Option NewNodes) (old new : List Entry) → Returns f old new → Unfreed old new
+pub returned : (f : Option NewNodes) (old new : List Entry) → Returns f old new → Unfreed old new
 returned None old new h = unfreed_none old new h
 returned (Some f) old new h = then' old _ new (these _ old _ refl refl) (these _ _ new refl h)
 
@@ -227,12 +229,12 @@ readied fit nodes None made old new h = new_nodes fit nodes old new (Some made) 
 readied fit nodes (Some f) made old new h = unfreed_none old new h.1
 
 module _ (fit : Fit) (L : Layout) (k : ℕ) where
-  grown_won : (r : WalkEnd) (f : NewNodes) (old new : List Entry) → Grows L.radix k r f (Linked f.internal) old new
+  pub grown_won : (r : WalkEnd) (f : NewNodes) (old new : List Entry) → Grows L.radix k r f (Linked f.internal) old new
       → Unfreed old new
   grown_won r f old new h = then' old _ new (these _ old _ refl refl)
       (then' _ _ new (these _ _ _ refl refl) (these _ _ new refl h.3))
 
-  grown_lost : (r : WalkEnd) (f : NewNodes) (e : Edge) (old new : List Entry) → Grows L.radix k r f (Lost e) old new
+  pub grown_lost : (r : WalkEnd) (f : NewNodes) (e : Edge) (old new : List Entry) → Grows L.radix k r f (Lost e) old new
       → Unfreed old new
   grown_lost r f e old new h = then' old _ new (these _ old _ refl refl)
       (then' _ _ new (these _ _ _ refl refl) (these _ _ new refl h.3))

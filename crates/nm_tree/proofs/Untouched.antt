@@ -1,14 +1,16 @@
 -- What a call leaves of a worker with which it does nothing: since a key is pending, or where there
 -- is none to finish.
-use Rattle.std.proofs.Common.{◌≡◌, ℕ, List, false, refl, arith}
+use Rattle.std.proofs.Common.{◌≡◌, inl, ℕ, List, false, refl, arith}
 use Rattle.std.specs.Prelude.{None, IsSome, Ok, Err}
 use Rattle.nm_edge.specs.Layouts.{Layout}
 use Rattle.nm_model.specs.Walks.{Entry}
 use Rattle.nm_steps.proofs.Seeing.{seen_itself, stores_same}
 use Rattle.nm_calls.specs.Won.{HasWon}
 use Rattle.nm_calls.specs.declared.fault.CallFault.TheVariants as fault
+use Rattle.nm_puts.specs.declared.putting.Condition.{Condition}
 use Rattle.nm_tree.specs.Workers.{WorkerView}
 use Rattle.nm_tree.specs.Calls.{LeavesGet, LeavesHas, LeavesInsert, LeavesDelete, LeavesFinish}
+use Rattle.nm_tree.specs.Putting.{LeavesPut}
 use Rattle.nm_tree.proofs.QueueLists.{others_stay, room_stays}
 
 nothing_won : (log : List Entry) → HasWon log log 0 0
@@ -64,6 +66,28 @@ module _ (L : Layout) (tries k : ℕ) (w : WorkerView) (there : IsSome w.pending
       fit = refl;
     };
     did = (there, refl);
+    interfered = λ is. absurd (let no = is in cc);
+    alone = λ alone. there;
+  }
+
+  pub put_pending : (when : Condition) (v : ℕ) → LeavesPut L tries when k v w w (Err fault.Pending)
+  put_pending when v = record {
+    says = record {
+      same = refl;
+      past = seen_itself w.pass;
+      stores = stores_same w.pass.view.stores w.pass.view.stores refl;
+      told = (there, refl);
+      map = tt;
+      moment = tt;
+      won = nothing_won w.pass.view.log;
+      steps = omega arith;
+      frees = refl;
+      queues = others_stay w.pass.view.number w.queues;
+      blocks = room_stays w.queues;
+      held = free;
+      fit = refl;
+    };
+    did = inl ((there, refl), refl);
     interfered = λ is. absurd (let no = is in cc);
     alone = λ alone. there;
   }

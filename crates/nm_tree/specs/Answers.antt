@@ -76,10 +76,10 @@ HasTold w z (Err fault.Busy) = IsFree w z
 HasTold w z (Err fault.Pending) = IsPendingStill w z
 HasTold w z (Err _) = ⊥
 
--- an insert, in the same way; after `Full` it has found no slot, and after `NoMemory` its own queue
--- has little room
-abbrev pub InsertTold : WorkerView → WorkerView → Result Bool CallFault → Type 0
-InsertTold w z (Ok b) = IsFree w z
+-- an insert or a put, in the same way; after `Full` it has found no slot, and after `NoMemory` its own
+-- queue has little room
+abbrev pub InsertTold : {A : Type 0} → WorkerView → WorkerView → Result A CallFault → Type 0
+InsertTold w z (Ok a) = IsFree w z
 InsertTold w z (Err fault.Busy) = IsFree w z
 InsertTold w z (Err fault.Full) = IsFree w z × FoundNoSlot w.pass z.pass
 InsertTold w z (Err fault.NoMemory) = IsFree w z × LacksRoom z

@@ -3,6 +3,7 @@ pub mod Answers
 pub mod Looked
 pub mod InTurns
 pub mod Calls
+pub mod Putting
 pub mod Scanning
 pub mod Popping
 pub mod Resigning

@@ -163,7 +163,7 @@ returns-in-Err-clause-part c =
       c.help.ensures.part,
     )
 
-pub seek_place-requires-clause-key : goal.stop-requires-clause-key
+pub seek_place-requires-clause-key : goal.seek_place-requires-clause-key
 seek_place-requires-clause-key c = rw c.get-sought.ensures.number
     (key_of_call c.args.pass.now c.requires.pinned.run Insert c.args.key c.requires.call.call)
 

@@ -19,7 +19,7 @@ use Rattle.nm_puts.proofs.ReplacedValues.{replaced_since}
 use Rattle.nm_puts.proofs.TriedPuts.{always_expects_none, cleans_nothing, cleans_puts, grows_puts, if_replaced, looks_nothing, looks_puts, makes_nothing, makes_puts, may_replace, no_other, nothing_then, private_since, puts_then, replaced_does, shows_since}
 use Rattle.nm_puts.proofs.putting.try_put.Goals as goal
 
-pub seek_place-requires-clause-key : goal.stop-requires-clause-key
+pub seek_place-requires-clause-key : goal.seek_place-requires-clause-key
 seek_place-requires-clause-key c = rw c.get-sought.ensures.number
     (key_of_call c.args.pass.now c.requires.pinned.run Insert c.args.key c.requires.call.call)
 

@@ -9,7 +9,7 @@ use Rattle.nm_steps.specs.Rules.{value_of}
 use Rattle.nm_steps.specs.Steps.{PassView}
 use Rattle.nm_steps.proofs.Seeing.{continues_then}
 use Rattle.nm_walks.proofs.GoingOn.{goes_then, pinned_in_still}
-use Rattle.nm_walks.proofs.ValueLooks.{goes_by_value}
+use Rattle.nm_walks.proofs.ValueLooks.{goes_by_value, has_stored}
 use Rattle.nm_calls.proofs.Forks.{going_continues}
 use Rattle.nm_puts.proofs.LaterValues.{value_later}
 use Rattle.nm_puts.proofs.ReplacedValues.{has_replaced, has_swapped_leaf, replaced_then}
@@ -29,8 +29,11 @@ swap-requires-clause-may c =
     (rw c.slot-leaf.ensures at b.ensures.born) f.ensures.on f.ensures.only f.ensures.filled)
 
 pub swap-requires-clause-stored : goal.swap-requires-clause-stored
-swap-requires-clause-stored c = just_stored c.fill_leaf.new.pass c.args.new.now.slot c.args.value
-    c.fill_leaf.ensures.stored
+swap-requires-clause-stored c =
+    let fits = subst IsLayout c.requires.pinned.own.layout c.requires.pinned.run.fits in
+    just_stored c.fill_leaf.new.pass c.args.new.now.slot c.args.value
+    (has_stored c.args.shared.now c.fill_leaf.new.pass c.args.new.now.slot c.args.value fits c.requires.values
+    c.fill_leaf.ensures.stored)
 
 pub look_value-old-requires-clause-slot : goal.look_value-old-requires-clause-slot
 look_value-old-requires-clause-slot c =
@@ -102,6 +105,7 @@ returns-clause-replaced c =
     let e = c.args.end.now.seek_record in
     let leaf : NodeId = record { slot = c.slot-leaf.result; birth = b.result } in
     let on = goes_then p b.new.pass f.new.pass b.ensures.on f.ensures.on in
+    let fits = subst IsLayout c.requires.pinned.own.layout c.requires.pinned.run.fits in
     let took = took_out f.new.pass s e.parent e.side leaf.slot c.args.new.now.slot b.result (f.ensures.on.keeps
     (IsBorn c.slot-leaf.result b.result) b.ensures.born) c.in_ok-swap.ensures.took in
     let within = leaf_is_high p c.requires.pinned.run c.know_run.ensures.seen k e.edge.slot may.is_key
@@ -111,7 +115,8 @@ returns-clause-replaced c =
     c.args.new.now.slot k v z.result
     (has_swapped_leaf p f.new.pass s e.parent e.side leaf c.args.new.now.slot k v on.past on.run
     (pinned_in_still c.args.shared.now p f.new.pass on c.requires.pinned).pin (on.keeps
-    (CallIs Insert k) may.call) f.ensures.stored took)
+    (CallIs Insert k) may.call)
+    (has_stored c.args.shared.now f.new.pass c.args.new.now.slot v fits c.requires.values f.ensures.stored) took)
     z.ensures.looks z.ensures.value (rw c.slot-leaf.ensures within.0)
     (rw c.slot-leaf.ensures (subst (λ (x : PassView). e.edge.slot ≤ x.view.layout.nodes)
     (sym (goes_then p f.new.pass s on c.swap.ensures.on).same) within.1)))

@@ -1,5 +1,5 @@
 use Rattle.std.proofs.Common.{ℕ, inl, subst}
-use Rattle.nm_set_c.specs.Maps.{FindsOrPuts}
+use Rattle.nm_set_c.specs.Maps.{FindsOrInserts}
 use Rattle.nm_set_c.specs.Owners.{HasDone}
 use Rattle.nm_set_c.proofs.map_values.get_or_insert.Goals as goal
 
@@ -8,7 +8,7 @@ unfolding HasDone
 returns c = record {
   tells = inl (
     c.in-Some.ensures.0,
-    subst (λ (k : ℕ). FindsOrPuts c.args.options.now k c.args.value c.args.found.now c.write_there.new.found
+    subst (λ (k : ℕ). FindsOrInserts c.args.options.now k c.args.value c.args.found.now c.write_there.new.found
         c.args.member.now c.insert-answer.new.self c.of_answer.result) c.in-Some.ensures.1 (record {
           answer = c.insert-answer.result;
           told = c.of_answer.ensures;
