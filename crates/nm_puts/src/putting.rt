@@ -1,5 +1,5 @@
 //! Puts: tries to give a key another value, or to insert it.
-ghost use Rattle.std.specs.Prelude.{◌≡◌, ◌≢◌, ◌≤◌, ℕ, false, length, None, IsErrOf};
+ghost use Rattle.std.specs.Prelude.{◌≡◌, ◌≢◌, ◌≤◌, ◌<◌, ℕ, false, length, None, IsErrOf};
 ghost use Rattle.nm_model.specs.declared.event.Op.TheVariants.{Insert};
 ghost use Rattle.nm_steps.specs.Rules.{ExtendsStores};
 ghost use Rattle.nm_steps.specs.Steps.{PassView, IsOf, Continues};
