@@ -9,7 +9,7 @@ mod putting;
 mod swapping;
 
 pub use laws::replaced_values_have_puts;
-pub use putting::{Condition, PutOutcome, put};
+pub use putting::{Attempt, Condition, PutOutcome, put};
 
 #[cfg(test)]
 mod tests;

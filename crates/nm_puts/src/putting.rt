@@ -51,9 +51,9 @@ pub enum PutOutcome {
     Other(u64),
 }
 
-/// The result of a try of a put.
-#[derive(Clone, Copy)]
-pub(crate) enum Attempt {
+/// The result of a try of a put, in the words of `Puts`.
+#[derive(Clone, Copy, Debug, PartialEq, Eq)]
+pub enum Attempt {
     /// The try has this result.
     Done(PutOutcome),
     /// Too few slots were claimed.
