@@ -162,7 +162,7 @@ LostPut L k old new = IsBroken L k old new ⊎ LostExchange L k old new
 
 lost_put : (fit : Fit) (L : Layout) (when : Condition) (k : ℕ) (old new : List Entry)
     → IsPutTry fit L when k old new attempt.Lost → LostPut L k old new
-lost_put fit L when k old new (inl (same, c, walks)) = inl (broken_of when L k old new c walks)
+lost_put fit L when k old new (inl (same, (c, walks))) = inl (broken_of when L k old new c walks)
 lost_put fit L when k old new (inr (r, c, ended, few, walks, at)) = inr (by at)
   where
     walk : WalkOf k old ended c r
