@@ -1,11 +1,11 @@
 -- A counter in a map: one raise of it, and the sum of all of them.
 use Rattle.std.proofs.Common.{◌≡◌, ◌≢◌, ◌⊎◌, inl, inr, ℕ, suc, ◌+◌, ◌==◌, Bool, true, false, not, ◌&&◌, List, [], ◌∷◌, refl, sym, ap, subst, ◌∙◌, arith, true≢false}
-use Rattle.std.specs.Prelude.{Option, Some, None, Ok, All, is_none, if◌then◌else◌}
+use Rattle.std.specs.Prelude.{Option, Some, None, Ok, is_none, if◌then◌else◌}
 use Rattle.std.proofs.lemmas.Bool.Decides.{eqb_tells}
 use Rattle.std.proofs.lemmas.Option.{same_Some}
 use Rattle.nm_model.specs.declared.event.Op.{Op}
 use Rattle.nm_model.specs.declared.event.Op.TheVariants.{Has, Insert, Delete}
-use Rattle.nm_calls.specs.MapHistories.{GivesEach, MapAct, PlainMap, found_by, is_plain, map_after, map_changed, map_left, map_then}
+use Rattle.nm_calls.specs.MapHistories.{MapAct, PlainMap, found_by, is_plain, map_after, map_changed, map_left, map_then}
 use Rattle.nm_puts.specs.Replaced.{HasReplaced}
 use Rattle.nm_puts.specs.declared.putting.Condition.TheVariants as condition
 use Rattle.nm_puts.specs.declared.putting.PutOutcome.TheVariants as put

@@ -1,6 +1,6 @@
 -- An insert that found no slot has passed over each of them, right before its unpin.
 use Rattle.std.proofs.Common.{◌≡◌, ◌⊎◌, inl, inr, ℕ, zero, suc, ◌+◌, ◌-◌, ◌<◌, ◌≤◌, false, List, [], ◌∷◌, ◌++◌, append-nil, append_assoc, refl, sym, ap, subst, ◌∙◌, arith}
-use Rattle.std.specs.Prelude.{Option, Some, None, Err, Contains}
+use Rattle.std.specs.Prelude.{Some, None, Err, Contains}
 use Rattle.std.proofs.lemmas.Bool.{cases_lt}
 use Rattle.std.proofs.lemmas.List.Elements.{Contains-append_left, Contains-append_right}
 use Rattle.nm_edge.specs.Layouts.{Layout}
@@ -15,10 +15,9 @@ use Rattle.nm_model.specs.declared.reply.Reply.{Reply}
 use Rattle.nm_model.specs.declared.reply.Reply.TheVariants.{BirthIs, Claimed, Departed, Returned, Taken}
 use Rattle.nm_model.specs.Step.{last_number}
 use Rattle.nm_model.specs.Walks.{Entry}
-use Rattle.nm_order.specs.Logs.{is_leaver, part_of}
+use Rattle.nm_order.specs.Logs.{is_leaver}
 use Rattle.nm_steps.specs.Steps.{HasSeen, HasSeenAllOf, IsSamePass, PassView}
 use Rattle.nm_pool.specs.Claims.{DoneAt, DoneInTurn, IsClaimBy, IsOneOfSlots, PassedOver, PassedWithin}
-use Rattle.nm_walks.specs.declared.making.NewNodes.{NewNodes}
 use Rattle.nm_walks.specs.Growing.{ClaimsNewNodes}
 use Rattle.nm_calls.specs.declared.fault.CallFault.TheVariants as fault
 use Rattle.nm_calls.specs.Inserts.{InsertDid}

@@ -15,7 +15,7 @@ use Rattle.nm_puts.specs.Puts.{IsPutTry, PutDid, TriesAt}
 use Rattle.nm_tree.specs.Answers.{FoundNoSlot}
 use Rattle.nm_tree.specs.Workers.{WorkerView}
 use Rattle.nm_tree.proofs.FullPools.{IsAny, Passes, found_none, no_node, no_nodes}
-use Rattle.nm_tree.proofs.Unfreed.{Unfreed, pin_unfreed, then'}
+use Rattle.nm_tree.proofs.Unfreed.{pin_unfreed, then'}
 use Rattle.nm_tree.proofs.UnfreedPuts.{puts_lost, walk_unfreed}
 
 pub put_found_no_slot : (L : Layout) (tries : ℕ) (when : Condition) (k : ℕ) (w z : WorkerView)

@@ -1,5 +1,5 @@
 -- What a put adds to a log: none of it frees a node.
-use Rattle.std.proofs.Common.{◌≡◌, inl, inr, ℕ, zero, suc, false, List, [], ◌∷◌, ◌++◌, refl}
+use Rattle.std.proofs.Common.{◌≡◌, inl, inr, ℕ, zero, suc, false, List, [], ◌∷◌, refl}
 use Rattle.std.specs.Prelude.{Some, None, Result, Ok, Err}
 use Rattle.std.specs.List.{list_any}
 use Rattle.nm_edge.specs.Layouts.{Layout}

@@ -1,4 +1,4 @@
-use Rattle.std.proofs.Common.{rules, inl, inr, ap, refl, subst, sym, ◌∙◌, arith}
+use Rattle.std.proofs.Common.{rules, inr, ap, subst, sym, ◌∙◌, arith}
 use Rattle.std.specs.Prelude.{Result, IsErrOf, slice_set}
 use Rattle.nm_steps.proofs.Seeing.{seen_all}
 use Rattle.nm_steps.specs.Steps.{PassView, TreeView}
@@ -19,9 +19,11 @@ use Rattle.nm_tree.proofs.UnfreedPuts.{put_unfreed}
 use Rattle.nm_tree.proofs.Untouched.{put_pending}
 use Rattle.nm_tree.proofs.tree.Tree.put.Goals as goal
 
-pub returns-in-Pending-clause-leaves : goal.returns-in-Pending-clause-leaves
-returns-in-Pending-clause-leaves c = put_pending c.args.self.now.layout c.args.tries c.args.key c.args.worker.now
-    (search rules) c.requires.call.free c.args.condition c.args.value
+pub returns-in-Pending : goal.returns-in-Pending
+returns-in-Pending c = record {
+  leaves = put_pending c.args.self.now.layout c.args.tries c.args.key c.args.worker.now (search rules)
+      c.requires.call.free c.args.condition c.args.value;
+}
 
 pub index_mut-own-requires : goal.index_mut-own-requires
 index_mut-own-requires c = omega (
@@ -60,8 +62,8 @@ did c =
     c.args.key c.worker.inside.pass.view.log c.put-done.new.pass.view.log c.put-done.result) c.deref_mut.ensures.value
     c.put-done.ensures.after.did
 
-pub returns-clause-leaves : goal.returns-clause-leaves
-returns-clause-leaves c =
+pub returns : goal.returns
+returns c =
     let L = c.self.inside.shared.layout in
     let tries = c.args.tries in
     let when = c.args.condition in
@@ -98,36 +100,38 @@ returns-clause-leaves c =
     (λ none'. lacks_after c.worker.inside.home _ _ c.worker.inside.queues.items done.new.held
     c.worker.invariant.own done.ensures.kept.own (done.ensures.refused none')) (did c) in
     record {
-      says = record {
-        same = search rules;
-        past = search (rules, seen_all);
-        stores = search rules;
-        told = rw (← c.worker.view_is) told;
-        map = rw (← c.worker.view_is) done.ensures.after.map;
-        moment = rw (← c.worker.view_is) done.ensures.after.moment;
-        won = search rules;
-        steps = search rules;
-        frees = rw (← c.worker.view_is) (freed_still w.pass.view.log z.pass.view.log
-            (put_unfreed fit L k tries when w.pass.view.log z.pass.view.log done.result (did c)));
-        queues = others_kept _ _ c.worker.inside.home done.new.pass done.new.held c.worker.view_is
-            c.worker.invariant.own done.ensures.kept.own done.ensures.after.same;
-        blocks = rw (← c.worker.view_is) (room_after c.worker.inside.home _ c.worker.inside.queues.items _
-            done.new.held c.worker.invariant.own c.index_mut-own.ensures.value done.ensures.blocks);
-        held = search rules;
-        fit = search rules;
+      leaves = record {
+        says = record {
+          same = search rules;
+          past = search (rules, seen_all);
+          stores = search rules;
+          told = rw (← c.worker.view_is) told;
+          map = rw (← c.worker.view_is) done.ensures.after.map;
+          moment = rw (← c.worker.view_is) done.ensures.after.moment;
+          won = search rules;
+          steps = search rules;
+          frees = rw (← c.worker.view_is) (freed_still w.pass.view.log z.pass.view.log
+              (put_unfreed fit L k tries when w.pass.view.log z.pass.view.log done.result (did c)));
+          queues = others_kept _ _ c.worker.inside.home done.new.pass done.new.held c.worker.view_is
+              c.worker.invariant.own done.ensures.kept.own done.ensures.after.same;
+          blocks = rw (← c.worker.view_is) (room_after c.worker.inside.home _ c.worker.inside.queues.items _
+              done.new.held c.worker.invariant.own c.index_mut-own.ensures.value done.ensures.blocks);
+          held = search rules;
+          fit = search rules;
+        };
+        did = rw (← c.worker.view_is, ← c.self.view_is) (inr (free, did c));
+        interfered = λ is. put_interfered c.self.inside.shared c.args.self.now c.worker.inside.pass
+            c.args.worker.now.pass done.new.pass k tries c.self.view_is
+            (ap (λ (x : WorkerView). x.pass) c.worker.view_is) c.know_run.ensures.seen c.know_run-2.ensures.seen
+            c.know_run.ensures.fits done.ensures.after.same done.ensures.after.past c.requires.call.own fit when
+            (lost is);
+        alone = λ runs. insert_fails tries c.args.worker.now z done.result (rw (← c.worker.view_is) told)
+            (λ is. put_alone c.self.inside.shared c.args.self.now c.worker.inside.pass c.args.worker.now.pass
+            done.new.pass k tries c.self.view_is (ap (λ (x : WorkerView). x.pass) c.worker.view_is)
+            c.know_run.ensures.seen c.know_run-2.ensures.seen c.know_run.ensures.fits done.ensures.after.same
+            done.ensures.after.past c.requires.call.own fit when runs
+            (rests_in c.worker.inside.pass s
+            (resting_in s (ap (λ (w : WorkerView). w.held) c.worker.view_is ∙ c.requires.call.free)
+            c.in_default.not-Pending) c.worker.invariant.between.stands) (lost is));
       };
-      did = rw (← c.worker.view_is, ← c.self.view_is) (inr (free, did c));
-      interfered = λ is. put_interfered c.self.inside.shared c.args.self.now c.worker.inside.pass
-          c.args.worker.now.pass done.new.pass k tries c.self.view_is
-          (ap (λ (x : WorkerView). x.pass) c.worker.view_is) c.know_run.ensures.seen c.know_run-2.ensures.seen
-          c.know_run.ensures.fits done.ensures.after.same done.ensures.after.past c.requires.call.own fit when
-          (lost is);
-      alone = λ runs. insert_fails tries c.args.worker.now z done.result (rw (← c.worker.view_is) told)
-          (λ is. put_alone c.self.inside.shared c.args.self.now c.worker.inside.pass c.args.worker.now.pass
-          done.new.pass k tries c.self.view_is (ap (λ (x : WorkerView). x.pass) c.worker.view_is)
-          c.know_run.ensures.seen c.know_run-2.ensures.seen c.know_run.ensures.fits done.ensures.after.same
-          done.ensures.after.past c.requires.call.own fit when runs
-          (rests_in c.worker.inside.pass s
-          (resting_in s (ap (λ (w : WorkerView). w.held) c.worker.view_is ∙ c.requires.call.free)
-          c.in_default.not-Pending) c.worker.invariant.between.stands) (lost is));
     }
