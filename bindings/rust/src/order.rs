@@ -94,6 +94,18 @@ pub(crate) fn scan<C: Scans>(
     Ok(Scanned { entries, next })
 }
 
+/// Inserts keys by a call for one; returns how many were absent.
+pub(crate) fn extend<K>(
+    keys: impl IntoIterator<Item = K>,
+    mut insert: impl FnMut(K) -> Result<bool, Fault>,
+) -> Result<usize, Fault> {
+    let mut added = 0;
+    for key in keys {
+        added += usize::from(insert(key)?);
+    }
+    Ok(added)
+}
+
 /// Removes each key for which `stays` returns false.
 pub(crate) fn retain(calls: impl Calls, mut stays: impl FnMut(u64) -> bool) -> Result<(), Fault> {
     remove_each(calls, (0, MOST_KEY), |key| !stays(key)).map(|_| ())
