@@ -619,8 +619,9 @@ public:
     }
 
     // Inserts these pairs of a key and a value, one by one; returns how many keys were absent. The
-    // pairs may be entries of another map, whose objects it copies. It makes an object of a value, or takes it if it is a `unique_ptr` and the iterator moves
-    // (`std::make_move_iterator`). If it throws a fault, the pairs before that one are inserted.
+    // pairs may be entries of another map, whose objects it copies. It makes an object of a value, or
+    // takes it if it is a `unique_ptr` and the iterator moves (`std::make_move_iterator`). If it
+    // throws a fault, the pairs before that one are inserted.
     template <typename Input, typename = typename std::iterator_traits<Input>::iterator_category>
     std::uint64_t insert(Input first, Input last) {
         return insert_each(first, last, [](const auto &key) { return Key(key); });

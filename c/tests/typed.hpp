@@ -80,8 +80,13 @@ void answers_like(std::initializer_list<T> values) {
             std::vector<T> want, got;
             for (const T &value : peer)
                 if (!(value < from) && value < below) want.push_back(value);
-            for (T value : set.range(from, below)) got.push_back(value);
+            auto range = set.range(from, below);
+            for (T value : range) got.push_back(value);
             CHECK(got == want && set.count(from, below) == want.size());
+            CHECK(range.count() == want.size() && range.empty() == want.empty());
+            got.clear();
+            for (T value : range.reversed()) got.insert(got.begin(), value);
+            CHECK(got == want && (want.empty() || range.last() == want.back()));
         }
     for (const T &value : values) {
         auto wanted = peer.upper_bound(value);

@@ -71,10 +71,24 @@ class Views(MutableMapping, Generic[K, V]):  # type: ignore[type-arg]
 
     # ---- what a map has, for these calls and for a `SubMap` ----
 
-    _raw: Any
-    """The map of the keys, which are integers."""
-    insert: Callable[[K, V], bool]
-    items_range: Callable[..., Iterator[tuple[K, V]]]
+    @property
+    def _raw(self) -> Any:
+        """The map of the keys, which are integers."""
+        raise NotImplementedError
+
+    def insert(self, key: K, value: V) -> bool:
+        """Inserts a key with an object; returns True if the key was absent."""
+        raise NotImplementedError
+
+    def items_range(
+        self,
+        minimum: Any = None,
+        maximum: Any = None,
+        inclusive: tuple[bool, bool] = (True, True),
+        reverse: bool = False,
+    ) -> Iterator[tuple[K, V]]:
+        """Returns an iterator over the keys of a range with their objects."""
+        raise NotImplementedError
 
     def _ends(self, minimum: Any, maximum: Any, inclusive: tuple[bool, bool]) -> tuple[int, int]:
         """Returns the least number of a range of keys, and the number below which they are."""
@@ -163,7 +177,11 @@ class SubMap(Views[K, V]):
     no two calls need to see the same keys."""
 
     def __init__(self, of: Views[K, V], first: int, below: int) -> None:
-        self._of, self._raw, self._first, self._below = of, of._raw, first, below
+        self._of, self._first, self._below = of, first, below
+
+    @property
+    def _raw(self) -> Any:
+        return self._of._raw
 
     def _ends(self, minimum: Any, maximum: Any, inclusive: tuple[bool, bool]) -> tuple[int, int]:
         first, below = self._of._ends(minimum, maximum, inclusive)
