@@ -614,6 +614,10 @@ public:
         using Base = decltype(std::declval<const Of &>().range(0u));
 
     public:
+        using value_type = OrderedOf::value_type;  // a key, or a key with its value
+        using iterator = OrderedOf::iterator;  // over the keys, ascending
+        using reverse_iterator = OrderedOf::reverse_iterator;  // descending
+
         // Makes it of a range of keys.
         explicit RangeOf(Base base) : base_(std::move(base)) {}
         // Returns an iterator at the least key of the range.
@@ -624,6 +628,25 @@ public:
         [[nodiscard]] reverse_iterator rbegin() const { return reverse_iterator(base_.rbegin()); }
         // Returns the end of the iterators of `rbegin`.
         [[nodiscard]] reverse_iterator rend() const noexcept { return reverse_iterator(); }
+        // Returns the same entries in descending order.
+        [[nodiscard]] Reversed<RangeOf> reversed() const { return Reversed<RangeOf>(*this); }
+        // Returns the entry of the least key of the range, or nothing.
+        [[nodiscard]] std::optional<value_type> first() const { return typed(base_.first()); }
+        // Returns the entry of the greatest key of the range, or nothing.
+        [[nodiscard]] std::optional<value_type> last() const { return typed(base_.last()); }
+        // Returns whether the range has no key.
+        [[nodiscard]] bool empty() const { return base_.empty(); }
+        // Returns whether the range has a key; it never has a value that is no key.
+        [[nodiscard]] bool contains(const T &key) const {
+            std::uint64_t number = detail::key_or_none(key);
+            return number <= most_key && base_.contains(number);
+        }
+        // Returns how many keys the range has: it goes over them.
+        [[nodiscard]] std::uint64_t count() const { return base_.count(); }
+        // Returns the part of this range whose keys are not below `from` and are below `below`.
+        [[nodiscard]] RangeOf range(const T &from, const T &below) const {
+            return RangeOf(base_.range(detail::bound_of(from), detail::bound_of(below)));
+        }
 
     private:
         Base base_;
@@ -1029,6 +1052,19 @@ public:
     // Makes it of a guarded worker of keys.
     explicit GuardedWorkerOf(GuardedWorker<V> worker)
         : EntriesOf<GuardedWorker<V>, K>(std::move(worker)) {}
+
+    // Removes each key for whose entry `test` returns true; returns how many: see
+    // nm::GuardedWorker::erase_if.
+    template <typename Test>
+    std::uint64_t erase_if(Test test) {
+        return this->of_.erase_if(
+            [&](const auto &entry) { return test(GuardedWorkerOf::typed(entry)); });
+    }
+    // Returns whether the entries of the map are these pairs, with equal objects.
+    template <typename Pairs>
+    [[nodiscard]] bool equals(const Pairs &pairs) const {
+        return detail::are_equal<V>(*this, pairs);
+    }
 };
 
 // One worker of a map, for one thread at a time: see nm::MapWorker.
@@ -1090,6 +1126,13 @@ public:
     }
     // Removes all keys. A key that is inserted meanwhile may remain.
     void clear() { of_.clear(); }
+    // Moves each key that this map lacks out of another one: see nm::MapWorker::merge.
+    std::uint64_t merge(MapWorkerOf &from) { return of_.merge(from.of_); }
+    // Returns whether the entries of the map are these pairs: see nm::MapWorker::equals.
+    template <typename Pairs>
+    [[nodiscard]] bool equals(const Pairs &pairs) const {
+        return detail::are_equal<V>(*this, pairs);
+    }
 
     // Returns whether the map has a key; it never has a value that is no key.
     [[nodiscard]] bool contains(const K &key) const {

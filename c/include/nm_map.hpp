@@ -66,6 +66,16 @@ template <typename Value, typename K = std::uint64_t>
 struct MapEntry {
     K key;  // the key
     Value value;  // its value, or a pointer to its object
+
+    // Makes a pair of it: so `std::map<std::uint64_t, int>(worker.begin(), worker.end())` is a copy of
+    // a map with values in place.
+    template <typename First, typename Second,
+              std::enable_if_t<std::is_convertible_v<const K &, First> &&
+                                   std::is_convertible_v<const Value &, Second>,
+                               int> = 0>
+    operator std::pair<First, Second>() const {
+        return {key, value};
+    }
 };
 
 namespace detail {
@@ -129,6 +139,53 @@ using EntryOfWorker =
 template <typename T>
 Found<T> found(bool is_found, std::uint64_t word) noexcept {
     return is_found ? Found<T>(returned<T>(word)) : Found<T>();
+}
+
+// Returns the value of an entry of a map of T: of a value in place the copy, and else the object.
+template <typename T, typename K>
+const T &value_in(const MapEntry<Returned<T>, K> &entry) noexcept {
+    if constexpr (is_in_place<T>)
+        return entry.value;
+    else
+        return *entry.value;
+}
+
+// Whether a type is that of an entry of a map.
+template <typename Pair>
+inline constexpr bool is_entry = false;
+template <typename Value, typename K>
+inline constexpr bool is_entry<MapEntry<Value, K>> = true;
+
+// Returns the key of a pair, or of an entry of another map.
+template <typename Pair>
+decltype(auto) key_part(const Pair &pair) noexcept {
+    if constexpr (is_entry<Pair>)
+        return (pair.key);
+    else
+        return std::get<0>(pair);
+}
+
+// Returns the value of a pair, or of an entry of another map of T.
+template <typename T, typename Pair>
+decltype(auto) value_part(Pair &&pair) noexcept {
+    if constexpr (is_entry<std::decay_t<Pair>>)
+        return value_in<T>(pair);
+    else
+        return std::get<1>(std::forward<Pair>(pair));
+}
+
+// Returns whether the entries of a map of T are these pairs, which ascend.
+template <typename T, typename Entries, typename Pairs>
+bool are_equal(const Entries &entries, const Pairs &pairs) {
+    auto at = entries.begin();
+    for (const auto &pair : pairs) {
+        if (at == entries.end()) return false;
+        auto entry = *at;
+        if (!(entry.key == key_part(pair)) || !(value_in<T>(entry) == value_part<T>(pair)))
+            return false;
+        ++at;
+    }
+    return at == entries.end();
 }
 
 // Frees an object. A value in place needs nothing.
@@ -561,9 +618,10 @@ public:
         return emplace(key, args...);
     }
 
-    // Inserts these pairs of a key and a value, one by one; returns how many keys were absent. It
-    // makes an object of a value, or takes it if it is a `unique_ptr` and the iterator moves
-    // (`std::make_move_iterator`). If it throws a fault, the pairs before that one are inserted.
+    // Inserts these pairs of a key and a value, one by one; returns how many keys were absent. The
+    // pairs may be entries of another map, whose objects it copies. It makes an object of a value, or
+    // takes it if it is a `unique_ptr` and the iterator moves (`std::make_move_iterator`). If it
+    // throws a fault, the pairs before that one are inserted.
     template <typename Input, typename = typename std::iterator_traits<Input>::iterator_category>
     std::uint64_t insert(Input first, Input last) {
         return insert_each(first, last, [](const auto &key) { return Key(key); });
@@ -610,6 +668,25 @@ public:
 
     // Removes all keys. A key that is inserted meanwhile may remain.
     void clear() { erase(0u, UINT64_MAX); }
+
+    // Moves each key that this map lacks out of another one, with its value in place; returns how many,
+    // like std::map::merge. A key that both maps have remains in both. A move is no single step: the
+    // key is inserted here, and then removed there. So for a moment both maps have it, and if another
+    // thread gives it another value there meanwhile, that value is removed.
+    std::uint64_t merge(MapWorker &from) {
+        static_assert(detail::is_in_place<T>, "an object stays in its map: insert copies objects");
+        return detail::erase_each(from, from,
+                                  [this](const auto &entry) { return this->insert(entry.key, entry.value); });
+    }
+
+    // Returns whether the entries of the map are these pairs, such as those of a std::map: they
+    // ascend. It takes no snapshot: each entry is compared as it was at a moment of the call.
+    template <typename Pairs>
+    [[nodiscard]] bool equals(const Pairs &pairs) const {
+        static_assert(detail::is_in_place<T>, "objects are compared under a guard of another worker: "
+                                              "other.under(guard).equals(pairs)");
+        return detail::are_equal<T>(*this, pairs);
+    }
 
     // Returns whether the map has a key.
     [[nodiscard]] bool contains(Key key) const {
@@ -821,8 +898,8 @@ private:
         std::uint64_t inserted = 0;
         for (; first != last; ++first) {
             auto &&pair = *first;
-            inserted += insert_value(key_of(std::get<0>(pair)),
-                                     std::get<1>(std::forward<decltype(pair)>(pair)));
+            inserted += insert_value(key_of(detail::key_part(pair)),
+                                     detail::value_part<T>(std::forward<decltype(pair)>(pair)));
         }
         return inserted;
     }
@@ -903,6 +980,20 @@ public:
         std::uint64_t word = 0;
         bool is_taken = worker_of_calls().takes(key, word);
         return detail::found<T>(is_taken, word);
+    }
+
+    // Removes each key for whose entry `test` returns true, one by one, like std::erase_if; returns
+    // how many. If another thread gives a key another object after the test, that one is removed.
+    template <typename Test>
+    std::uint64_t erase_if(Test test) {
+        return detail::erase_each(worker_of_calls(), *this, test);
+    }
+
+    // Returns whether the entries of the map are these pairs, with equal objects: see
+    // MapWorker::equals.
+    template <typename Pairs>
+    [[nodiscard]] bool equals(const Pairs &pairs) const {
+        return detail::are_equal<T>(*this, pairs);
     }
 
 private:

@@ -416,10 +416,29 @@ private:
     std::size_t at_ = 0;
 };
 
-// A range of keys: those that are not below `from` and are below `below`.
+// A range in descending order, for a range-based `for`.
+template <typename Of>
+class Reversed {
+public:
+    using iterator = typename Of::reverse_iterator;  // over the keys, descending
+
+    // Makes it of a range.
+    explicit Reversed(Of range) : range_(std::move(range)) {}
+    // Returns an iterator at the greatest key of the range.
+    [[nodiscard]] iterator begin() const { return range_.rbegin(); }
+    // Returns the end of the iterators of `begin`.
+    [[nodiscard]] iterator end() const noexcept { return range_.rend(); }
+
+private:
+    Of range_;
+};
+
+// A range of keys: those that are not below `from` and are below `below`. It is a view that keeps its
+// bounds: each call looks into the set as it is then. It must end before its set or its worker.
 template <typename Of, typename Entry = std::uint64_t>
 class Range {
 public:
+    using value_type = Entry;  // a key, or a key with its value
     using iterator = Iterator<Of, Order::ascending, Entry>;  // over the keys, ascending
     using reverse_iterator = Iterator<Of, Order::descending, Entry>;  // descending
 
@@ -431,6 +450,28 @@ public:
     [[nodiscard]] reverse_iterator rbegin() const { return of_->descending(from_, below_); }
     // Returns the end of the iterators of `rbegin`.
     [[nodiscard]] reverse_iterator rend() const noexcept { return {}; }
+    // Returns the same keys in descending order: `for (auto key : range.reversed())`.
+    [[nodiscard]] Reversed<Range> reversed() const { return Reversed<Range>(*this); }
+
+    // Returns the least key of the range, or nothing if it has none.
+    [[nodiscard]] std::optional<Entry> first() const { return of_->least(from_, below_); }
+    // Returns the greatest key of the range, or nothing if it has none.
+    [[nodiscard]] std::optional<Entry> last() const { return of_->greatest(from_, below_); }
+    // Returns whether the range has no key.
+    [[nodiscard]] bool empty() const { return !first(); }
+    // Returns whether the range has a key.
+    [[nodiscard]] bool contains(Key key) const {
+        return key >= from_ && key < below_ && of_->least(key, key + 1).has_value();
+    }
+    // Returns how many keys the range has: it goes over them.
+    [[nodiscard]] std::uint64_t count() const { return of_->count(from_, below_); }
+    // Returns the part of this range whose keys are not below `from` and are below `below`.
+    [[nodiscard]] Range range(Key from, Key below = UINT64_MAX) const {
+        Range part(*this);
+        part.from_ = std::max<std::uint64_t>(from_, from);
+        part.below_ = std::min<std::uint64_t>(below_, below);
+        return part;
+    }
 
 private:
     friend class InOrder<Of, Entry>;
@@ -572,13 +613,22 @@ private:
         return block<order>(room, before.next, bound);
     }
 
+    // Returns the least entry of a range, or nothing.
+    std::optional<Entry> least(std::uint64_t from, std::uint64_t below) const {
+        return self().next(from, below);
+    }
+
+    // Returns the greatest entry of a range, or nothing.
+    std::optional<Entry> greatest(std::uint64_t from, std::uint64_t below) const {
+        return below == 0 ? std::nullopt : self().prev(below - 1, from);
+    }
+
     iterator ascending(std::uint64_t from, std::uint64_t below) const {
-        return iterator(self(), self().next(from, below), below);
+        return iterator(self(), least(from, below), below);
     }
 
     reverse_iterator descending(std::uint64_t from, std::uint64_t below) const {
-        auto greatest = below == 0 ? std::nullopt : self().prev(below - 1, from);
-        return reverse_iterator(self(), greatest, from);
+        return reverse_iterator(self(), greatest(from, below), from);
     }
 };
 

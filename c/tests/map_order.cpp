@@ -15,6 +15,7 @@
 
 #ifdef __cpp_lib_ranges
 #include <ranges>
+static_assert(std::ranges::input_range<nm::Reversed<nm::Range<nm::Set>>>);
 static_assert(std::ranges::input_range<nm::MapWorker<int>>, "a worker is a range");
 static_assert(std::ranges::input_range<nm::Range<nm::MapWorker<int>, nm::MapEntry<int>>>);
 static_assert(std::ranges::input_range<nm::GuardedWorker<std::string>>);
@@ -42,6 +43,24 @@ bool is(const std::optional<nm::MapEntry<std::uint32_t>> &found, const Plain &pl
 Plain::const_iterator at_most(const Plain &plain, std::uint64_t key) {
     auto above = plain.upper_bound(key);
     return above == plain.begin() ? plain.end() : std::prev(above);
+}
+
+// A range is a view: it has the first and the last key, and it is read in both directions.
+void is_view_of(const nm::Range<Numbers::Worker, nm::MapEntry<std::uint32_t>> &range,
+                const Plain &some) {
+    CHECK(range.empty() == some.empty() && range.count() == some.size());
+    CHECK(is(range.first(), some, some.begin()) && is(range.last(), some, at_most(some, UINT64_MAX)));
+    auto wanted = some.rbegin();
+    for (auto [key, value] : range.reversed()) {
+        CHECK(wanted != some.rend() && key == wanted->first && value == wanted->second);
+        ++wanted;
+    }
+    CHECK(wanted == some.rend());
+    if (some.empty()) return;
+    std::uint64_t least = some.begin()->first, most = some.rbegin()->first;
+    CHECK(range.contains(least) && range.contains(most) && !range.contains(most + 1));
+    CHECK(range.range(least, most).count() == some.size() - 1 && range.range(most + 1).empty());
+    CHECK(range.range(0u, least).empty() && (least == 0 || !range.contains(least - 1)));
 }
 
 // Compares all calls that read with those of a std::map, from a key to another one.
@@ -76,6 +95,9 @@ void reads_like(Numbers &map, Numbers::Worker &worker, const Plain &plain, std::
     }
     Plain some(wanted, from < below ? plain.lower_bound(below) : wanted);
     CHECK(read == some && back == some && worker.count(from, below) == some.size());
+    is_view_of(range, some);
+    is_view_of(worker.range(from / 2).range(from, below), some);
+    CHECK(Plain(range.begin(), range.end()) == some && worker.equals(plain));
     CHECK(worker.keys(from, below).size() == some.size());
 }
 
@@ -473,9 +495,54 @@ void waiting_nodes_are_counted() {
     CHECK(values == 10 && map.waiting() == 0 && map.free() == 1024 - 5 - 20);
 }
 
+// A view shows each later change of its map, and a key outside of it is none of its keys.
+void a_view_shows_each_change() {
+    Numbers map(64, {{5u, 50}, {9u, 90}});
+    auto worker = map.attach();
+    auto view = worker.range(6u, 20u);
+    CHECK(view.first()->key == 9 && !view.contains(5u) && view.count() == 1);
+    CHECK(worker.insert(7u, 70) && worker.insert(20u, 0) && view.first()->value == 70);
+    CHECK(view.last()->key == 9 && !view.contains(20u) && worker.erase(9u) == 1);
+    CHECK(view.last()->key == 7 && worker.range(9u, 7u).empty() && !worker.range(0u, 0u).last());
+}
+
+void maps_are_merged_and_compared() {
+    Numbers map(256, {{5u, 50}, {9u, 90}}), other(256, {{7u, 70}, {9u, 91}});
+    auto worker = map.attach(), from = other.attach();
+    CHECK(worker.merge(from) == 1 && worker.merge(worker) == 0);
+    CHECK(worker.equals(Plain{{5, 50}, {7, 70}, {9, 90}}) && from.equals(Plain{{9, 91}}));
+    CHECK(!worker.equals(Plain{{5, 50}, {7, 70}}) && !worker.equals(Plain{{5, 50}, {7, 71}, {9, 90}}));
+    CHECK(!worker.equals(Plain{{5, 50}, {7, 70}, {9, 90}, {10, 0}}) && !from.equals(Plain{}));
+    // A map is made of the entries of another one.
+    Numbers copy(256, worker.begin(), worker.end());
+    CHECK(copy.attach().equals(worker.scan(0u, SIZE_MAX).entries));
+    CHECK(from.insert(worker.begin(), worker.end()) == 2 && from.get(9u) == 91u);
+}
+
+// Objects are copied, compared and removed by their values, under a guard.
+void objects_are_copied_and_compared() {
+    using Texts = nm::Map<std::string>;
+    Texts map(256, {{5u, "five"}, {7u, "seven"}, {9u, "nine"}});
+    auto reader = map.attach(), worker = map.attach();
+    auto guard = reader.pin();
+    auto calls = worker.under(guard);
+    std::map<std::uint64_t, std::string> plain{{5, "five"}, {7, "seven"}, {9, "nine"}};
+    CHECK(calls.equals(plain) && calls.range(6u).last()->key == 9);
+    Texts copy(256, calls.begin(), calls.end());
+    auto copy_reader = copy.attach(), copied = copy.attach();
+    auto copy_guard = copy_reader.pin();
+    CHECK(copied.under(copy_guard).equals(plain) && *copy_guard.get(7u) == "seven");
+    CHECK(copy_guard.get(7u) != guard.get(7u));
+    CHECK(calls.erase_if([](const auto &entry) { return entry.value->size() == 4; }) == 2);
+    CHECK(calls.count() == 1 && !calls.equals(plain) && *calls.first()->value == "seven");
+}
+
 }  // namespace
 
 int main() {
+    a_view_shows_each_change();
+    maps_are_merged_and_compared();
+    objects_are_copied_and_compared();
     a_map_answers_like_a_map();
     the_ends_of_the_keys_are_read();
     values_need_no_default();

@@ -60,6 +60,12 @@ void ranges_end() {
             CHECK(listed(set.range(from, below)) == part);
             CHECK(listed_back(set.range(from, below)) == back);
             CHECK(set.count(from, below) == part.size());
+            auto range = set.range(from, below);
+            CHECK(listed(range.reversed()) == back && range.count() == part.size());
+            CHECK(range.empty() == part.empty() && range.first().has_value() == !part.empty());
+            CHECK(part.empty() || (range.first() == part.front() && range.last() == part.back()));
+            CHECK(range.contains(from) == (!part.empty() && part.front() == from));
+            CHECK(!range.contains(below) && listed(set.range(0u, below).range(from)) == part);
         }
 }
 

@@ -49,6 +49,10 @@ void map_reads_like(nm::MapWorkerOf<T, std::uint32_t> &worker,
     CHECK(worker.scan(least, 1).next == all[1] && worker.count() == all.size());
     CHECK(worker.rbegin()->key == most && worker.last()->key == most);
     CHECK(worker.range(least, most).rbegin()->key == all[all.size() - 2]);
+    auto view = worker.range(least).range(all[1], most);
+    CHECK(view.first()->key == all[1] && view.last()->key == all[all.size() - 2] && !view.empty());
+    CHECK(view.count() == all.size() - 2 && view.contains(all[1]) && !view.contains(most));
+    CHECK((*view.reversed().begin()).key == view.last()->key && worker.equals(plain));
     CHECK(worker.first()->value == plain.begin()->second && !worker.empty());
     CHECK(worker.get_many({most, least})[1] == plain.begin()->second);
     CHECK(worker.upper_bound(most) == worker.end() && worker.upper_bound(least)->key == all[1]);
@@ -75,8 +79,10 @@ void map_removes_like(nm::MapOf<T, std::uint32_t> &map, nm::MapWorkerOf<T, std::
     CHECK(worker.pop_last().has_value() && map.size() == plain.size() - 4);
     CHECK(worker.waiting() == map.waiting() && map.free() < map.nodes());
     (void)worker.reclaim();
+    nm::MapOf<T, std::uint32_t> other(4096, plain.begin(), plain.end());
     worker.clear();
-    CHECK(worker.insert(plain.begin(), plain.end()) == plain.size());
+    auto from = other.attach();
+    CHECK(worker.merge(from) == plain.size() && from.empty() && worker.equals(plain));
     CHECK(worker.erase(least, most) == plain.size() - 1 && worker.erase(most, least) == 0);
     CHECK(worker.erase_if([&](const auto &entry) { return entry.key < most; }) == 0);
     CHECK(worker.erase_if([&](const auto &entry) { return entry.value < plain.size() * 7; }) == 1);
@@ -108,6 +114,10 @@ void objects_answer_like(const std::map<T, std::uint32_t> &plain) {
     CHECK(*calls.take(most) == std::to_string(plain.rbegin()->second) && !calls.get(most));
     CHECK(*calls.pop_first()->value == std::to_string(plain.begin()->second));
     CHECK(map.size() == plain.size() - 2 && map.raw().size() == worker.raw().count());
+    std::map<T, std::string> rest;
+    for (auto [key, text] : calls) rest.emplace(key, *text);
+    CHECK(calls.equals(rest) && calls.erase_if([](const auto &entry) { return !entry.value; }) == 0);
+    CHECK(calls.erase_if([](const auto &) { return true; }) == plain.size() - 2 && map.size() == 0);
 }
 
 template <typename T>

@@ -32,9 +32,10 @@ COMPARED = {
     ],
     "rust": [
         (30, [("set.rs", "Set")], [("typed.rs", "SetOf")]),
+        (40, [("worker.rs", "Worker")], [("typed_worker.rs", "WorkerOf")]),
         (9, [("map.rs", "Map")], [("typed_map.rs", "MapOf")]),
         (25, [("map.rs", "MapWorker"), ("map_order.rs", "MapWorker")], [("typed_map.rs", "MapWorkerOf")]),
-        (12, [("map_order.rs", "GuardedWorker")], [("typed_map.rs", "GuardedWorkerOf")]),
+        (15, [("map_order.rs", "GuardedWorker")], [("typed_map.rs", "GuardedWorkerOf")]),
         (3, [("map.rs", "Guard")], [("typed_map.rs", "GuardOf")]),
     ],
 }

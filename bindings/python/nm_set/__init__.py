@@ -34,6 +34,7 @@ from ._map import Map
 from ._report import Report, Waiting
 from ._set import Options, Set, SetStats, Stamp, Stats, Worker
 from ._typed import Mapping, MapOf, SetOf, WorkerOf, floats, pairs, short_bytes, signed, unsigned
+from ._views import SubMap
 
 __all__ = [
     "MOST_KEY",
@@ -58,6 +59,7 @@ __all__ = [
     "SetStats",
     "Stamp",
     "Stats",
+    "SubMap",
     "Unfinished",
     "Waiting",
     "Worker",

@@ -29,20 +29,21 @@ import threading
 import time
 import weakref
 from collections import deque
-from collections.abc import Callable, ItemsView, Iterable, Iterator, MutableMapping, ValuesView
+from collections.abc import Callable, Iterable, Iterator
 from collections.abc import Mapping as AbstractMapping
 from contextlib import suppress
 from ctypes import c_size_t, c_uint32, c_uint64, create_string_buffer
 from functools import partial
 from types import TracebackType
-from typing import Any, Generic, Optional, SupportsIndex, TypeVar, Union, overload
+from typing import Any, Optional, SupportsIndex, TypeVar, Union, overload
 
 from . import _library as c
-from ._faults import MOST_KEY, MOST_NODES, MOST_WORKERS, SHOWN, Contention, Fault, Forked, fault
+from ._faults import MOST_KEY, MOST_NODES, MOST_WORKERS, Contention, Fault, Forked, fault
 from ._faults import key_fault
 from ._keys import NO_BOUND, bound_of, each_scanned, ends_of, number_of, scanned, words_of
 from ._leases import Owner, drop_with
 from ._set import Options, narrow
+from ._views import MISSING, Views, text_of
 
 V = TypeVar("V")
 T = TypeVar("T")
@@ -50,7 +51,6 @@ T = TypeVar("T")
 _ROOM = 64  # how many values one call reclaims, and how many keys it looks up
 _NODES = 65_536  # the nodes of a map for which no number is given, or four for each of its keys
 _LONGEST = 10.0  # seconds: how long a close waits for calls in progress
-MISSING: Any = object()
 
 
 class _Worker:
@@ -95,7 +95,7 @@ def _forget_all() -> None:
 os.register_at_fork(after_in_child=_forget_all)
 
 
-class Map(MutableMapping, Generic[V]):  # type: ignore[type-arg]
+class Map(Views[int, V]):
     """A concurrent ordered map from the integers 0 to 2^64 - 4 to objects.
 
     Any thread may call it. Each call uses one of the map's workers that is in no other call. If
@@ -161,6 +161,26 @@ class Map(MutableMapping, Generic[V]):  # type: ignore[type-arg]
         _maps[id(self)] = self
         for key, value in pairs:
             self[key] = value
+
+    @classmethod
+    def fromkeys(cls, keys: Iterable[SupportsIndex], value: Any = None) -> Map[Any]:
+        """Returns a map of these keys, each with this object, like `dict.fromkeys`."""
+        return cls((key, value) for key in keys)
+
+    # ---- for its views ----
+
+    @property
+    def _raw(self) -> Map[V]:
+        return self
+
+    def _ends(self, minimum: Any, maximum: Any, inclusive: tuple[bool, bool]) -> tuple[int, int]:
+        return ends_of(minimum, maximum, inclusive)
+
+    def _number(self, key: object) -> Optional[int]:
+        return number_of(key)
+
+    def _from_number(self, number: int) -> int:
+        return number
 
     # ---- a worker for a call ----
 
@@ -678,14 +698,6 @@ class Map(MutableMapping, Generic[V]):  # type: ignore[type-arg]
         """Returns an iterator over the keys, descending."""
         return self.irange(reverse=True)
 
-    def items(self) -> ItemsView[int, V]:
-        """Returns a view of the keys with their objects: see `items_range`."""
-        return Items(self)
-
-    def values(self) -> ValuesView[V]:
-        """Returns a view of the objects, in the order of their keys."""
-        return Values(self)
-
     # ---- of itself ----
 
     def __len__(self) -> int:
@@ -795,42 +807,6 @@ class Map(MutableMapping, Generic[V]):  # type: ignore[type-arg]
         """Closes the map. In a forked child this does nothing."""
         with suppress(Forked):
             self.close()
-
-
-def text_of(entries: MutableMapping[Any, Any], is_open: bool) -> str:
-    """Returns what `repr` of a map returns."""
-    name = type(entries).__name__
-    if not is_open:
-        return f"{name}(closed)"
-    first = list(itertools.islice(entries.items(), SHOWN + 1))
-    text = ", ".join(f"{key!r}: {value!r}" for key, value in first[:SHOWN])
-    if len(first) <= SHOWN:
-        return f"{name}({{{text}}})"
-    return f"{name}({{{text}, ...}}, {len(entries)} keys)"
-
-
-class Items(ItemsView):  # type: ignore[type-arg]
-    """The keys of a map with their objects."""
-
-    _mapping: Map[Any]
-
-    def __iter__(self) -> Iterator[tuple[int, Any]]:
-        return self._mapping.items_range()
-
-    def __reversed__(self) -> Iterator[tuple[int, Any]]:
-        return self._mapping.items_range(reverse=True)
-
-
-class Values(ValuesView):  # type: ignore[type-arg]
-    """The objects of a map, in the order of their keys."""
-
-    _mapping: Map[Any]
-
-    def __iter__(self) -> Iterator[Any]:
-        return (value for _, value in self._mapping.items_range())
-
-    def __reversed__(self) -> Iterator[Any]:
-        return (value for _, value in self._mapping.items_range(reverse=True))
 
 
 def _checked(key: SupportsIndex) -> int:

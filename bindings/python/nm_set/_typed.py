@@ -9,9 +9,8 @@ from __future__ import annotations
 import math
 import operator
 import struct
-from collections.abc import Callable, ItemsView, Iterable, Iterator, MutableMapping, MutableSet
+from collections.abc import Callable, Iterable, Iterator, MutableSet
 from collections.abc import Mapping as AbstractMapping
-from collections.abc import ValuesView
 from contextlib import suppress
 from dataclasses import dataclass
 from itertools import islice
@@ -19,9 +18,11 @@ from types import TracebackType
 from typing import Any, Generic, Optional, SupportsIndex, TypeVar, Union
 
 from ._faults import MOST_KEY, SHOWN, OutOfRange, shortened, shown, shown_value, value_fault
-from ._map import MISSING, Items, Map, Values, text_of
+from ._keys import ends_of
+from ._map import Map
 from ._report import Report
 from ._set import Set, SetStats, Stamp, Stats, Worker
+from ._views import MISSING, Views, text_of
 
 T = TypeVar("T")
 V = TypeVar("V")
@@ -561,7 +562,7 @@ class SetOf(_Numbers, _Values[T]):
         return [self._mapping.from_key(key) for key in self._set.close().keys]
 
 
-class MapOf(_Numbers, _Ordered[T], MutableMapping, Generic[T, V]):  # type: ignore[type-arg]
+class MapOf(_Numbers, _Ordered[T], Views[T, V]):
     """A `Map` whose keys are values of a type, by a `Mapping`, as of a `SetOf`. Each call makes the
     call of the same name of `Map`. `raw` is the map of the keys."""
 
@@ -585,10 +586,30 @@ class MapOf(_Numbers, _Ordered[T], MutableMapping, Generic[T, V]):  # type: igno
             self._of = Map(entries, **options)
         self._of._shown = lambda number: repr(self._mapping.from_key(number))
 
+    @classmethod
+    def fromkeys(cls, key: Mapping[T], keys: Iterable[T], value: Any = None) -> MapOf[T, Any]:
+        """Returns a map of these keys, each with this object; `key` maps them."""
+        return cls(key, ((each, value) for each in keys))
+
     @property
     def raw(self) -> Map[V]:
         """The map of the keys."""
         return self._of
+
+    # ---- for its views ----
+
+    @property
+    def _raw(self) -> Map[V]:
+        return self._of
+
+    def _ends(self, minimum: Any, maximum: Any, inclusive: tuple[bool, bool]) -> tuple[int, int]:
+        return ends_of(self._end(minimum), self._end(maximum), inclusive)
+
+    def _number(self, key: object) -> Optional[int]:
+        return self._key_or_none(key)
+
+    def _from_number(self, number: int) -> T:
+        return self._mapping.from_key(number)
 
     def _entry(self, found: Any) -> tuple[T, V]:
         return self._mapping.from_key(found[0]), found[1]
@@ -675,14 +696,6 @@ class MapOf(_Numbers, _Ordered[T], MutableMapping, Generic[T, V]):  # type: igno
         `Map.items_range`."""
         least, most = self._end(minimum), self._end(maximum)
         return map(self._entry, self._of.items_range(least, most, inclusive, reverse))
-
-    def items(self) -> ItemsView[T, V]:
-        """Returns a view of the keys with their objects: see `items_range`."""
-        return Items(self)
-
-    def values(self) -> ValuesView[V]:
-        """Returns a view of the objects, in the order of their keys."""
-        return Values(self)
 
     # ---- of itself ----
 

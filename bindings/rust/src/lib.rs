@@ -16,6 +16,7 @@ mod set;
 mod shown;
 mod typed;
 mod typed_map;
+mod typed_worker;
 mod worker;
 
 pub use fault::{Fault, Full};
@@ -29,8 +30,9 @@ pub use place::Advance;
 pub use report::Report;
 pub use set::Set;
 pub use shown::Shown;
-pub use typed::{Key, SetOf, Values, WorkerOf};
+pub use typed::{Key, SetOf, Values};
 pub use typed_map::{GuardOf, GuardedWorkerOf, MapOf, MapWorkerOf};
+pub use typed_worker::WorkerOf;
 pub use worker::{Behind, PinGuard, Stamp, Worker};
 
 /// The greatest key, 2^64 - 4.

@@ -11,6 +11,7 @@ use crate::options::Options;
 use crate::order::{self, ends_of, retain, Calls, Range, Scanned, Scans};
 use crate::place::millis;
 use crate::MOST_KEY;
+use std::collections::BTreeMap;
 use std::fmt;
 use std::ops::RangeBounds;
 use std::time::Duration;
@@ -378,6 +379,59 @@ impl<'w, 'a, 'g, V> GuardedWorker<'w, 'a, 'g, V> {
     pub fn iter(&mut self) -> Range<&mut Self> {
         self.range(..)
     }
+
+    /// Returns the keys of a range with clones of their values, ascending, in the way of
+    /// [`range`](GuardedWorker::range). [`Map::from_entries`] makes a map of them again.
+    ///
+    /// Errors: `Contention`, `Pinned`.
+    ///
+    /// ```
+    /// # fn main() -> Result<(), Box<dyn std::error::Error>> {
+    /// let map = nm_set::Map::from([(5, "five"), (7, "seven"), (9, "nine")]);
+    /// let (mut reader, mut worker) = (map.attach()?, map.attach()?);
+    /// let guard = reader.pin()?;
+    /// let mut calls = worker.under(&guard)?;
+    /// calls.retain(|key, &text| key != 7 && text != "nine")?;
+    /// assert_eq!(calls.entries(..)?, [(5, "five")]);
+    /// # Ok(())
+    /// # }
+    /// ```
+    ///
+    /// # Panics
+    ///
+    /// It panics if the start of the range is after its end: see [`Set::range`](crate::Set::range).
+    #[track_caller]
+    pub fn entries(&mut self, bounds: impl RangeBounds<u64>) -> Result<Vec<(u64, V)>, Fault>
+    where
+        V: Clone,
+    {
+        let cloned = |(key, value): (u64, &V)| (key, value.clone());
+        self.range(bounds).map(|entry| entry.map(cloned)).collect()
+    }
+
+    /// Removes each key for which `stays` returns false of it and its value, one by one. If another
+    /// thread gives a key another value after the test, that one is removed. A key that is inserted
+    /// meanwhile may be passed over. If it returns a fault, the keys before it are done.
+    ///
+    /// Errors: `Contention`, `NoMemory`, `Pinned`.
+    pub fn retain(&mut self, mut stays: impl FnMut(u64, &'g V) -> bool) -> Result<(), Fault> {
+        retain(self, |(key, value)| stays(key, value))
+    }
+
+    /// Returns whether the map has the keys and values of another one, and no others. It takes no
+    /// snapshot: each entry is compared as it was at a moment of the call.
+    ///
+    /// Errors: `Contention`, `Pinned`.
+    pub fn is_equal(&mut self, other: &BTreeMap<u64, V>) -> Result<bool, Fault>
+    where
+        V: PartialEq,
+    {
+        order::is_equal(
+            self.iter(),
+            other.iter(),
+            |(key, value), (wanted, other)| (key, value) == (wanted, other),
+        )
+    }
 }
 
 impl<V> Scans for &mut MapWorker<'_, V> {
@@ -407,6 +461,12 @@ impl<'g, V> Scans for &mut GuardedWorker<'_, '_, 'g, V> {
 
     fn scan_back(&mut self, range: (u64, u64), room: usize) -> Result<Scanned<Self::Entry>, Fault> {
         scanned(self.handle.read(Order::Descending, range, room))
+    }
+}
+
+impl<V> Calls for &mut GuardedWorker<'_, '_, '_, V> {
+    fn take(&mut self, key: u64) -> Result<bool, Fault> {
+        GuardedWorker::take(self, key).map(|value| value.is_some())
     }
 }
 

@@ -4,6 +4,7 @@
 use crate::fault::Fault;
 use crate::ffi::Order;
 use crate::set::Set;
+use crate::typed::Entry;
 use crate::worker::Worker;
 use crate::MOST_KEY;
 use std::collections::VecDeque;
@@ -38,7 +39,7 @@ pub trait Scans {
 }
 
 /// What makes the calls for keys: a set, or a worker of a set or a map.
-pub trait Calls: Scans<Entry = u64> {
+pub trait Calls: Scans {
     /// Removes a key; returns whether it was present.
     fn take(&mut self, key: u64) -> Result<bool, Fault>;
 }
@@ -94,29 +95,69 @@ pub(crate) fn scan<C: Scans>(
     Ok(Scanned { entries, next })
 }
 
-/// Removes each key for which `stays` returns false.
-pub(crate) fn retain(calls: impl Calls, mut stays: impl FnMut(u64) -> bool) -> Result<(), Fault> {
-    remove_each(calls, (0, MOST_KEY), |key| !stays(key)).map(|_| ())
+/// Inserts keys by a call for one; returns how many were absent.
+pub(crate) fn extend<K>(
+    keys: impl IntoIterator<Item = K>,
+    mut insert: impl FnMut(K) -> Result<bool, Fault>,
+) -> Result<usize, Fault> {
+    let mut added = 0;
+    for key in keys {
+        added += usize::from(insert(key)?);
+    }
+    Ok(added)
+}
+
+/// Removes each key for whose entry `stays` returns false.
+pub(crate) fn retain<C: Calls>(
+    calls: C,
+    mut stays: impl FnMut(C::Entry) -> bool,
+) -> Result<(), Fault>
+where
+    C::Entry: Entry<u64>,
+{
+    remove_each(calls, (0, MOST_KEY), |entry| !stays(entry)).map(|_| ())
+}
+
+/// Returns whether the entries are those of another map, as a function compares them.
+pub(crate) fn is_equal<E, O>(
+    mut entries: impl Iterator<Item = Result<E, Fault>>,
+    mut other: impl Iterator<Item = O>,
+    are_equal: impl Fn(&E, &O) -> bool,
+) -> Result<bool, Fault> {
+    loop {
+        match (entries.next().transpose()?, other.next()) {
+            (None, None) => return Ok(true),
+            (Some(one), Some(two)) if are_equal(&one, &two) => {}
+            _ => return Ok(false),
+        }
+    }
 }
 
 /// Removes the keys of a range; returns how many it removed.
 #[track_caller]
-pub(crate) fn remove_range(calls: impl Calls, bounds: impl RangeBounds<u64>) -> Result<u64, Fault> {
+pub(crate) fn remove_range(
+    calls: impl Calls<Entry = u64>,
+    bounds: impl RangeBounds<u64>,
+) -> Result<u64, Fault> {
     ends_of(bounds).map_or(Ok(0), |ends| remove_each(calls, ends, |_| true))
 }
 
-/// Removes each key from the first one of two to the second one for which `goes` returns true;
+/// Removes each key from the first one of two to the second one for whose entry `goes` returns true;
 /// returns how many it removed.
-fn remove_each(
-    mut calls: impl Calls,
+fn remove_each<C: Calls>(
+    mut calls: C,
     (first, last): (u64, u64),
-    mut goes: impl FnMut(u64) -> bool,
-) -> Result<u64, Fault> {
+    mut goes: impl FnMut(C::Entry) -> bool,
+) -> Result<u64, Fault>
+where
+    C::Entry: Entry<u64>,
+{
     let (mut rest, mut removed) = (Some(first), 0);
     while let Some(from) = rest {
         let block = calls.scan((from, last), MOST_ROOM)?;
-        for key in block.entries {
-            if goes(key) {
+        for entry in block.entries {
+            let key = entry.key();
+            if goes(entry) {
                 removed += u64::from(take(&mut calls, key)?);
             }
         }

@@ -367,11 +367,7 @@ impl Set {
     ///
     /// Errors: `Key`, `Full`, `NoMemory`.
     pub fn extend(&self, keys: impl IntoIterator<Item = u64>) -> Result<usize, Fault> {
-        let mut added = 0;
-        for key in keys {
-            added += usize::from(self.insert(key)?);
-        }
-        Ok(added)
+        order::extend(keys, |key| self.insert(key))
     }
 
     /// Inserts these keys, one by one, and appends to `answers` whether each was absent. A look-up

@@ -3,10 +3,10 @@
 use crate::convert::show;
 use crate::fault::{Fault, Full};
 use crate::options::Options;
-use crate::order::{Range, Scanned};
+use crate::order::{self, Range, Scanned};
 use crate::set::Set;
 use crate::shown::Shown;
-use crate::worker::Worker;
+use crate::typed_worker::WorkerOf;
 use crate::MOST_KEY;
 use std::collections::BTreeSet;
 use std::fmt;
@@ -436,11 +436,7 @@ impl<K: Key> SetOf<K> {
 
     /// Inserts these values, one by one; returns how many were absent.
     pub fn extend(&self, values: impl IntoIterator<Item = K>) -> Result<usize, Fault> {
-        let mut added = 0;
-        for value in values {
-            added += usize::from(self.insert(value)?);
-        }
-        Ok(added)
+        order::extend(values, |value| self.insert(value))
     }
 
     /// Inserts these values, one by one, and appends to `answers` whether each was absent. All are
@@ -695,65 +691,6 @@ impl<K: Key + fmt::Debug> fmt::Debug for SetOf<K> {
     /// Writes the first ten values, and two dots if there are more, like `Debug` of [`Set`].
     fn fmt(&self, f: &mut fmt::Formatter<'_>) -> fmt::Result {
         show(&self.set, "SetOf", K::from_key, f)
-    }
-}
-
-/// A [`Worker`] of a [`SetOf`].
-pub struct WorkerOf<K: Key> {
-    worker: Worker,
-    of: PhantomData<fn(K) -> K>,
-}
-
-impl<K: Key> From<Worker> for WorkerOf<K> {
-    /// Returns the worker for values of a worker for keys.
-    fn from(worker: Worker) -> WorkerOf<K> {
-        WorkerOf {
-            worker,
-            of: PhantomData,
-        }
-    }
-}
-
-impl<K: Key> WorkerOf<K> {
-    /// Returns the worker for keys, for all other calls.
-    pub fn keys(&mut self) -> &mut Worker {
-        &mut self.worker
-    }
-
-    /// Returns whether the set has the value.
-    pub fn contains(&mut self, value: K) -> Result<bool, Fault> {
-        self.worker.contains(key_of(value)?)
-    }
-
-    /// Inserts a value; returns true if it was absent.
-    pub fn insert(&mut self, value: K) -> Result<bool, Fault> {
-        self.worker.insert(key_of(value)?)
-    }
-
-    /// Removes a value; returns true if it was present.
-    pub fn remove(&mut self, value: K) -> Result<bool, Fault> {
-        self.worker.remove(key_of(value)?)
-    }
-
-    /// Removes the least value and returns it, or None if the set is empty.
-    pub fn pop_first(&mut self) -> Result<Option<K>, Fault> {
-        Ok(self.worker.pop_first()?.map(K::from_key))
-    }
-
-    /// Removes the least value and returns it, after a wait for one of at most `timeout`.
-    pub fn wait_pop(&mut self, timeout: Duration) -> Result<Option<K>, Fault> {
-        Ok(self.worker.wait_pop(timeout)?.map(K::from_key))
-    }
-
-    /// Returns the least value, after a wait for one of at most `timeout`, and removes nothing.
-    pub fn wait_first(&mut self, timeout: Duration) -> Result<Option<K>, Fault> {
-        Ok(self.worker.wait_first(timeout)?.map(K::from_key))
-    }
-}
-
-impl<K: Key> fmt::Debug for WorkerOf<K> {
-    fn fmt(&self, f: &mut fmt::Formatter<'_>) -> fmt::Result {
-        write!(f, "WorkerOf({:?})", self.worker)
     }
 }
 

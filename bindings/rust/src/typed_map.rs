@@ -5,9 +5,10 @@ use crate::fault::Fault;
 use crate::map::{extend_by, Guard, InsertError, Map, MapWorker, Reclaimed};
 use crate::map_order::GuardedWorker;
 use crate::options::Options;
-use crate::order::{Range, Scanned};
+use crate::order::{self, Range, Scanned};
 use crate::typed::{bound_of, bounds_of, key_of, keys_of, panic_by, scan_of, Entry, Key, Values};
 use crate::MOST_KEY;
+use std::collections::BTreeMap;
 use std::fmt;
 use std::marker::PhantomData;
 use std::ops::RangeBounds;
@@ -417,6 +418,41 @@ impl<'w, 'a, 'g, K: Key, V> GuardedWorkerOf<'w, 'a, 'g, K, V> {
     /// Returns an iterator over all keys with their values.
     pub fn iter(&mut self) -> Values<K, Range<&mut GuardedWorker<'w, 'a, 'g, V>>> {
         self.range(..)
+    }
+    /// Returns the keys of a range with clones of their values, ascending: see
+    /// [`GuardedWorker::entries`]. [`MapOf::from_entries`] makes a map of them again.
+    ///
+    /// # Panics
+    ///
+    /// It panics if the start of the range is after its end, or if a bound is NaN.
+    #[track_caller]
+    pub fn entries(&mut self, bounds: impl RangeBounds<K>) -> Result<Vec<(K, V)>, Fault>
+    where
+        V: Clone,
+    {
+        let entries = self.worker.entries(bounds_of(bounds))?;
+        Ok(entries.into_iter().map(Entry::typed).collect())
+    }
+
+    /// Removes each key for which `stays` returns false of it and its value: see
+    /// [`GuardedWorker::retain`].
+    pub fn retain(&mut self, mut stays: impl FnMut(K, &'g V) -> bool) -> Result<(), Fault> {
+        self.worker
+            .retain(|key, value| stays(K::from_key(key), value))
+    }
+
+    /// Returns whether the map has the keys and values of another one, and no others: see
+    /// [`GuardedWorker::is_equal`].
+    pub fn is_equal(&mut self, other: &BTreeMap<K, V>) -> Result<bool, Fault>
+    where
+        K: Ord,
+        V: PartialEq,
+    {
+        order::is_equal(
+            self.iter(),
+            other.iter(),
+            |(key, value), (wanted, other)| (key, value) == (wanted, other),
+        )
     }
 }
 

@@ -279,11 +279,7 @@ impl Worker {
 
     /// Inserts these keys; returns how many were absent: see [`Set::extend`].
     pub fn extend(&mut self, keys: impl IntoIterator<Item = u64>) -> Result<usize, Fault> {
-        let mut added = 0;
-        for key in keys {
-            added += usize::from(self.insert(key)?);
-        }
-        Ok(added)
+        order::extend(keys, |key| self.insert(key))
     }
 
     /// Removes the keys of a range, one by one; returns how many it removed. A key that is inserted

@@ -431,3 +431,45 @@ fn waiting_nodes_are_counted() {
     }
     assert_eq!((map.waiting(), map.len()), (Ok(0), Ok(0)));
 }
+
+#[test]
+fn entries_of_a_map_are_compared_retained_and_saved() {
+    let wanted: BTreeMap<u64, u64> = (0..2_000).map(|key| (key, key * key)).collect();
+    let map: Map<u64> = wanted.clone().into_iter().collect();
+    let (mut reader, mut worker) = (map.attach().unwrap(), map.attach().unwrap());
+    let guard = reader.pin().unwrap();
+    let mut calls = worker.under(&guard).unwrap();
+    assert_eq!(calls.is_equal(&wanted), Ok(true));
+    for (key, value) in [(7, Some(50)), (2_000, Some(0)), (1_999, None)] {
+        let mut other = wanted.clone();
+        match value {
+            Some(value) => other.insert(key, value),
+            None => other.remove(&key),
+        };
+        assert_eq!(calls.is_equal(&other), Ok(false), "{key}");
+    }
+    assert_eq!(
+        calls.retain(|key, &value| value % 3 == 0 && key < 1_500),
+        Ok(())
+    );
+    let kept: Vec<(u64, u64)> = (0..1_500).step_by(3).map(|key| (key, key * key)).collect();
+    assert_eq!((calls.entries(..), map.len()), (Ok(kept.clone()), Ok(500)));
+    assert_eq!(calls.entries(3..9), Ok(vec![(3, 9), (6, 36)]));
+    let loaded = Map::from_entries(4_096, Options::default(), kept.iter().copied()).unwrap();
+    let (mut reader, mut worker) = (loaded.attach().unwrap(), loaded.attach().unwrap());
+    let guard = reader.pin().unwrap();
+    let kept = kept.into_iter().collect();
+    assert_eq!(worker.under(&guard).unwrap().is_equal(&kept), Ok(true));
+}
+
+/// A key that another worker has removed after the test is passed over.
+#[test]
+fn retain_goes_on_past_a_key_that_is_gone() {
+    let map: Map<u64> = (0..10).map(|key| (key, key)).collect();
+    let (mut reader, mut worker) = (map.attach().unwrap(), map.attach().unwrap());
+    let mut other = map.attach().unwrap();
+    let guard = reader.pin().unwrap();
+    let mut calls = worker.under(&guard).unwrap();
+    let stays = |key, _: &u64| other.remove(key) == Ok(false);
+    assert_eq!((calls.retain(stays), map.len()), (Ok(()), Ok(0)));
+}

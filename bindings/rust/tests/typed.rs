@@ -105,6 +105,97 @@ fn answers_for_many_like<K: Key + Ord + Debug>(set: &SetOf<K>, peer: &BTreeSet<K
     assert_eq!(set.extend(all), Ok(peer.len()));
 }
 
+/// The calls of a worker in order and for several values answer like those of a tree.
+fn worker_answers_like<K: Key + Ord + Debug>(values: &[K]) {
+    let set = SetOf::<K>::new().unwrap();
+    let mut worker = set.attach().unwrap();
+    let mut peer: BTreeSet<K> = values.iter().copied().collect();
+    assert_eq!(worker.extend(values.iter().copied()), Ok(peer.len()));
+    let all: Vec<K> = peer.iter().copied().collect();
+    let (least, most) = (all[0], all[all.len() - 1]);
+    assert_eq!(worker.contains_many(&all), Ok(vec![true; all.len()]));
+    let found: Result<Vec<K>, Fault> = worker.iter().collect();
+    assert_eq!(found, Ok(all.clone()));
+    let down: Result<Vec<K>, Fault> = worker.range(least..most).rev().collect();
+    assert_eq!(down, Ok(peer.range(least..most).rev().copied().collect()));
+    assert_eq!(worker.count(least..most), Ok(all.len() as u64 - 1));
+    let read = worker.scan(least, all.len() - 1).unwrap();
+    assert_eq!((read.entries.len(), read.next), (all.len() - 1, Some(most)));
+    assert_eq!(
+        (worker.first(), worker.last()),
+        (Ok(Some(least)), Ok(Some(most)))
+    );
+    assert_eq!(worker.at_least(least), worker.try_at_least(least, 64));
+    assert_eq!(worker.at_most(most), worker.try_at_most(most, 64));
+    assert_eq!(worker.wait_first_below(least, Duration::ZERO), Ok(None));
+    assert_eq!(worker.wait_pop_below(least, Duration::ZERO), Ok(None));
+    assert_eq!(worker.pop_first_below(least), Ok(None));
+    assert_eq!(worker.pop_last_from(most), Ok(Some(most)));
+    assert_eq!(worker.pop_first_many(most, 1), Ok(vec![least]));
+    let mut answers = Vec::new();
+    assert_eq!(worker.insert_many(&[least, most], &mut answers), Ok(()));
+    assert_eq!(worker.remove_many(&[least, least], &mut answers), Ok(()));
+    assert_eq!(answers, [true, true, true, false]);
+    peer.remove(&least);
+    assert_eq!(worker.retain(|value| value == most), Ok(()));
+    let left: Result<Vec<K>, Fault> = (&mut worker).into_iter().collect();
+    assert_eq!(left, Ok(vec![most]));
+    assert_eq!(
+        (worker.extend(all), worker.remove_range(..most)),
+        (Ok(peer.len()), Ok(peer.len() as u64))
+    );
+    assert_eq!(
+        (worker.pop_last(), worker.pop_first()),
+        (Ok(Some(most)), Ok(None))
+    );
+    assert_eq!((worker.insert(most), worker.clear()), (Ok(true), Ok(())));
+    assert_eq!(worker.set().is_empty(), Ok(true));
+}
+
+#[test]
+fn workers_of_each_type_answer_like_a_tree() {
+    worker_answers_like(&[5_i64, -7, 0, i64::MIN, i64::MAX - 3, -1]);
+    worker_answers_like(&[(1_u32, 2_u32), (1, 0), (0, 9), (7, 0)]);
+    worker_answers_like(&[*b"tea", *b"te\0", [255; 3], *b"\0\0\0"]);
+}
+
+/// The calls with a number of tries, and those of the epoch, are those of the worker of keys.
+#[test]
+fn a_worker_of_values_makes_the_calls_of_its_worker() {
+    let set = SetOf::<i64>::new().unwrap();
+    let mut worker = set.worker(3).unwrap();
+    assert_eq!(
+        (worker.try_insert(-5, 9), worker.try_insert(-5, 9)),
+        (Ok(true), Ok(false))
+    );
+    assert_eq!(worker.try_contains_many(&[-5, 5], 9), Ok(vec![true, false]));
+    assert_eq!((worker.try_contains(-5, 1), worker.number()), (Ok(true), 3));
+    assert_eq!(worker.try_remove(-5, 1), Err(Fault::Unfinished));
+    assert_eq!(
+        (worker.pending(), worker.try_finish(9)),
+        (Ok(Some(-5)), Ok(true))
+    );
+    assert_eq!((worker.pending(), worker.waiting()), (Ok(None), Ok(2)));
+    let epoch = worker.pin().unwrap().epoch();
+    assert_eq!(worker.behind().unwrap().epoch, epoch);
+    assert!((0..4).all(|_| worker.advance().is_ok()));
+    assert_eq!(
+        (worker.collect(), worker.stats().unwrap().freed),
+        (Ok(2), 2)
+    );
+    assert_eq!(worker.publish().unwrap().removed, 1);
+    let seen = set.attach().unwrap().observe(3).unwrap();
+    assert_eq!(
+        seen.map(|stamp| (stamp.inserted, stamp.removed)),
+        Some((1, 1))
+    );
+    assert!(matches!(
+        worker.try_insert(i64::MAX, 9),
+        Err(Fault::Value(_))
+    ));
+    assert_eq!(worker.at_most(i64::MAX), Ok(None));
+}
+
 #[test]
 fn sets_of_each_type_answer_like_a_tree() {
     answers_like(&[5_i64, -7, 0, i64::MIN, i64::MAX - 3, -1]);

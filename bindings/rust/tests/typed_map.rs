@@ -91,6 +91,17 @@ fn values_are_like<K: Key + Ord + Debug>(map: &MapOf<K, String>, peer: &BTreeMap
         (read.entries.len(), read.next),
         (all.len() - 1, all.last().copied())
     );
+    let part: BTreeMap<K, String> = calls.entries(all[1]..).unwrap().into_iter().collect();
+    assert_eq!(part.len(), all.len() - 1);
+    assert_eq!(
+        (calls.is_equal(peer), calls.is_equal(&part)),
+        (Ok(true), Ok(false))
+    );
+    assert_eq!(
+        calls.retain(|key, value| peer.get(&key) == Some(value)),
+        Ok(())
+    );
+    assert_eq!(map.len(), Ok(peer.len()));
 }
 
 /// The calls that remove.
