@@ -919,7 +919,8 @@ private:
         } else if constexpr (std::is_constructible_v<T, Value &&>) {
             return give_object(key, made(std::forward<Value>(value)), call);
         } else {
-            static_assert(!std::is_lvalue_reference_v<Value>, "a unique_ptr is moved: std::move(it)");
+            static_assert(detail::is_owner<Value>,
+                          "no T is made of the value; if it is a unique_ptr, write std::move(it)");
             return give_object(key, std::move(value), call);
         }
     }
