@@ -1,8 +1,8 @@
 /* Calls on a map of nm_set.h that pass each reclaimed value to a function of the program. So a value
  * may be the address of an object: that function frees the object. The calls of this header
  * are made of the proved functions of nm_set.h, and no proof covers them. The maps of C++ and Rust
- * are made of these calls, and that of Python of some. c/tests/map_calls.c, c/tests/map_reads.c and
- * the tests of each language test them.
+ * are made of these calls, and that of Python of some. c/tests/map_calls.c, c/tests/map_puts.c,
+ * c/tests/map_reads.c and the tests of each language test them.
  *
  *     static void give_back(void *context, uint64_t value) { free((void *)(uintptr_t)value); }
  *

@@ -30,8 +30,8 @@
 // the end of a guard before the object is freed.
 //
 // The core, which is the functions of nm_set.h, is proved. What this header and nm_map.h add to it
-// is tested by c/tests/map_objects.cpp, c/tests/map_order.cpp, c/tests/map_soak.cpp,
-// c/tests/map_threads.cpp and c/tests/refused_map.cpp, and not proved. In a forked child each call throws NM_FORKED, and the ends
+// is not proved, but tested: by c/tests/map_objects.cpp, map_order.cpp, map_puts.cpp, map_soak.cpp,
+// map_threads.cpp and refused_map.cpp. In a forked child each call throws NM_FORKED, and the ends
 // of a map, a worker and a guard do nothing: so no object of the parent is freed there.
 #ifndef NM_MAP_HPP
 #define NM_MAP_HPP
