@@ -1,8 +1,7 @@
 /* Tests the calls of nm_map.h: each value is handed over once, when it has come back; what is
  * refused leaves the value with its caller; and a drain hands over all that is left, in whatever
  * state the workers were returned. */
-#include "holds.h"
-#include "nm_map.h"
+#include "map_parts.h"
 
 #include <pthread.h>
 #include <stdio.h>
@@ -58,18 +57,6 @@ static void end(nm_handle *map) {
     uint64_t keys = 1;
     CHECK(nm_map_close(map) == NM_DONE && nm_report_keys(map, &keys) == NM_DONE && keys == 0);
     CHECK(nm_drop(map) == NM_DONE);
-}
-
-static uint64_t waiting(nm_handle *worker) {
-    uint64_t nodes = 0;
-    CHECK(nm_map_queue_len(worker, &nodes) == NM_DONE);
-    return nodes;
-}
-
-static uint64_t now_ms(void) {
-    struct timespec time;
-    CHECK(timespec_get(&time, TIME_UTC) == TIME_UTC);
-    return (uint64_t)time.tv_sec * 1000 + (uint64_t)time.tv_nsec / 1000000;
 }
 
 /* The time that a processor has spent on this process. */

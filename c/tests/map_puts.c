@@ -2,14 +2,12 @@
  * wait for nodes. One thread meets each outcome. Each replaced value comes back once, and none while
  * a worker is pinned that may have read it. A reader always finds a key that another thread puts
  * again and again, and threads that raise a counter lose no step. */
-#include "holds.h"
-#include "nm_map.h"
+#include "map_parts.h"
 
 #include <pthread.h>
 #include <stdatomic.h>
 #include <stdbool.h>
 #include <stdio.h>
-#include <time.h>
 
 enum { NOT_WRITTEN = 77, PUTS = 100000, THREADS = 4, STEPS = 20000 };
 
@@ -40,18 +38,6 @@ static void end(nm_handle *map, nm_handle *worker, uint64_t count, uint64_t tota
     CHECK(nm_drop(worker) == NM_DONE);
     CHECK(nm_map_drain(map, give_back, &values, 0) == NM_DONE && nm_drop(map) == NM_DONE);
     came_back(count, total);
-}
-
-static uint64_t waiting(nm_handle *worker) {
-    uint64_t nodes = 0;
-    CHECK(nm_map_queue_len(worker, &nodes) == NM_DONE);
-    return nodes;
-}
-
-static uint64_t now_ms(void) {
-    struct timespec time;
-    CHECK(timespec_get(&time, TIME_UTC) == TIME_UTC);
-    return (uint64_t)time.tv_sec * 1000 + (uint64_t)time.tv_nsec / 1000000;
 }
 
 static void has(nm_handle *worker, uint64_t key, uint64_t wanted) {

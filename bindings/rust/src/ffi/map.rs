@@ -820,7 +820,7 @@ impl<V> Drop for Pinned<'_, '_, V> {
 #[cfg(test)]
 mod tests {
     use super::super::forking;
-    use crate::{Fault, InsertError, Map};
+    use crate::{Fault, InsertError, Map, PutError};
     use std::sync::atomic::{AtomicU64, Ordering::SeqCst};
     use std::sync::Arc;
 
@@ -849,9 +849,11 @@ mod tests {
             let error = worker
                 .insert(20, Counted(Arc::clone(&dropped)))
                 .unwrap_err();
+            let unput = worker.put(5, Counted(Arc::clone(&dropped))).unwrap_err();
             let mut is_right = map.attach().err() == Some(Fault::Forked)
                 && map.len() == Err(Fault::Forked)
                 && error.fault() == Some(Fault::Forked)
+                && unput.fault() == Some(Fault::Forked)
                 && guard.get(5).err() == Some(Fault::Forked)
                 && guard.get_many(&[5]).err() == Some(Fault::Forked)
                 && worker.remove(5) == Err(Fault::Forked)
@@ -859,7 +861,7 @@ mod tests {
                 && worker.reclaim().err() == Some(Fault::Forked)
                 && worker.range(..).next() == Some(Err(Fault::Forked))
                 && worker.under(&guard).unwrap().first().err() == Some(Fault::Forked);
-            std::mem::forget::<InsertError<Counted>>(error);
+            std::mem::forget::<(InsertError<Counted>, PutError<Counted>)>((error, unput));
             drop((guard, worker));
             drop(reader);
             drop(map);
