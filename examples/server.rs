@@ -4,7 +4,7 @@
 //!
 //! A request is a line: `put 5 five`, `get 5` or `delete 5`. So is its answer.
 
-use nm_set::{Fault, InsertError, Map};
+use nm_set::{Fault, Map};
 use std::io::{BufRead, BufReader, Result, Write};
 use std::net::{TcpListener, TcpStream};
 use std::thread::scope;
@@ -17,10 +17,9 @@ fn answer(map: &Map<String>, request: &str) -> std::result::Result<String, Fault
     let (what, key) = (words.next(), words.next().and_then(|it| it.parse().ok()));
     let mut worker = map.attach()?;
     Ok(match (what, key, words.next()) {
-        (Some("put"), Some(key), Some(text)) => match worker.insert(key, text.to_string()) {
-            Ok(()) => "done".to_string(),
-            Err(InsertError::Present(_)) => "it is there".to_string(),
-            Err(InsertError::Fault(fault, _)) => return Err(fault),
+        (Some("put"), Some(key), Some(text)) => match worker.put(key, text.to_string()) {
+            Ok(_) => "done".to_string(), // no client misses the key, also if it had a text
+            Err(error) => error.to_string(),
         },
         (Some("get"), Some(key), None) => match worker.pin()?.get(key)? {
             Some(text) => text.clone(),
@@ -46,8 +45,8 @@ fn be_a_client(mut to: TcpStream, number: u64) -> Result<()> {
     for key in number * REQUESTS..(number + 1) * REQUESTS {
         for (request, wanted) in [
             (format!("put {key} text"), "done"),
-            (format!("put {key} another"), "it is there"),
-            (format!("get {key}"), "text"),
+            (format!("put {key} another"), "done"),
+            (format!("get {key}"), "another"),
             (format!("delete {key}"), "done"),
             (format!("get {key}"), "it is not there"),
         ] {

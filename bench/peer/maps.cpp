@@ -31,12 +31,12 @@ struct ProvedMap : Proved<nm_map_new, nm_map_attach> {
             return nm_map_get(&handle, key, &nm_default_options, &value) == NM_YES;
         }
         bool add(Key key) {
-            return nm_map_put(nullptr, &handle, key, key, &nm_default_options, nullptr, take,
-                              nullptr, 0) == NM_YES;
+            return nm_map_wait_insert(nullptr, &handle, key, key, &nm_default_options, nullptr, take,
+                                      nullptr, 0) == NM_YES;
         }
         bool remove(Key key) {
             Key value;
-            nm_map_tend(&handle, &nm_default_options, take, nullptr);
+            nm_map_tend(&handle, &nm_default_options, nullptr, take, nullptr);
             return nm_map_remove(&handle, key, &nm_default_options, &value) == NM_YES;
         }
         static void take(void *, Key) {}

@@ -1007,6 +1007,22 @@ public:
     [[nodiscard]] auto get(const K &key) const { return of_.get(detail::checked_key(key)); }
     // Removes a key, and returns what the map had under it, in the same way.
     auto take(const K &key) { return of_.take(detail::checked_key(key)); }
+    // Inserts a key with a value, or replaces the value that it has, which it returns: see
+    // nm::MapPuts.
+    template <typename Value = typename Of::mapped_type>
+    auto exchange(const K &key, Value &&value) {
+        return of_.exchange(detail::checked_key(key), std::forward<Value>(value));
+    }
+    // Replaces the value of a key if it is the expected one; returns whether it did.
+    template <typename Found, typename Value = typename Of::mapped_type>
+    bool compare_exchange(const K &key, Found &expected, Value &&value) {
+        return of_.compare_exchange(detail::checked_key(key), expected, std::forward<Value>(value));
+    }
+    // Gives a key the value that a function makes of the one that it has, which it returns.
+    template <typename F>
+    auto update(const K &key, F f) {
+        return of_.update(detail::checked_key(key), f);
+    }
 
 protected:
     using OrderedOf<Of, K>::OrderedOf;
@@ -1111,6 +1127,18 @@ public:
                                [](const K &key) { return Key(detail::checked_key(key)); });
     }
 
+    // Inserts a key with a value, or replaces its value, in one step; returns whether the key was
+    // absent.
+    template <typename Value = V>
+    bool insert_or_assign(const K &key, Value &&value) {
+        return of_.insert_or_assign(detail::checked_key(key), std::forward<Value>(value));
+    }
+    // Replaces the value of a key; returns whether the key was present.
+    template <typename Value = V>
+    bool replace(const K &key, Value &&value) {
+        return of_.replace(detail::checked_key(key), std::forward<Value>(value));
+    }
+
     // Removes a key; returns whether it was present: see nm::MapWorker::remove.
     bool remove(const K &key) { return of_.remove(detail::checked_key(key)); }
     // Removes a key; returns 1 if it was present, and else 0.
@@ -1168,7 +1196,7 @@ public:
 
     // Frees what was reclaimed by this worker: see nm::MapWorker::reclaim.
     Reclaimed reclaim() { return of_.reclaim(); }
-    // Returns the number of nodes that wait with this worker, two for each removed key.
+    // Returns the number of nodes that wait with this worker: see nm::MapWorker::waiting.
     [[nodiscard]] std::uint64_t waiting() const { return of_.waiting(); }
     // Returns the key of an unfinished remove, or nothing.
     [[nodiscard]] std::optional<K> pending() const {

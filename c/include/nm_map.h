@@ -1,18 +1,18 @@
 /* Calls on a map of nm_set.h that pass each reclaimed value to a function of the program. So a value
  * may be the address of an object: that function frees the object. The calls of this header
  * are made of the proved functions of nm_set.h, and no proof covers them. The maps of C++ and Rust
- * are made of these calls, and that of Python of some. c/tests/map_calls.c, c/tests/map_reads.c and
- * the tests of each language test them.
+ * are made of these calls, and that of Python of some. c/tests/map_calls.c, c/tests/map_puts.c,
+ * c/tests/map_reads.c and the tests of each language test them.
  *
  *     static void give_back(void *context, uint64_t value) { free((void *)(uintptr_t)value); }
  *
- *     nm_map_put(&map, &worker, 5, (uint64_t)(uintptr_t)object, &nm_default_options, NULL,
- *                give_back, NULL, 1000);               NM_YES: the map has the key and the object
+ *     nm_map_wait_put(&map, &worker, 5, (uint64_t)(uintptr_t)object, &nm_default_options, NULL,
+ *                     give_back, NULL, &old, 1000);    NM_INSERTED: the map has the key and the object
  *     nm_map_hold(&worker, &nm_default_options, &epoch);    pins the worker
  *     nm_map_get_pinned(&worker, 5, &value);           the object exists until the unpin
  *     nm_map_unpin(&worker);
  *     nm_map_remove(&worker, 5, &nm_default_options, &value);    frees nothing
- *     nm_map_tend(&worker, &nm_default_options, give_back, NULL);   frees what was reclaimed
+ *     nm_map_tend(&worker, &nm_default_options, NULL, give_back, NULL);   frees what was reclaimed
  *     nm_drop(&worker);
  *     nm_map_drain(&map, give_back, NULL, 1000);       frees each object that is left
  *     nm_drop(&map);
@@ -20,8 +20,8 @@
  * Proved, of nm_set.h: each leaf that is freed returns its value, and no leaf is freed twice. A
  * leaf is freed after all workers have unpinned that were pinned when it was cut off. So a reader
  * may use an object from a get under a pin until the unpin. Without the caller's pin an object may
- * be freed at any time after the get. The program that removes a key does not free the object
- * itself, because others may be reading it.
+ * be freed at any time after the get. The program that removes a key, or replaces its object, does
+ * not free that object itself, because others may be reading it.
  *
  * The function `release` is called between two calls of the library, by the thread whose call found
  * the values. It may make calls by any worker, including this one. It does not leave by longjmp or
@@ -64,9 +64,9 @@ nm_outcome nm_map_lend(nm_handle *map, nm_map_counts *counts, nm_handle *worker,
 
 /* Returns a worker that is not pinned, in place of nm_drop: then the handle is closed, and
  * nm_map_lend lends the worker again. It stays attached. What waits with it is reclaimed by its
- * next user, and by each nm_map_put that finds the map full. Returns NM_DONE. Errors, after which the
- * handle owns the worker as before: NM_CLOSED, NM_KIND, NM_IN_USE, NM_NUMBER (the counts are of a
- * map with fewer workers). */
+ * next user, and by each call that finds no nodes and waits for them, such as nm_map_wait_insert.
+ * Returns NM_DONE. Errors, after which the handle owns the worker as before: NM_CLOSED, NM_KIND,
+ * NM_IN_USE, NM_NUMBER (the counts are of a map with fewer workers). */
 nm_outcome nm_map_return(nm_map_counts *counts, nm_handle *worker);
 
 /* Drops each worker that was returned, such as before nm_map_drain. */
@@ -77,17 +77,20 @@ void nm_map_drop_returned(nm_map_counts *counts);
  * Errors: NM_BUSY, NM_PENDING: the bounds of the options were reached. NM_PINNED. */
 nm_outcome nm_map_hold(nm_handle *worker, const nm_options *options, uint64_t *epoch);
 
-/* Makes nm_map_reclaim until no more values are reclaimed, and passes each to `release`. Returns
- * NM_DONE and writes which worker holds the epoch back, or NM_NOBODY; `behind` may be NULL. Errors:
+/* Makes nm_map_reclaim until no more values are reclaimed, and passes each to `release`. It counts
+ * the nodes that it frees in `counts`, which may be NULL: see nm_map_counts_waiting. Returns NM_DONE
+ * and writes which worker holds the epoch back, or NM_NOBODY; `behind` may be NULL. Errors:
  * NM_CLOSED, NM_KIND, NM_IN_USE. */
-nm_outcome nm_map_take_back(nm_handle *worker, nm_map_release release, void *context,
-                            uint32_t *behind);
+nm_outcome nm_map_take_back(nm_handle *worker, nm_map_counts *counts, nm_map_release release,
+                            void *context, uint32_t *behind);
 
 /* Makes nm_map_take_back if `collect_after` nodes or more wait with the worker, and otherwise
- * nothing. Call it after each remove: it is what a managed call of a set does by itself. Returns
- * NM_DONE. Errors: those of nm_map_take_back. */
-nm_outcome nm_map_tend(nm_handle *worker, const nm_options *options, nm_map_release release,
-                       void *context);
+ * nothing. Call it after each remove and each replacement: it is what a managed call of a set does
+ * by itself. Returns NM_DONE. Errors: those of nm_map_take_back. */
+nm_outcome nm_map_tend(nm_handle *worker, const nm_options *options, nm_map_counts *counts,
+                       nm_map_release release, void *context);
+
+/* ---- calls that give the map a value, and wait for nodes ---- */
 
 /* Makes nm_map_tend, and then nm_map_insert. If no nodes are free, it reclaims what it can,
  * inserts again, and repeats both for at most timeout_ms milliseconds. In between it sleeps, from
@@ -99,13 +102,32 @@ nm_outcome nm_map_tend(nm_handle *worker, const nm_options *options, nm_map_rele
  * that was returned to `counts`. For this it attaches the former, one after the other.
  *
  * Returns NM_YES, or NM_NO if the map has the key, which keeps its value. Errors: NM_FULL: no nodes
- * became free in that time; or, at once, the keys take all nodes and none waits. It knows the
- * latter by `counts`, in which the program counts each insert and remove of the map. With NULL it
+ * became free in that time; or, at once, the keys leave no two nodes, even if none waits. It knows
+ * the latter by `counts`, in which the program counts each call that changes the map. With NULL it
  * waits in that case too. The others are those of nm_map_insert. After NM_NO and an error the map
  * does not have the value. */
-nm_outcome nm_map_put(nm_handle *map, nm_handle *worker, uint64_t key, uint64_t value,
-                      const nm_options *options, nm_map_counts *counts,
-                      nm_map_release release, void *context, uint32_t timeout_ms);
+nm_outcome nm_map_wait_insert(nm_handle *map, nm_handle *worker, uint64_t key, uint64_t value,
+                              const nm_options *options, nm_map_counts *counts,
+                              nm_map_release release, void *context, uint32_t timeout_ms);
+
+/* Do the same, and make nm_map_put, nm_map_replace or nm_map_compare_replace in place of
+ * nm_map_insert. They return its outcomes, and write what it writes. A replacement takes one free
+ * node. So it returns NM_FULL at once only if the keys leave no node, even if none waits. A value
+ * that is replaced comes back by `release` later, like that of a removed key. After NM_ABSENT,
+ * NM_OTHER and an error the map does not have the new value. */
+nm_outcome nm_map_wait_put(nm_handle *map, nm_handle *worker, uint64_t key, uint64_t value,
+                           const nm_options *options, nm_map_counts *counts,
+                           nm_map_release release, void *context, uint64_t *old,
+                           uint32_t timeout_ms);
+nm_outcome nm_map_wait_replace(nm_handle *map, nm_handle *worker, uint64_t key, uint64_t value,
+                               const nm_options *options, nm_map_counts *counts,
+                               nm_map_release release, void *context, uint64_t *old,
+                               uint32_t timeout_ms);
+nm_outcome nm_map_wait_compare_replace(nm_handle *map, nm_handle *worker, uint64_t key,
+                                       uint64_t expected, uint64_t value,
+                                       const nm_options *options, nm_map_counts *counts,
+                                       nm_map_release release, void *context, uint64_t *found,
+                                       uint32_t timeout_ms);
 
 /* ---- calls that read, and are repeated ----
  * Each finishes a remove that is pending first, and repeats a call that lost each of its tries, at
@@ -116,7 +138,7 @@ nm_outcome nm_map_put(nm_handle *map, nm_handle *worker, uint64_t key, uint64_t 
  * The value that these write for a key was under that key at a moment of the call. It may be
  * reclaimed at any time after that, unless another worker was pinned before the call and still is. So a
  * program may use such an object until the unpin of that other worker. The same holds for the value
- * that a pop or a remove writes. */
+ * that a pop, a remove or a replacement writes. */
 
 /* Finds the least key that is not below key, or the greatest that is not above it. Returns NM_YES
  * and writes the key and its value, or NM_NO. */
@@ -168,20 +190,16 @@ nm_outcome nm_map_counts_new(nm_map_counts **counts, uint32_t nodes, uint32_t wo
 /* Frees the counts; NULL is allowed. In a forked child it does nothing. */
 void nm_map_counts_free(nm_map_counts *counts);
 
-/* Counts the outcome of an insert by the worker of a number, or that of a remove or a pop. An
- * unfinished remove counts at once, because its key will be removed by this call and no other. Only
- * the thread that has the worker makes this call. After NM_YES the count of an insert wakes the
- * calls that wait in nm_map_wait_first. */
+/* Counts the outcome of an insert, a put or a replacement by the worker of a number, or that of a
+ * remove or a pop. An unfinished remove counts at once, because its key will be removed by this call
+ * and no other. Only the thread that has the worker makes this call. After NM_YES and NM_INSERTED the
+ * first one wakes the calls that wait in nm_map_wait_first. */
 void nm_map_count_insert(nm_map_counts *counts, uint32_t worker, nm_outcome outcome);
 void nm_map_count_remove(nm_map_counts *counts, uint32_t worker, nm_outcome outcome);
 
-/* Counts values that were passed to `release` in a call by the worker of a number. Only the thread
- * that has the worker makes this call. */
-void nm_map_count_released(nm_map_counts *counts, uint32_t worker, uint64_t values);
-
-/* Returns how many removed nodes wait to be freed, with all workers: two for each key that was
- * removed and whose value was not released. A program that counts no released values gets too
- * many. It is exact if no call is in progress. */
+/* Returns how many nodes wait to be freed, with all workers: two for each removed key, and one for
+ * each replaced value, whose value was not reclaimed. If a program calls nm_map_reclaim itself, or
+ * passes NULL for the counts, it gets too many. It is exact if no call is in progress. */
 uint64_t nm_map_counts_waiting(const nm_map_counts *counts);
 
 /* Waits until the map has a key below the bound, and removes nothing. Returns NM_YES and writes the
@@ -204,13 +222,15 @@ int nm_map_is_forked(const nm_map_counts *counts);
 
 /* ---- how full it is ---- */
 
-/* Returns 1 if so many keys leave no two nodes free, even if none waits, and else 0. */
-int nm_map_is_brimful(uint64_t nodes, uint64_t keys);
+/* Returns 1 if so many keys leave fewer nodes than are wanted, even if none waits, and else 0. An
+ * insert wants two, and a replacement one. */
+int nm_map_is_brimful(uint64_t nodes, uint64_t keys, uint64_t wanted);
 
-/* Writes how full a map is whose insert has returned NM_FULL: all nodes that its keys do not take
- * wait to be freed, except one if their number is odd. `behind` is the worker that nm_map_take_back
- * wrote, or NM_NOBODY. It is exact if no other call is in progress. */
-void nm_map_fullness(uint64_t nodes, uint64_t keys, uint32_t behind, nm_fullness *fullness);
+/* Writes how full a map is whose call has returned NM_FULL: all nodes that its keys do not take wait
+ * to be freed, except one if fewer are waiting. `behind` is the worker that nm_map_take_back wrote,
+ * or NM_NOBODY. It is exact if no other call is in progress. */
+void nm_map_fullness(uint64_t nodes, uint64_t keys, uint64_t waiting, uint32_t behind,
+                     nm_fullness *fullness);
 
 /* Writes what such a fullness says, like nm_full_words: "the map is full: its 47 keys take 99 of
  * its 100 nodes, and 0 wait to be freed". */
@@ -219,8 +239,8 @@ const char *nm_map_full_words(const nm_fullness *fullness, char *text, size_t si
 /* ---- the end ---- */
 
 /* Empties a map before its end, when no worker is attached: removes each key, and hands each value
- * to `release` once, including those of keys that were removed earlier. It attaches each worker in
- * turn. Returns NM_DONE: then no node waits, and an nm_map_close or nm_drop loses no value.
+ * to `release` once, including those that were removed or replaced earlier. It attaches each worker
+ * in turn. Returns NM_DONE: then no node waits, and an nm_map_close or nm_drop loses no value.
  *
  * Errors, after which another call goes on: NM_NO_MEMORY: memory was refused, even after
  * repetitions for timeout_ms milliseconds, with sleeps in between. NM_ATTACHED: a worker is

@@ -7,12 +7,13 @@
 //         auto guard = worker.pin();
 //         std::string *found = guard.get(5u);  // it exists until the end of the guard
 //     }
-//     worker.remove(5u);                       // true; the text is freed when nobody can read it
+//     worker.insert_or_assign(5u, "cinq");     // false: it replaces the text, in one step
+//     worker.remove(5u);                       // true; both texts are freed when nobody can read them
 //
 // A T of at most 8 bytes that can be copied, and by memcpy, like a number, is stored in place. Then
 // all calls of a worker return copies. A map holds objects of every other T, such as atomics, by
-// `std::unique_ptr<T>`. It frees none of them twice: it frees each after its key was removed, when
-// no guard is left that could have returned it; or at the end of the map.
+// `std::unique_ptr<T>`. It frees none of them twice: it frees each after its key was removed, or the
+// object replaced, when no guard is left that could have returned it; or at the end of the map.
 //
 // A worker that has a guard makes no other call. So calls that go over several keys, and pops,
 // return objects by a second worker, under the guard of the first one:
@@ -29,8 +30,8 @@
 // the end of a guard before the object is freed.
 //
 // The core, which is the functions of nm_set.h, is proved. What this header and nm_map.h add to it
-// is tested by c/tests/map_objects.cpp, c/tests/map_order.cpp, c/tests/map_soak.cpp,
-// c/tests/map_threads.cpp and c/tests/refused_map.cpp, and not proved. In a forked child each call throws NM_FORKED, and the ends
+// is not proved, but tested: by c/tests/map_objects.cpp, map_order.cpp, map_puts.cpp, map_soak.cpp,
+// map_threads.cpp and refused_map.cpp. In a forked child each call throws NM_FORKED, and the ends
 // of a map, a worker and a guard do nothing: so no object of the parent is freed there.
 #ifndef NM_MAP_HPP
 #define NM_MAP_HPP
@@ -51,7 +52,7 @@ struct MapOptions {
     // If it is not given: nodes / (8 * workers), at least 8 and at most 64.
     std::optional<std::uint32_t> collect_after{};
     std::uint32_t timeout_ms = 1'000; // the longest time that an attach waits for a worker, and an
-                                      // insert for nodes, in milliseconds
+                                      // insert or a replacement for nodes, in milliseconds
 };
 
 // The result of `reclaim`: how many values were reclaimed, and the worker that holds back others.
@@ -188,6 +189,16 @@ bool are_equal(const Entries &entries, const Pairs &pairs) {
     return at == entries.end();
 }
 
+// Returns whether the map took the value that a call gave it.
+inline bool is_taken(nm_outcome outcome) noexcept {
+    return outcome == NM_YES || outcome == NM_INSERTED || outcome == NM_REPLACED;
+}
+
+template <typename Value>
+inline constexpr bool is_owner = false;
+template <typename U>
+inline constexpr bool is_owner<std::unique_ptr<U>> = true;
+
 // Frees an object. A value in place needs nothing.
 template <typename T>
 void give_up(std::uint64_t word) noexcept {
@@ -303,8 +314,8 @@ template <typename K, typename V>
 class MapWorkerOf;
 
 // A pin of a worker, until its end. What `get` returns exists until then: no other thread's remove
-// frees it. Meanwhile the worker makes no other call (NM_PINNED), and the map frees no object whose
-// key was removed after the pin. So keep it short: nodes that wait for it are not free for inserts.
+// frees it. Meanwhile the worker makes no other call (NM_PINNED), and the map frees no object that
+// was removed or replaced after the pin. So keep it short: nodes that wait for it are not free for inserts.
 // The worker must neither move nor end before the guard.
 template <typename T>
 class [[nodiscard]] MapGuard {
@@ -514,6 +525,85 @@ private:
     }
 };
 
+// The calls of a worker that replace a value in one step, and return the old one: copies of values in
+// place; or, under a guard of another worker, pointers to objects, which exist until the end of the
+// guard. No call finds the key absent meanwhile. They wait for nodes like `insert`, and throw what it
+// throws.
+template <typename Of, typename T>
+class MapPuts {
+public:
+    using Found = detail::Found<T>;  // `T *`, or null; for a T in place `std::optional<T>`
+
+    // Inserts a key with a value, or replaces the value that it has. Returns that value, or nothing
+    // if the key was absent. No two calls return one value.
+    template <typename Value = T>
+    Found exchange(Key key, Value &&value) {
+        std::uint64_t word = 0;
+        nm_outcome outcome = worker().put(nm_map_wait_put, key, std::forward<Value>(value), word);
+        return detail::found<T>(outcome == NM_REPLACED, word);
+    }
+
+    // Replaces the value of a key if it is the expected one; returns whether it did. If nothing is
+    // expected, it inserts the key if that is absent. After false, `expected` is what the map had
+    // under the key at a moment of the call, and a `unique_ptr` has its object as before. Like
+    // `std::atomic`, it compares bytes: of a value in place, or of the address of an object.
+    template <typename Value = T>
+    bool compare_exchange(Key key, Found &expected, Value &&value) {
+        auto &by = worker();
+        std::uint64_t word = 0;
+        if (!expected) {
+            if (by.insert_value(key, std::forward<Value>(value))) return true;
+            bool is_found = by.finds_value(key, word);
+            expected = detail::found<T>(is_found, word);
+            return false;
+        }
+        nm_outcome outcome = by.compare_put(key, word_of(expected), std::forward<Value>(value), word);
+        if (outcome != NM_REPLACED) expected = detail::found<T>(outcome == NM_OTHER, word);
+        return outcome == NM_REPLACED;
+    }
+
+    // Gives a key the value that a function makes of the one that it has, or of nothing if it is
+    // absent; returns the new value. The function gets a `Found`, and is called again if another
+    // call has changed the key in between. It may make calls by other workers: it is called outside
+    // of every lock, and this worker is not pinned. It returns a T, or a `std::unique_ptr<T>`.
+    template <typename F>
+    detail::Returned<T> update(Key key, F f) {
+        Found old = static_cast<Of &>(*this).get(key);
+        for (;;) {
+            if constexpr (detail::is_in_place<T>) {
+                T value = static_cast<T>(f(std::as_const(old)));
+                if (compare_exchange(key, old, value)) return value;
+            } else {
+                std::unique_ptr<T> object = owned(f(std::as_const(old)));
+                T *at = object.get();
+                if (compare_exchange(key, old, std::move(object))) return at;
+            }
+        }
+    }
+
+private:
+    auto &worker() {
+        static_assert(detail::is_in_place<T> || std::is_same_v<Of, GuardedWorker<T>>,
+                      "an object is returned under a guard of another worker: other.under(guard)");
+        return static_cast<Of &>(*this).worker_of_calls();
+    }
+
+    static std::uint64_t word_of(const Found &of) noexcept {
+        if constexpr (detail::is_in_place<T>)
+            return detail::word_of(*of);
+        else
+            return detail::word_of_object<T>(of);
+    }
+
+    template <typename Value>
+    static std::unique_ptr<T> owned(Value &&value) {
+        if constexpr (std::is_constructible_v<T, Value &&>)
+            return MapWorker<T>::made(std::forward<Value>(value));
+        else
+            return std::unique_ptr<T>(std::forward<Value>(value));
+    }
+};
+
 // One worker of a map, for one thread at a time. It can be moved and not copied; a worker that was
 // moved from is closed. Its end returns it to the map, ends its pin, and frees what was reclaimed.
 // If the map ends before its workers, the last of them empties it.
@@ -524,9 +614,10 @@ private:
 // Each call throws NM_KEY if the key is above 2^64 - 4; NM_BUSY if the bounds of the options were
 // reached, and then the map is unchanged; NM_PINNED while the worker has a guard; NM_IN_USE if
 // another thread is in a call by this worker; NM_NO_MEMORY; and NM_CLOSED. No call waits, except
-// `insert` and `emplace`.
+// those that give the map a value.
 template <typename T>
-class MapWorker : public MapCalls<MapWorker<T>, detail::EntryOfWorker<T>> {
+class MapWorker : public MapCalls<MapWorker<T>, detail::EntryOfWorker<T>>,
+                  public MapPuts<MapWorker<T>, T> {
 public:
     using key_type = std::uint64_t;  // a key
     using mapped_type = T;  // what a key has
@@ -560,7 +651,7 @@ public:
         (void)ask([&](nm_handle *it) { return nm_map_queue_len(it, &waiting); });
         if (waiting != 0)
             (void)counted([&](nm_handle *it, Counted *released) {
-                return nm_map_take_back(it, Counted::release, released, nullptr);
+                return nm_map_take_back(it, place_->counts(), Counted::release, released, nullptr);
             });
         (void)ask([&](nm_handle *it) { return nm_map_return(place_->counts(), it); });
         (void)ask(nm_drop);  // if it was not returned
@@ -580,13 +671,7 @@ public:
     template <typename U, std::enable_if_t<std::is_convertible_v<U *, T *>, int> = 0>
     bool insert(Key key, std::unique_ptr<U> &&object) {
         static_assert(!detail::is_in_place<T>, "a T of at most 8 bytes is inserted by its value");
-        static_assert(std::is_same_v<std::remove_cv_t<U>, std::remove_cv_t<T>> ||
-                          std::has_virtual_destructor_v<T>,
-                      "the map frees the object as a T, which needs a virtual destructor");
-        if (object == nullptr) throw std::invalid_argument("nm::Map: the object is null");
-        bool inserted = put(key, detail::word_of_object<T>(object.get()));
-        if (inserted) (void)object.release();
-        return inserted;
+        return give_object(key, std::move(object), inserting(key)) == NM_YES;
     }
 
     // Inserts a key with a value in place; returns whether the key was absent. It waits like the
@@ -594,7 +679,7 @@ public:
     bool insert(Key key, const T &value) {
         static_assert(detail::is_in_place<T>,
                       "a T of more than 8 bytes is inserted by emplace, or as a unique_ptr");
-        return put(key, detail::word_of(value));
+        return insert_value(key, value);
     }
 
     // Makes an object of these arguments and inserts it; returns whether the key was absent. If it
@@ -625,6 +710,25 @@ public:
     template <typename Input, typename = typename std::iterator_traits<Input>::iterator_category>
     std::uint64_t insert(Input first, Input last) {
         return insert_each(first, last, [](const auto &key) { return Key(key); });
+    }
+
+    // Inserts a key with a value, or replaces the value that it has, in one step: no call finds the
+    // key absent meanwhile. Returns whether the key was absent, like `std::map::insert_or_assign`. It
+    // makes an object of the value, or takes it if it is a `unique_ptr`; after a fault that has it as
+    // before. The old object is freed later, as after `remove`; `exchange` returns the old value. It
+    // waits like `insert`.
+    template <typename Value = T>
+    bool insert_or_assign(Key key, Value &&value) {
+        std::uint64_t unused = 0;
+        return put(nm_map_wait_put, key, std::forward<Value>(value), unused) == NM_INSERTED;
+    }
+
+    // Replaces the value that a key has, in the same way; returns whether the key was present. After
+    // false nothing is changed, and a `unique_ptr` has its object as before.
+    template <typename Value = T>
+    bool replace(Key key, Value &&value) {
+        std::uint64_t unused = 0;
+        return put(nm_map_wait_replace, key, std::forward<Value>(value), unused) == NM_REPLACED;
     }
 
     // Removes a key; returns whether it was present. Its object is freed later, when no guard can
@@ -757,7 +861,8 @@ public:
         Reclaimed result{0, std::nullopt};
         std::uint32_t behind = NM_NOBODY;
         detail::answered_by_map(counted([&](nm_handle *it, Counted *released) {
-            nm_outcome outcome = nm_map_take_back(it, Counted::release, released, &behind);
+            nm_outcome outcome = nm_map_take_back(it, place_->counts(), Counted::release, released,
+                                                  &behind);
             result.values = released->values;
             return outcome;
         }));
@@ -765,7 +870,8 @@ public:
         return result;
     }
 
-    // Returns the number of nodes that wait with this worker, two for each removed key.
+    // Returns the number of nodes that wait with this worker: two for each removed key, and one for
+    // each replaced value.
     [[nodiscard]] std::uint64_t waiting() const {
         std::uint64_t nodes = 0;
         done(0, [&](nm_handle *it, const nm_options *) { return nm_map_queue_len(it, &nodes); });
@@ -791,6 +897,8 @@ private:
     friend class Map;
     template <typename, typename>
     friend class MapCalls;
+    template <typename, typename>
+    friend class MapPuts;
     template <typename, typename>
     friend class MapWorkerOf;
     friend class MapGuard<T>;
@@ -824,13 +932,11 @@ private:
         return call(&handle_);
     }
 
-    // Makes a call of C that releases values, and counts them; returns its outcome.
+    // Makes a call of C that releases values; returns its outcome.
     template <typename Call>
     nm_outcome counted(Call call) const {
         Counted released{place_.get(), 0};
-        nm_outcome outcome = ask([&](nm_handle *it) { return call(it, &released); });
-        if (released.values != 0) nm_map_count_released(place_->counts(), number_, released.values);
-        return outcome;
+        return ask([&](nm_handle *it) { return call(it, &released); });
     }
 
     // Makes a call of C with the options, for a key; returns whether its answer is not NM_NO.
@@ -879,17 +985,81 @@ private:
         return has_more;
     }
 
-    // Inserts a key with a word; returns whether the key was absent.
-    bool put(std::uint64_t key, std::uint64_t word) {
+    // Makes a call of C that gives the map the word of a value, with what each such call takes; returns
+    // its outcome, which is no error. If the map takes an object, a `unique_ptr` gives it up.
+    template <typename Value, typename Call>
+    nm_outcome give(std::uint64_t key, Value &&value, Call call) {
+        if constexpr (detail::is_in_place<T>) {
+            static_assert(!detail::is_owner<std::decay_t<Value>>,
+                          "a T of at most 8 bytes is inserted by its value");
+            return give_word(key, detail::word_of(static_cast<T>(std::forward<Value>(value))), call);
+        } else if constexpr (std::is_constructible_v<T, Value &&>) {
+            return give_object(key, made(std::forward<Value>(value)), call);
+        } else {
+            static_assert(detail::is_owner<Value>,
+                          "no T is made of the value; if it is a unique_ptr, write std::move(it)");
+            return give_object(key, std::move(value), call);
+        }
+    }
+
+    template <typename U, typename Call>
+    nm_outcome give_object(std::uint64_t key, std::unique_ptr<U> &&object, Call call) {
+        static_assert(std::is_same_v<std::remove_cv_t<U>, std::remove_cv_t<T>> ||
+                          std::has_virtual_destructor_v<T>,
+                      "the map frees the object as a T, which needs a virtual destructor");
+        if (object == nullptr) throw std::invalid_argument("nm::Map: the object is null");
+        nm_outcome outcome = give_word(key, detail::word_of_object<T>(object.get()), call);
+        if (detail::is_taken(outcome)) (void)object.release();
+        return outcome;
+    }
+
+    template <typename Call>
+    nm_outcome give_word(std::uint64_t key, std::uint64_t word, Call call) {
         nm_outcome outcome = counted([&](nm_handle *it, Counted *released) {
-            return nm_map_put(place_->handle(), it, key, word, place_->options(),
-                              place_->counts(), Counted::release, released,
-                              place_->timeout_ms());
+            return call(it, word, released);
         });
         if (outcome == NM_FULL) fail_full();
-        bool inserted = detail::answered_by_map(outcome, key);
+        detail::answered_by_map(outcome, key);
         nm_map_count_insert(place_->counts(), number_, outcome);
-        return inserted;
+        return outcome;
+    }
+
+    // Returns the call of C that inserts a key.
+    auto inserting(std::uint64_t key) {
+        return [this, key](nm_handle *it, std::uint64_t word, Counted *released) {
+            return nm_map_wait_insert(place_->handle(), it, key, word, place_->options(),
+                                      place_->counts(), Counted::release, released,
+                                      place_->timeout_ms());
+        };
+    }
+
+    // Inserts a key with a value; returns whether the key was absent.
+    template <typename Value>
+    bool insert_value(std::uint64_t key, Value &&value) {
+        return give(key, std::forward<Value>(value), inserting(key)) == NM_YES;
+    }
+
+    // Puts a value by nm_map_wait_put or nm_map_wait_replace, and writes the word of the old one.
+    template <typename Value, typename Call>
+    nm_outcome put(Call call, std::uint64_t key, Value &&value, std::uint64_t &old) {
+        return give(key, std::forward<Value>(value),
+                    [&](nm_handle *it, std::uint64_t word, Counted *released) {
+            return call(place_->handle(), it, key, word, place_->options(), place_->counts(),
+                        Counted::release, released, &old, place_->timeout_ms());
+        });
+    }
+
+    // Puts a value in place of the expected one, and writes the word of the one that it found.
+    template <typename Value>
+    nm_outcome compare_put(std::uint64_t key, std::uint64_t expected, Value &&value,
+                           std::uint64_t &found) {
+        return give(key, std::forward<Value>(value),
+                    [&](nm_handle *it, std::uint64_t word, Counted *released) {
+            return nm_map_wait_compare_replace(place_->handle(), it, key, expected, word,
+                                               place_->options(), place_->counts(),
+                                               Counted::release, released, &found,
+                                               place_->timeout_ms());
+        });
     }
 
     // Inserts pairs, whose keys a function returns.
@@ -904,18 +1074,11 @@ private:
         return inserted;
     }
 
-    template <typename Value>
-    bool insert_value(Key key, Value &&value) {
-        if constexpr (std::is_constructible_v<T, Value &&>)
-            return emplace(key, std::forward<Value>(value));
-        else
-            return insert(key, std::forward<Value>(value));
-    }
-
     [[noreturn]] void fail_full() {
+        std::uint64_t waiting = nm_map_counts_waiting(place_->counts());
         std::uint32_t behind = reclaim().behind.value_or(NM_NOBODY);
         nm_fullness full{};
-        nm_map_fullness(place_->nodes(), nm_map_counts_keys(place_->counts()), behind, &full);
+        nm_map_fullness(place_->nodes(), nm_map_counts_keys(place_->counts()), waiting, behind, &full);
         detail::fail(NM_FULL, [&] {
             char text[640];
             return std::string(nm_map_full_words(&full, text, sizeof text));
@@ -932,7 +1095,7 @@ private:
     template <typename Call>
     nm_outcome removed(Call call) {
         detail::answered_by_map(counted([&](nm_handle *it, Counted *released) {
-            return nm_map_tend(it, place_->options(), Counted::release, released);
+            return nm_map_tend(it, place_->options(), place_->counts(), Counted::release, released);
         }));
         nm_outcome outcome = ask([&](nm_handle *it) { return call(it, place_->options()); });
         nm_map_count_remove(place_->counts(), number_, outcome);
@@ -963,8 +1126,10 @@ private:
 // NM_NOT_PINNED after `unpin` of the guard. It can be copied, and must end before its worker and
 // the guard.
 template <typename T>
-class GuardedWorker : public MapCalls<GuardedWorker<T>, MapEntry<detail::Returned<T>>> {
+class GuardedWorker : public MapCalls<GuardedWorker<T>, MapEntry<detail::Returned<T>>>,
+                      public MapPuts<GuardedWorker<T>, T> {
 public:
+    using mapped_type = T;  // what a key has
     using Found = detail::Found<T>;  // `T *`, or null if the map does not have the key
 
     // Returns the object of a key, or null if the map does not have the key.
@@ -999,6 +1164,8 @@ public:
 private:
     template <typename, typename>
     friend class MapCalls;
+    template <typename, typename>
+    friend class MapPuts;
     friend class MapWorker<T>;
 
     GuardedWorker(MapWorker<T> &worker, const MapGuard<T> &guard)
@@ -1119,14 +1286,16 @@ public:
         return nm_map_counts_keys(place_->counts());
     }
 
-    // Returns the number of removed nodes that wait to be freed, with all workers: two for each key
-    // that was removed and whose object is not freed. It is exact if no call is in progress.
+    // Returns the number of nodes that wait to be freed, with all workers: two for each removed key,
+    // and one for each replaced value, whose object is not freed. It is exact if no call is in
+    // progress.
     [[nodiscard]] std::uint64_t waiting() const {
         check_open();
         return nm_map_counts_waiting(place_->counts());
     }
 
-    // Returns the number of free nodes, computed from `size` and `waiting`. An insert takes two.
+    // Returns the number of free nodes, computed from `size` and `waiting`. An insert takes two, and
+    // a replacement one.
     [[nodiscard]] std::uint64_t free() const {
         std::uint64_t taken = 2 * size() + 5 + waiting();
         return taken < nodes() ? nodes() - taken : 0;

@@ -42,8 +42,8 @@
  * handle, because each call empties it while it runs.
  *
  * What a thread wrote to memory before it inserted a key is visible to each thread whose call finds
- * or removes that key: so a key may hand over a payload. (Each atomic step of the library is
- * sequentially consistent.)
+ * or removes that key: so a key may hand over a payload. So may a value that replaces another one.
+ * (Each atomic step of the library is sequentially consistent.)
  *
  * A thread needs a stack of 16 kilobytes for each call. Tested; no clause of the proof says so.
  */
@@ -77,6 +77,11 @@ typedef enum nm_outcome {
     NM_NO = 0,            /* the answer is no */
     NM_YES = 1,           /* the answer is yes */
     NM_DONE = 2,          /* the call did what it is for */
+    NM_INSERTED = 3,      /* the key was absent, and is inserted with the value */
+    NM_REPLACED = 4,      /* the value of the key is replaced */
+    NM_ABSENT = 5,        /* the key is absent, and nothing is changed */
+    NM_OTHER = 6,         /* the key has another value than the expected one, and nothing is
+                             changed */
     NM_CLOSED = -1,       /* the handle is closed */
     NM_OPEN = -2,         /* the handle that was to be opened is open already */
     NM_KIND = -3,         /* the handle owns something of another kind */
@@ -87,9 +92,9 @@ typedef enum nm_outcome {
     NM_NO_MEMORY = -8,    /* memory was refused */
     NM_BUSY = -9,         /* other threads interfered with each try, or the call has none. Of the
                              call nothing remains but help given to others; call again */
-    NM_FULL = -10,        /* no slots were free for the two new nodes of an insert: advance and
-                             collect, and call again (nm_wait_insert of nm_wait.h); in a map, reclaim
-                             and call again */
+    NM_FULL = -10,        /* no slots were free for the two new nodes of an insert, or the one of a
+                             replacement: advance and collect, and call again (nm_wait_insert of
+                             nm_wait.h); in a map, reclaim and call again */
     NM_UNFINISHED = -11,  /* the leaf with the key is flagged and not known to be cut off: the key
                              will be removed, and is pending until nm_worker_finish or a managed
                              call by this worker finishes it. Until then it is found */
@@ -118,6 +123,10 @@ static inline const char *nm_outcome_text(nm_outcome outcome) {
     case NM_NO: return "no";
     case NM_YES: return "yes";
     case NM_DONE: return "done";
+    case NM_INSERTED: return "the key was absent, and is inserted";
+    case NM_REPLACED: return "the value of the key is replaced";
+    case NM_ABSENT: return "the key is absent";
+    case NM_OTHER: return "the key has another value than the expected one";
     case NM_CLOSED: return "the handle is closed";
     case NM_OPEN: return "the handle is open already";
     case NM_KIND: return "the handle owns something of another kind";
@@ -479,11 +488,12 @@ nm_outcome nm_worker_end(nm_handle *worker);
  * is closed, and NM_KIND if it owns something else than they say; the functions of sets and of their
  * workers return NM_KIND for a map and for its workers. nm_drop gives up either.
  *
- * A value is reclaimed after its key was removed: nm_map_reclaim frees each leaf at most once, only after
- * every worker that was pinned when it was cut off has unpinned, and writes its value. So a value may be a pointer, which
- * the program frees when it is reclaimed. A thread follows such a pointer between nm_map_pin and
- * nm_map_unpin, by nm_map_get_pinned. A value that was not inserted (any outcome but NM_YES) remains
- * the caller's.
+ * A value is reclaimed after its key was removed, or after another value has replaced it:
+ * nm_map_reclaim frees each leaf at most once, only after every worker that was pinned when it was
+ * cut off has unpinned, and writes its value. So a value may be a pointer, which the program frees
+ * when it is reclaimed. A thread follows such a pointer between nm_map_pin and nm_map_unpin, by
+ * nm_map_get_pinned. A value that the map did not take (any outcome but NM_YES, NM_INSERTED and
+ * NM_REPLACED) remains the caller's.
  *
  *     nm_handle map = NM_CLOSED_HANDLE, worker = NM_CLOSED_HANDLE;
  *     uint64_t value, back[64], count;
@@ -541,6 +551,28 @@ nm_outcome nm_map_insert(nm_handle *worker, uint64_t key, uint64_t value,
 nm_outcome nm_map_get_or_insert(nm_handle *worker, uint64_t key, uint64_t value,
                                 const nm_options *options, uint64_t *found);
 
+/* Inserts a key with a value, or replaces the value that the key has, in one step: a new leaf takes
+ * the place of the old one, so the key is never absent. Returns NM_INSERTED, or NM_REPLACED, and then
+ * writes to old the value that the key had. That value is reclaimed by nm_map_reclaim too: until
+ * then other workers may read it. An insert takes two nodes. A replacement takes one, and leaves one
+ * that waits with this worker. It returns the errors of nm_map_insert, and then writes nothing. */
+nm_outcome nm_map_put(nm_handle *worker, uint64_t key, uint64_t value, const nm_options *options,
+                      uint64_t *old);
+
+/* Replaces the value that a key has, in the same way. Returns NM_REPLACED, and writes to old the
+ * value that the key had, or NM_ABSENT. It returns the errors of nm_map_insert, and then writes
+ * nothing. */
+nm_outcome nm_map_replace(nm_handle *worker, uint64_t key, uint64_t value,
+                          const nm_options *options, uint64_t *old);
+
+/* Replaces the value that a key has, in the same way, if it is the expected one. Returns NM_REPLACED,
+ * NM_OTHER if the key has another value, or NM_ABSENT. With the first two it writes to found the
+ * value that the key had. It returns the errors of nm_map_insert, and then writes nothing. If a
+ * value may be reclaimed and come again, such as an address, pin another worker before the expected
+ * value is read, and unpin it after this call. */
+nm_outcome nm_map_compare_replace(nm_handle *worker, uint64_t key, uint64_t expected,
+                                  uint64_t value, const nm_options *options, uint64_t *found);
+
 /* Removes a key. Returns NM_YES if it was present, and writes the value that it had, or NM_NO. The
  * value is reclaimed by nm_map_reclaim too: until then other workers may read it. Errors:
  * NM_UNFINISHED: value is written too. The key will be removed by this call and no other, and it is
@@ -563,19 +595,19 @@ nm_outcome nm_map_pop_last_from(nm_handle *worker, uint64_t from, const nm_optio
                                 uint64_t *taken, uint64_t *value);
 
 /* Tries twice to advance the epoch, and then frees what has waited long enough with this worker. It
- * writes the value of each key that is freed into values, at most `room` of them, and their number
+ * writes the value of each leaf that is freed into values, at most `room` of them, and their number
  * to count. If count is room, there may be more: call again. Writes to behind the number of a worker
  * that holds the epoch back (its own, if the caller has pinned it), so that more values may be reclaimed
- * later, or NM_NOBODY if it found no such worker. Returns NM_DONE. A key's value waits with the worker
- * that cut the key off, so each worker reclaims, after every few dozen removes. values is not null,
- * even if room is 0. */
+ * later, or NM_NOBODY if it found no such worker. Returns NM_DONE. A value waits with the worker
+ * that cut its leaf off, so each worker reclaims, after every few dozen removes and replacements.
+ * values is not null, even if room is 0. */
 nm_outcome nm_map_reclaim(nm_handle *worker, uint64_t *values, size_t room, uint64_t *count,
                           uint32_t *behind);
 
 /* Pins the epoch for the caller, until nm_map_unpin, and writes it: no value that the map has now
  * is reclaimed meanwhile. A pinned worker answers nm_map_get_pinned and nm_map_get_many_pinned, and no
  * other call for keys (NM_PINNED). While it is pinned, no worker gets back a value that was removed
- * after the pin.
+ * or replaced after the pin.
  * Returns NM_DONE. Errors: NM_BUSY: the epoch that was read last is written. NM_PENDING,
  * NM_PINNED. */
 nm_outcome nm_map_pin(nm_handle *worker, uint32_t tries, uint64_t *epoch);

@@ -220,7 +220,7 @@ __attribute__((visibility("hidden"))) nm_outcome nm_host_wait(atomic_uint *words
 /* What a worker has done, and the worker itself while it is returned. */
 struct tally {
     alignas(LINE) _Atomic uint64_t keys; /* the keys that it has inserted, less those removed */
-    _Atomic uint64_t values; /* the removed keys, less the values that came back by it */
+    _Atomic uint64_t nodes; /* those of its removes and replacements, less those that it has freed */
     atomic_bool is_returned;
     nm_handle worker; /* of the thread whose exchange has found is_returned, or of nobody */
 };
@@ -265,7 +265,9 @@ static void add_to(_Atomic uint64_t *count, uint64_t change) {
 }
 
 void nm_map_count_insert(nm_map_counts *counts, uint32_t worker, nm_outcome outcome) {
-    if (outcome != NM_YES || worker >= counts->workers) return;
+    if (worker >= counts->workers) return;
+    if (outcome == NM_REPLACED) add_to(&counts->of[worker].nodes, 1);
+    if (outcome != NM_YES && outcome != NM_INSERTED) return;
     add_to(&counts->of[worker].keys, 1);
     if (atomic_load_explicit(&counts->waits[AWAITED], memory_order_relaxed) != 0)
         nm_host_wake(counts->waits);
@@ -274,15 +276,18 @@ void nm_map_count_insert(nm_map_counts *counts, uint32_t worker, nm_outcome outc
 void nm_map_count_remove(nm_map_counts *counts, uint32_t worker, nm_outcome outcome) {
     if ((outcome != NM_YES && outcome != NM_UNFINISHED) || worker >= counts->workers) return;
     add_to(&counts->of[worker].keys, UINT64_MAX);
-    add_to(&counts->of[worker].values, 1);
+    add_to(&counts->of[worker].nodes, 2);
 }
 
-void nm_map_count_released(nm_map_counts *counts, uint32_t worker, uint64_t values) {
-    if (worker < counts->workers) add_to(&counts->of[worker].values, -values);
+/* Counts nodes that a worker has freed. */
+static void count_freed(nm_map_counts *counts, nm_handle *worker, uint64_t nodes) {
+    uint32_t number = WORKERS;
+    (void)nm_map_number(worker, &number);
+    if (number < counts->workers) add_to(&counts->of[number].nodes, -nodes);
 }
 
-/* Returns a sum. A remove may be counted before the insert of its key, and a value that came back
- * before its remove. */
+/* Returns a sum. A remove may be counted before the insert of its key, and freed nodes before their
+ * remove. */
 static uint64_t sum(uint64_t total) { return total > INT64_MAX ? 0 : total; }
 
 uint64_t nm_map_counts_keys(const nm_map_counts *counts) {
@@ -296,9 +301,9 @@ uint64_t nm_map_counts_keys(const nm_map_counts *counts) {
 uint64_t nm_map_counts_waiting(const nm_map_counts *counts) {
     uint64_t total = 0;
     for (uint32_t worker = 0; worker < counts->workers; worker++)
-        total += atomic_load_explicit(&((nm_map_counts *)counts)->of[worker].values,
+        total += atomic_load_explicit(&((nm_map_counts *)counts)->of[worker].nodes,
                                       memory_order_relaxed);
-    return 2 * sum(total);
+    return sum(total);
 }
 
 /* ---- a call that waits for a key ---- */
@@ -329,12 +334,15 @@ nm_outcome nm_map_wait_first(nm_handle *worker, uint64_t below, const nm_options
 
 /* ---- how full it is ---- */
 
-int nm_map_is_brimful(uint64_t nodes, uint64_t keys) { return 2 * keys + 7 > nodes; }
+int nm_map_is_brimful(uint64_t nodes, uint64_t keys, uint64_t wanted) {
+    return 2 * keys + 5 + wanted > nodes;
+}
 
-void nm_map_fullness(uint64_t nodes, uint64_t keys, uint32_t behind, nm_fullness *fullness) {
+void nm_map_fullness(uint64_t nodes, uint64_t keys, uint64_t waiting, uint32_t behind,
+                     nm_fullness *fullness) {
     uint64_t taken = 2 * keys + 5, rest = taken < nodes ? nodes - taken : 0;
-    *fullness = (nm_fullness){.nodes = nodes, .keys = keys, .waiting = rest - rest % 2};
-    fullness->free = rest % 2;
+    *fullness = (nm_fullness){.nodes = nodes, .keys = keys, .free = waiting < rest};
+    fullness->waiting = rest - fullness->free;
     if (fullness->waiting != 0 && behind < WORKERS) fullness->behind = (uint64_t)1 << behind;
 }
 
@@ -406,33 +414,37 @@ void nm_map_drop_returned(nm_map_counts *counts) {
 
 /* ---- values that come back ---- */
 
-/* Takes back at most ROOM values, and writes how many. */
-static nm_outcome take_back_some(nm_handle *worker, nm_map_release release, void *context,
-                                 uint64_t *count, uint32_t *behind) {
-    uint64_t values[ROOM];
+/* Takes back at most ROOM values, and writes how many. It counts the nodes that it frees before
+ * `release` makes calls: a removed key has two, and a replaced value has one. */
+static nm_outcome take_back_some(nm_handle *worker, nm_map_counts *counts, nm_map_release release,
+                                 void *context, uint64_t *count, uint32_t *behind) {
+    uint64_t values[ROOM], before = 0, after = 0;
+    if (counts != NULL) (void)nm_map_queue_len(worker, &before);
     nm_outcome outcome = nm_map_reclaim(worker, values, ROOM, count, behind);
     if (outcome < 0) return outcome;
+    if (counts != NULL && nm_map_queue_len(worker, &after) == NM_DONE && after != before)
+        count_freed(counts, worker, before - after);
     for (uint64_t at = 0; at < *count; at++) release(context, values[at]);
     return outcome;
 }
 
-nm_outcome nm_map_take_back(nm_handle *worker, nm_map_release release, void *context,
-                            uint32_t *behind) {
+nm_outcome nm_map_take_back(nm_handle *worker, nm_map_counts *counts, nm_map_release release,
+                            void *context, uint32_t *behind) {
     uint32_t other = NM_NOBODY;
     uint64_t count = ROOM;
     nm_outcome outcome = NM_DONE;
     while (outcome >= 0 && count == ROOM)
-        outcome = take_back_some(worker, release, context, &count, &other);
+        outcome = take_back_some(worker, counts, release, context, &count, &other);
     if (outcome >= 0 && behind != NULL) *behind = other;
     return outcome;
 }
 
-nm_outcome nm_map_tend(nm_handle *worker, const nm_options *options, nm_map_release release,
-                       void *context) {
+nm_outcome nm_map_tend(nm_handle *worker, const nm_options *options, nm_map_counts *counts,
+                       nm_map_release release, void *context) {
     uint64_t waiting;
     nm_outcome outcome = nm_map_queue_len(worker, &waiting);
     if (outcome < 0 || waiting < options->collect_after) return outcome;
-    return nm_map_take_back(worker, release, context, NULL);
+    return nm_map_take_back(worker, counts, release, context, NULL);
 }
 
 /* Takes back what waits with the worker of a number, if it is returned or not attached. */
@@ -440,13 +452,13 @@ static nm_outcome take_back_of(nm_handle *map, nm_map_counts *counts, uint32_t n
                                nm_map_release release, void *context) {
     nm_handle worker = NM_CLOSED_HANDLE;
     if (counts != NULL && number < counts->workers && take_returned(counts, number, &worker)) {
-        (void)nm_map_take_back(&worker, release, context, NULL);
+        (void)nm_map_take_back(&worker, counts, release, context, NULL);
         put_returned(counts, number, &worker);
         return NM_DONE;
     }
     nm_outcome outcome = attach_soon(map, &worker, number);
     if (outcome < 0) return outcome;
-    outcome = nm_map_take_back(&worker, release, context, NULL);
+    outcome = nm_map_take_back(&worker, counts, release, context, NULL);
     (void)nm_drop(&worker);
     return outcome;
 }
@@ -461,27 +473,94 @@ static bool has_asked_all(nm_handle *map, nm_map_counts *counts, nm_map_release 
     return outcome != NM_IN_USE;
 }
 
-static bool is_brimful(const nm_map_counts *counts) {
-    return counts != NULL && nm_map_is_brimful(counts->nodes, nm_map_counts_keys(counts));
+/* ---- calls that give the map a value, and wait for nodes ---- */
+
+enum kind { INSERT, PUT, REPLACE, COMPARE_REPLACE };
+
+/* One of these calls. */
+struct change {
+    enum kind kind;
+    nm_handle *worker;
+    uint64_t key, expected, value;
+    const nm_options *options;
+    uint64_t *old;
+};
+
+static nm_outcome make(const struct change *it) {
+    switch (it->kind) {
+    case PUT: return nm_map_put(it->worker, it->key, it->value, it->options, it->old);
+    case REPLACE: return nm_map_replace(it->worker, it->key, it->value, it->options, it->old);
+    case COMPARE_REPLACE:
+        return nm_map_compare_replace(it->worker, it->key, it->expected, it->value, it->options,
+                                      it->old);
+    default: return nm_map_insert(it->worker, it->key, it->value, it->options);
+    }
 }
 
-nm_outcome nm_map_put(nm_handle *map, nm_handle *worker, uint64_t key, uint64_t value,
-                      const nm_options *options, nm_map_counts *counts,
-                      nm_map_release release, void *context, uint32_t timeout_ms) {
+/* Returns whether a call inserts its key, if it changes the map. */
+static bool is_insert(const struct change *it) {
+    uint64_t unused;
+    return it->kind == INSERT ||
+           (it->kind == PUT && nm_map_get(it->worker, it->key, it->options, &unused) == NM_NO);
+}
+
+/* Returns whether the keys leave a call too few nodes, even if none waits: an insert takes two, and
+ * a replacement one. */
+static bool is_brimful(const nm_map_counts *counts, const struct change *it) {
+    uint64_t keys = counts == NULL ? 0 : nm_map_counts_keys(counts);
+    if (counts == NULL || !nm_map_is_brimful(counts->nodes, keys, 2)) return false;
+    return nm_map_is_brimful(counts->nodes, keys, 1) || is_insert(it);
+}
+
+/* Makes a call, after nm_map_tend. While no nodes are free, reclaims and makes it again. */
+static nm_outcome wait_make(nm_handle *map, const struct change *it, nm_map_counts *counts,
+                            nm_map_release release, void *context, uint32_t timeout_ms) {
     nm_wait wait = {0, 0};
-    nm_outcome outcome = nm_map_tend(worker, options, release, context);
+    nm_outcome outcome = nm_map_tend(it->worker, it->options, counts, release, context);
     if (outcome < 0) return outcome;
-    outcome = nm_map_insert(worker, key, value, options);
+    outcome = make(it);
     if (outcome != NM_FULL) return outcome;
-    bool is_full = is_brimful(counts), was_full, is_asked = map == NULL;
+    bool is_full = is_brimful(counts, it), was_full, is_asked = map == NULL;
     do {
         if (!is_asked && !is_full) is_asked = has_asked_all(map, counts, release, context);
-        (void)nm_map_take_back(worker, release, context, NULL);
-        outcome = nm_map_insert(worker, key, value, options);
+        (void)nm_map_take_back(it->worker, counts, release, context, NULL);
+        outcome = make(it);
         was_full = is_full;
-        is_full = is_brimful(counts);
+        is_full = outcome == NM_FULL && is_brimful(counts, it);
     } while (outcome == NM_FULL && !(was_full && is_full) && nm_wait_on(&wait, timeout_ms));
     return outcome;
+}
+
+nm_outcome nm_map_wait_insert(nm_handle *map, nm_handle *worker, uint64_t key, uint64_t value,
+                              const nm_options *options, nm_map_counts *counts,
+                              nm_map_release release, void *context, uint32_t timeout_ms) {
+    struct change it = {INSERT, worker, key, 0, value, options, NULL};
+    return wait_make(map, &it, counts, release, context, timeout_ms);
+}
+
+nm_outcome nm_map_wait_put(nm_handle *map, nm_handle *worker, uint64_t key, uint64_t value,
+                           const nm_options *options, nm_map_counts *counts,
+                           nm_map_release release, void *context, uint64_t *old,
+                           uint32_t timeout_ms) {
+    struct change it = {PUT, worker, key, 0, value, options, old};
+    return wait_make(map, &it, counts, release, context, timeout_ms);
+}
+
+nm_outcome nm_map_wait_replace(nm_handle *map, nm_handle *worker, uint64_t key, uint64_t value,
+                               const nm_options *options, nm_map_counts *counts,
+                               nm_map_release release, void *context, uint64_t *old,
+                               uint32_t timeout_ms) {
+    struct change it = {REPLACE, worker, key, 0, value, options, old};
+    return wait_make(map, &it, counts, release, context, timeout_ms);
+}
+
+nm_outcome nm_map_wait_compare_replace(nm_handle *map, nm_handle *worker, uint64_t key,
+                                       uint64_t expected, uint64_t value,
+                                       const nm_options *options, nm_map_counts *counts,
+                                       nm_map_release release, void *context, uint64_t *found,
+                                       uint32_t timeout_ms) {
+    struct change it = {COMPARE_REPLACE, worker, key, expected, value, options, found};
+    return wait_make(map, &it, counts, release, context, timeout_ms);
 }
 
 /* ---- the end ---- */
@@ -505,7 +584,7 @@ static nm_outcome remove_all(nm_handle *worker, nm_map_release release, void *co
                            nm_default_options.tries);
         if (more < 0) return more;
         outcome = remove_each(worker, keys, count);
-        if (outcome >= 0) outcome = nm_map_take_back(worker, release, context, NULL);
+        if (outcome >= 0) outcome = nm_map_take_back(worker, NULL, release, context, NULL);
     }
     return outcome;
 }
@@ -516,7 +595,7 @@ static nm_outcome empty_by(nm_handle *worker, nm_map_release release, void *cont
     /* A managed call finishes the remove that is pending first. */
     nm_outcome outcome = nm_map_get(worker, 0, &nm_default_options, &unused);
     if (outcome >= 0) outcome = remove_all(worker, release, context);
-    if (outcome >= 0) outcome = nm_map_take_back(worker, release, context, NULL);
+    if (outcome >= 0) outcome = nm_map_take_back(worker, NULL, release, context, NULL);
     if (outcome >= 0) outcome = nm_map_queue_len(worker, &waiting);
     if (outcome < 0) return outcome;
     return waiting == 0 ? NM_DONE : NM_BEHIND;

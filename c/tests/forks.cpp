@@ -86,6 +86,7 @@ bool is_refused(Mapped &mapped, const nm::MapGuard<Canary> &guard) {
            thrown([&] { calls.pop_first(); }) == NM_FORKED &&
            thrown([&] { (void)calls.range(0u).begin(); }) == NM_FORKED &&
            thrown([&] { mapped.worker.insert(7u, std::move(object)); }) == NM_FORKED &&
+           thrown([&] { mapped.worker.replace(5u, std::move(object)); }) == NM_FORKED &&
            thrown([&] { mapped.worker.remove(5u); }) == NM_FORKED &&
            thrown([&] { (void)mapped.worker.pin(); }) == NM_FORKED &&
            thrown([&] { mapped.worker.reclaim(); }) == NM_FORKED &&

@@ -1,8 +1,7 @@
 /* Tests the calls of nm_map.h: each value is handed over once, when it has come back; what is
  * refused leaves the value with its caller; and a drain hands over all that is left, in whatever
  * state the workers were returned. */
-#include "holds.h"
-#include "nm_map.h"
+#include "map_parts.h"
 
 #include <pthread.h>
 #include <stdio.h>
@@ -25,8 +24,8 @@ static void give_back(void *context, uint64_t value) {
 }
 
 static nm_outcome put_for(nm_handle *map, nm_handle *worker, uint64_t key, uint32_t timeout_ms) {
-    return nm_map_put(map, worker, key, NONE + key, &nm_default_options, NULL, give_back, &total,
-                      timeout_ms);
+    return nm_map_wait_insert(map, worker, key, NONE + key, &nm_default_options, NULL, give_back,
+                              &total, timeout_ms);
 }
 
 static void put_below(nm_handle *map, nm_handle *worker, uint64_t below) {
@@ -60,18 +59,6 @@ static void end(nm_handle *map) {
     CHECK(nm_drop(map) == NM_DONE);
 }
 
-static uint64_t waiting(nm_handle *worker) {
-    uint64_t nodes = 0;
-    CHECK(nm_map_queue_len(worker, &nodes) == NM_DONE);
-    return nodes;
-}
-
-static uint64_t now_ms(void) {
-    struct timespec time;
-    CHECK(timespec_get(&time, TIME_UTC) == TIME_UTC);
-    return (uint64_t)time.tv_sec * 1000 + (uint64_t)time.tv_nsec / 1000000;
-}
-
 /* The time that a processor has spent on this process. */
 static uint64_t spent_ms(void) { return (uint64_t)clock() / (CLOCKS_PER_SEC / 1000); }
 
@@ -90,7 +77,7 @@ static void values_come_back_once(void) {
     CHECK(put_for(&map, &worker, 5, 0) == NM_NO && total == 0);
     for (uint64_t key = 0; key < KEYS; key++) remove_key(&worker, key);
     CHECK(waiting(&worker) == 2 * KEYS && total == 0);
-    CHECK(nm_map_take_back(&worker, give_back, &total, &behind) == NM_DONE && behind == NM_NOBODY);
+    CHECK(nm_map_take_back(&worker, NULL, give_back, &total, &behind) == NM_DONE && behind == NM_NOBODY);
     CHECK(waiting(&worker) == 0);
     each_once(KEYS);
     CHECK(nm_drop(&worker) == NM_DONE);
@@ -103,10 +90,10 @@ static void a_worker_is_tended_when_enough_nodes_wait(void) {
     CHECK(nm_map_attach(&map, &worker) == NM_DONE);
     put_below(&map, &worker, 4);
     for (uint64_t key = 0; key < 4; key++) {
-        CHECK(nm_map_tend(&worker, &often, give_back, &total) == NM_DONE && total == 0);
+        CHECK(nm_map_tend(&worker, &often, NULL, give_back, &total) == NM_DONE && total == 0);
         remove_key(&worker, key);
     }
-    CHECK(nm_map_tend(&worker, &often, give_back, &total) == NM_DONE && waiting(&worker) == 0);
+    CHECK(nm_map_tend(&worker, &often, NULL, give_back, &total) == NM_DONE && waiting(&worker) == 0);
     each_once(4);
     CHECK(nm_drop(&worker) == NM_DONE);
     end(&map);
@@ -126,7 +113,7 @@ static void a_put_waits_for_nodes(void) {
     begin = now_ms();
     CHECK(put_for(&map, &worker, 1, 50) == NM_FULL && now_ms() - begin >= 49 && total == 0);
     CHECK(put_for(NULL, &worker, 1, 0) == NM_FULL && total == 0);
-    CHECK(nm_map_take_back(&worker, give_back, &total, &behind) == NM_DONE && behind == 0);
+    CHECK(nm_map_take_back(&worker, NULL, give_back, &total, &behind) == NM_DONE && behind == 0);
     CHECK(nm_map_unpin(&reader) == NM_DONE && put_for(NULL, &worker, 1, 0) == NM_YES);
     each_once(1);
     remove_key(&worker, 1);
@@ -149,7 +136,7 @@ static void a_put_takes_back_from_returned_workers(void) {
     CHECK(put_for(&map, &worker, 5, 0) == NM_YES);
     each_once(2);
     remove_key(&worker, 5);
-    CHECK(nm_map_take_back(&worker, give_back, &total, NULL) == NM_DONE && times[5] == 1);
+    CHECK(nm_map_take_back(&worker, NULL, give_back, &total, NULL) == NM_DONE && times[5] == 1);
     total = times[5] = 0;
     CHECK(nm_drop(&worker) == NM_DONE);
     end(&map);
@@ -157,8 +144,8 @@ static void a_put_takes_back_from_returned_workers(void) {
 
 /* Puts a key, and counts it, within twenty seconds at most. */
 static nm_outcome put_counted(nm_handle *worker, nm_map_counts *counts, uint64_t key) {
-    nm_outcome outcome = nm_map_put(NULL, worker, key, NONE + key, &nm_default_options, counts,
-                                    give_back, &total, 20000);
+    nm_outcome outcome = nm_map_wait_insert(NULL, worker, key, NONE + key, &nm_default_options,
+                                            counts, give_back, &total, 20000);
     nm_map_count_insert(counts, 0, outcome);
     return outcome;
 }
@@ -192,19 +179,19 @@ static void a_full_map_says_its_numbers(void) {
                                    "to be freed";
     char text[640];
     nm_fullness fullness;
-    nm_map_fullness(10, 2, 3, &fullness);
+    nm_map_fullness(10, 2, 0, 3, &fullness);
     CHECK(fullness.waiting == 0 && fullness.free == 1 && fullness.behind == 0);
     CHECK(strcmp(nm_map_full_words(&fullness, text, sizeof text), all) == 0);
     CHECK(strlen(nm_map_full_words(&fullness, text, 12)) == 11);
-    nm_map_fullness(65536, 1200, NM_NOBODY, &fullness);
+    nm_map_fullness(65536, 1200, 63130, NM_NOBODY, &fullness);
     CHECK(fullness.waiting == 63130 && fullness.free == 1 && fullness.behind == 0);
-    nm_map_fullness(65536, 1200, 3, &fullness);
+    nm_map_fullness(65536, 1200, 63130, 3, &fullness);
     CHECK(strcmp(nm_map_full_words(&fullness, text, sizeof text),
                  "the map is full: its 1,200 keys take 2,405 of its 65,536 nodes, and 63,130 wait "
                  "to be freed; worker 3 is in their way, by a pin or in a call") == 0);
-    nm_map_fullness(7, UINT32_MAX, 3, &fullness);
+    nm_map_fullness(7, UINT32_MAX, 0, 3, &fullness);
     CHECK(fullness.waiting == 0 && fullness.free == 0);
-    CHECK(nm_map_is_brimful(10, 2) && nm_map_is_brimful(9, 2) && !nm_map_is_brimful(11, 2));
+    CHECK(nm_map_is_brimful(10, 2, 2) && nm_map_is_brimful(9, 2, 2) && !nm_map_is_brimful(11, 2, 2));
 }
 
 /* What a thread leaves that was stopped in the middle of an attach, and then goes on. */
@@ -245,7 +232,7 @@ static void a_hold_is_a_pin(void) {
     CHECK(nm_map_get_pinned(&worker, 0, &value) == NM_YES && value == NONE);
     CHECK(put_for(&map, &worker, 1, 0) == NM_PINNED && nm_map_unpin(&worker) == NM_DONE);
     remove_key(&worker, 0);
-    CHECK(nm_map_take_back(&worker, give_back, &total, NULL) == NM_DONE);
+    CHECK(nm_map_take_back(&worker, NULL, give_back, &total, NULL) == NM_DONE);
     each_once(1);
     CHECK(nm_drop(&worker) == NM_DONE);
     end(&map);
@@ -300,7 +287,7 @@ static nm_handle own = NM_CLOSED_HANDLE;
 static void look_and_give_back(void *context, uint64_t value) {
     uint64_t unused;
     CHECK(nm_map_get(&own, value - NONE, &nm_default_options, &unused) == NM_NO);
-    CHECK(nm_map_take_back(&own, give_back, context, NULL) == NM_DONE);
+    CHECK(nm_map_take_back(&own, NULL, give_back, context, NULL) == NM_DONE);
     give_back(context, value);
 }
 
@@ -310,7 +297,7 @@ static void a_value_may_be_given_back_by_more_calls(void) {
     CHECK(nm_map_attach(&map, &own) == NM_DONE);
     put_below(&map, &own, KEYS);
     for (uint64_t key = 0; key < KEYS; key++) remove_key(&own, key);
-    CHECK(nm_map_take_back(&own, look_and_give_back, &total, NULL) == NM_DONE);
+    CHECK(nm_map_take_back(&own, NULL, look_and_give_back, &total, NULL) == NM_DONE);
     each_once(KEYS);
     CHECK(nm_drop(&own) == NM_DONE);
     end(&map);
@@ -364,8 +351,9 @@ static void *change(void *given) {
     part *self = given;
     for (uint64_t call = 0; call < CALLS; call++) {
         uint64_t key = call % FEW;
-        nm_outcome outcome = nm_map_put(NULL, &self->worker, key, key, &nm_default_options, NULL,
-                                        count, &self->returned, 60000);
+        nm_outcome outcome = nm_map_wait_insert(NULL, &self->worker, key, key,
+                                                &nm_default_options, NULL, count, &self->returned,
+                                                60000);
         CHECK(outcome == NM_YES || outcome == NM_NO || outcome == NM_BUSY);
         self->inserted += outcome == NM_YES;
         remove_once(self, call * 7 % FEW, call % 3 == 0);
@@ -402,8 +390,8 @@ static void wrong_handles_are_refused(void) {
     begin = now_ms();
     CHECK(nm_map_wait_attach(&map, &other, 20) == NM_NO_WORKER && now_ms() - begin >= 19);
     CHECK(nm_map_wait_attach(&worker, &other, 20) == NM_KIND);
-    CHECK(nm_map_tend(&map, &often, give_back, &total) == NM_KIND);
-    CHECK(nm_map_take_back(&other, give_back, &total, NULL) == NM_CLOSED);
+    CHECK(nm_map_tend(&map, &often, NULL, give_back, &total) == NM_KIND);
+    CHECK(nm_map_take_back(&other, NULL, give_back, &total, NULL) == NM_CLOSED);
     CHECK(nm_map_hold(&other, &often, &epoch) == NM_CLOSED);
     CHECK(put_for(&map, &map, 5, 0) == NM_KIND && put_for(&map, &worker, UINT64_MAX, 0) == NM_KEY);
     CHECK(nm_map_drain(&worker, give_back, &total, 20) == NM_KIND);

@@ -65,13 +65,15 @@ void get(Workers &by, std::uint64_t key, Counts &counts) {
     CHECK(found->is_of(key));
 }
 
-// Inserts an object. If other threads hold back all nodes for its time, the object remains.
+// Inserts an object, or by every second call also puts it in place of another one. If other threads
+// hold back all nodes for its time, the object remains.
 void insert(Objects::Worker &worker, std::uint64_t key, Counts &counts) {
     auto object = std::make_unique<Canary>(key);
-    counts.inserts++;
+    bool is_put = counts.inserts++ % 2 == 0;
     try {
-        bool inserted = worker.insert(key, std::move(object));
-        CHECK(inserted == (object == nullptr));
+        bool inserted = is_put ? worker.insert_or_assign(key, std::move(object))
+                               : worker.insert(key, std::move(object));
+        CHECK((is_put || inserted) == (object == nullptr));
         counts.inserted += inserted;
     } catch (const nm::Fault &fault) {
         CHECK(fault.outcome() == NM_FULL && object->is_of(key));

@@ -25,6 +25,9 @@ static void each_call_tells(nm_handle *worker, uint64_t key, nm_outcome wanted) 
           nm_map_insert(worker, key, 1, usual) == wanted &&
           nm_map_get_or_insert(worker, key, 1, usual, &value) == wanted &&
           nm_map_remove(worker, key, usual, &value) == wanted);
+    CHECK(nm_map_put(worker, key, 1, usual, &value) == wanted &&
+          nm_map_replace(worker, key, 1, usual, &value) == wanted &&
+          nm_map_compare_replace(worker, key, 500, 1, usual, &value) == wanted);
     CHECK(nm_map_next(worker, key, TRIES, &next, &value) == wanted &&
           nm_map_prev(worker, key, TRIES, &next, &value) == wanted);
     CHECK(nm_map_scan(worker, key, UINT64_MAX, keys, 2, &count, &next, TRIES) == wanted &&

@@ -435,13 +435,13 @@ static void ended(void) {
 
 /* Each outcome has words of its own, and so has a number that is none. */
 static void texts(void) {
-    for (int first = NM_NO_WORKER - 1; first <= NM_DONE; first++)
+    for (int first = NM_NO_WORKER - 1; first <= NM_OTHER; first++)
         for (int second = NM_NO_WORKER - 1; second < first; second++)
             CHECK(strcmp(nm_outcome_text((nm_outcome)first), nm_outcome_text((nm_outcome)second)) !=
                   0);
     CHECK(strcmp(nm_outcome_text(NM_FULL),
                  "no nodes are free for the new key: advance, collect and call again") == 0);
-    CHECK(strcmp(nm_outcome_text((nm_outcome)(NM_DONE + 1)),
+    CHECK(strcmp(nm_outcome_text((nm_outcome)(NM_OTHER + 1)),
                  nm_outcome_text((nm_outcome)(NM_NO_WORKER - 1))) == 0);
 }
 

@@ -48,6 +48,25 @@ void fill(Objects &map) {
         CHECK(at_last([&] { return worker.emplace(key * 37 % 151, key * 37 % 151); }));
 }
 
+// Puts objects in place of others. Each put that was refused has left its object, and the old one is
+// there until it succeeds.
+void replace(Objects &map) {
+    Objects::Worker worker = at_last([&] { return map.attach(); });
+    std::uint64_t before = Canary::alive();
+    for (std::uint64_t key = 0; key < keys; key++) {
+        std::unique_ptr<Canary> object;
+        while (object == nullptr) object.reset(new (std::nothrow) Canary(key));
+        CHECK(!at_last([&] {
+            CHECK(object->is_of(key) && at_last([&] { return worker.contains(key); }));
+            return worker.insert_or_assign(key, std::move(object));
+        }));
+        CHECK(object == nullptr);
+    }
+    CHECK(map.size() == keys && Canary::alive() > before);
+    worker.reclaim();
+    CHECK(Canary::alive() == before && map.waiting() == 0);
+}
+
 // Removes keys by two workers, while one of them holds the objects back.
 void remove(Objects &map) {
     Objects::Worker reader = at_last([&] { return map.attach(); });
@@ -109,6 +128,7 @@ int main() {
     {
         Objects map = at_last([] { return Objects(nodes, workers); });
         fill(map);
+        replace(map);
         remove(map);
         pop(map);
         make_of_pairs();

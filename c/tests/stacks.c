@@ -85,6 +85,13 @@ static void get_values(void) {
     CHECK(nm_map_scan_entries(&map_worker, 0, 999, entries, 64, &count, &next, 64) == NM_YES &&
           nm_map_scan_entries_back(&map_worker, 299, 0, entries, 64, &count, &next, 64) == NM_YES);
 }
+static void put_values(void) {
+    for (uint64_t key = 0; key < 100; key++)
+        CHECK(nm_map_put(&map_worker, key, 7, &nm_default_options, &word) == NM_REPLACED &&
+              nm_map_replace(&map_worker, key, 8, &nm_default_options, &word) == NM_REPLACED &&
+              nm_map_compare_replace(&map_worker, key, 8, 9, &nm_default_options, &word) ==
+                  NM_REPLACED);
+}
 static void take_values(void) {
     uint64_t values[64];
     for (uint64_t key = 0; key < 200; key++)
@@ -151,7 +158,8 @@ static const call calls[] = {
     {"nm_drop of its set", drop_set}, {"nm_worker_end", end},
     {"nm_drop of its report", drop_report}, {"nm_map_new", make_map}, {"nm_map_attach", attach_map},
     {"nm_map_insert", insert_values}, {"values and keys", get_values},
-    {"values that come back", take_values}, {"nm_drop of a map's worker", drop_map_worker},
+    {"replaced values", put_values}, {"values that come back", take_values},
+    {"nm_drop of a map's worker", drop_map_worker},
     {"nm_map_attached", map_away}, {"nm_map_worker", take_map},
     {"nm_drop of it again", drop_map_worker}, {"nm_map_close", close_map},
     {"nm_pool_new", make_pool}, {"nm_pool_contains", find_first},

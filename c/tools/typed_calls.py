@@ -25,8 +25,8 @@ COMPARED = {
     "cpp": [
         (30, [(SET, "InOrder", "Keys", "Set")], [(KEYS, "OrderedOf", "ValuesOf", "SetOf")]),
         (7, [(MAP, "Map")], [(KEYS, "MapOf")]),
-        (30, [(SET, "InOrder"), (MAP, "MapCalls", "MapWorker")], [(KEYS, "OrderedOf", "EntriesOf", "MapWorkerOf")]),
-        (15, [(SET, "InOrder"), (MAP, "MapCalls", "GuardedWorker")],
+        (30, [(SET, "InOrder"), (MAP, "MapCalls", "MapPuts", "MapWorker")], [(KEYS, "OrderedOf", "EntriesOf", "MapWorkerOf")]),
+        (15, [(SET, "InOrder"), (MAP, "MapCalls", "MapPuts", "GuardedWorker")],
          [(KEYS, "OrderedOf", "EntriesOf", "GuardedWorkerOf")]),
         (5, [(MAP, "MapGuard")], [(KEYS, "MapGuardOf")]),
     ],
@@ -34,8 +34,10 @@ COMPARED = {
         (30, [("set.rs", "Set")], [("typed.rs", "SetOf")]),
         (40, [("worker.rs", "Worker")], [("typed_worker.rs", "WorkerOf")]),
         (9, [("map.rs", "Map")], [("typed_map.rs", "MapOf")]),
-        (25, [("map.rs", "MapWorker"), ("map_order.rs", "MapWorker")], [("typed_map.rs", "MapWorkerOf")]),
-        (15, [("map_order.rs", "GuardedWorker")], [("typed_map.rs", "GuardedWorkerOf")]),
+        (25, [("map.rs", "MapWorker"), ("map_order.rs", "MapWorker"), ("map_puts.rs", "MapWorker")],
+         [("typed_map.rs", "MapWorkerOf")]),
+        (15, [("map_order.rs", "GuardedWorker"), ("map_puts.rs", "GuardedWorker")],
+         [("typed_map.rs", "GuardedWorkerOf")]),
         (3, [("map.rs", "Guard")], [("typed_map.rs", "GuardOf")]),
     ],
 }

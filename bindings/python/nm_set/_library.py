@@ -166,6 +166,9 @@ FUNCTIONS: dict[str, list[Any]] = {
     "nm_map_close": [_H],
     "nm_map_wait_attach": [_H, _H, c_uint32],
     "nm_map_insert": [_H, c_uint64, c_uint64, _OPTIONS],
+    "nm_map_put": [_H, c_uint64, c_uint64, _OPTIONS, _U64],
+    "nm_map_replace": [_H, c_uint64, c_uint64, _OPTIONS, _U64],
+    "nm_map_compare_replace": [_H, c_uint64, c_uint64, c_uint64, _OPTIONS, _U64],
     "nm_map_remove": [_H, c_uint64, _OPTIONS, _U64],
     "nm_map_pop_first_below": [_H, c_uint64, _OPTIONS, _U64, _U64],
     "nm_map_pop_last_from": [_H, c_uint64, _OPTIONS, _U64, _U64],
@@ -185,8 +188,8 @@ FUNCTIONS: dict[str, list[Any]] = {
     "nm_map_count": [_H, c_uint64, c_uint64, _U64, _OPTIONS],
     "nm_map_queue_len": [_H, _U64],
     "nm_map_collect_after": [c_uint32, c_uint32],
-    "nm_map_is_brimful": [c_uint64, c_uint64],
-    "nm_map_fullness": [c_uint64, c_uint64, c_uint32, POINTER(FullnessWords)],
+    "nm_map_is_brimful": [c_uint64, c_uint64, c_uint64],
+    "nm_map_fullness": [c_uint64, c_uint64, c_uint64, c_uint32, POINTER(FullnessWords)],
     "nm_map_full_words": [POINTER(FullnessWords), c_char_p, c_size_t],
     "nm_report_slots": [_H, _U32, _U32],
     "nm_report_keys": [_H, _U64],
@@ -220,6 +223,10 @@ GROWS: Final = 2**64 - 1
 NO: Final = 0
 YES: Final = 1
 DONE: Final = 2
+INSERTED: Final = 3
+REPLACED: Final = 4
+ABSENT: Final = 5
+OTHER: Final = 6
 CLOSED: Final = -1
 OPEN: Final = -2
 KIND: Final = -3

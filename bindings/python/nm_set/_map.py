@@ -14,8 +14,8 @@ then the key was removed meanwhile, and the call looks again.
 
 A call that removes a key returns its object, but by then another worker may have reclaimed the
 token. So there are two dicts. An entry of `_read` ends when the token is reclaimed, and an entry of
-`_left` when the call that removed the key has taken it. Each entry ends once, by one call, so no
-two calls need to agree. The object itself ends with the later one of the two, like any object of
+`_left` when the call that removed the key, or replaced its object, has taken it. Each entry ends
+once, by one call, so no two calls need to agree. The object itself ends with the later one of the two, like any object of
 Python.
 """
 
@@ -148,7 +148,8 @@ class Map(Views[int, V]):
         self._tokens = itertools.count()
         self._read: dict[int, V] = {}
         self._left: dict[int, V] = {}
-        self._new: set[int] = set()  # the tokens of inserts that have not ended
+        self._new: set[int] = set()  # the tokens of calls that give objects and have not ended
+        self._replaced: set[int] = set()  # the tokens of replaced objects that wait, in one node each
         self._idle: deque[_Worker] = deque()
         self._closer, self._is_open, self._process = threading.RLock(), True, os.getpid()
         # Of calls that wait for a key: what wakes them, how many wait, and what changes then.
@@ -215,9 +216,10 @@ class Map(Views[int, V]):
         return fault(outcome)
 
     def _full(self, worker: _Worker) -> Fault:
-        """Returns the exception of an insert by a worker that found no nodes."""
+        """Returns the exception of a call by a worker that found no nodes."""
         words, text = c.FullnessWords(), create_string_buffer(640)
-        c.quick.nm_map_fullness(self._nodes, self._keys(), worker.behind, words)
+        numbers = self._nodes, self._keys(), self.waiting(), worker.behind
+        c.quick.nm_map_fullness(*numbers, words)
         return fault(c.FULL, c.quick.nm_map_full_words(words, text, len(text)).decode())
 
     def _with_worker(self, call: Callable[[_Worker], T]) -> T:
@@ -256,6 +258,7 @@ class Map(Views[int, V]):
         """Ends the references to objects. This may run code of theirs, so the worker is idle
         again."""
         for token in tokens:
+            self._replaced.discard(token)
             self._read.pop(token, None)
 
     def _take_back_idle(self, tokens: list[int]) -> None:
@@ -279,9 +282,9 @@ class Map(Views[int, V]):
 
     # ---- one key ----
 
-    def _found(self, worker: _Worker, key: int) -> Any:
-        """Returns the object of a key, or `MISSING`, under a pin of the worker."""
-        token, epoch = c_uint64(), c_uint64()
+    def _found(self, worker: _Worker, key: int, token: Optional[c_uint64] = None) -> Any:
+        """Returns the object of a key, or `MISSING`, under a pin of the worker. Writes its token."""
+        token, epoch = c_uint64() if token is None else token, c_uint64()
         try:
             outcome = c.quick.nm_map_hold(worker.handle, self._words, epoch)
             if outcome == c.DONE:
@@ -354,57 +357,125 @@ class Map(Views[int, V]):
         `Options`: `Full`. If the keys take all nodes and no node waits, it raises `Full` at
         once."""
         number = _checked(key)
-        is_inserted = self._with_worker(lambda worker: self._inserted(worker, number, value))
-        if is_inserted and self._waits:
-            self._wake()
-        return is_inserted
 
-    def _inserted(self, worker: _Worker, key: int, value: V) -> bool:
-        token = next(self._tokens)
+        def insert(worker: _Worker, token: int, old: c_uint64) -> int:
+            return int(c.quick.nm_map_insert(worker.handle, number, token, self._words))
+
+        return self._give(value, insert, lambda worker: True)[0] == c.YES
+
+    def __setitem__(self, key: SupportsIndex, value: V) -> None:
+        """Inserts a key with an object, or replaces the object that it has, in one step: no call
+        finds the key absent meanwhile. It waits like `insert`. An insert takes two nodes, and a
+        replacement one."""
+        number = _checked(key)
+
+        def put(worker: _Worker, token: int, old: c_uint64) -> int:
+            return int(c.quick.nm_map_put(worker.handle, number, token, self._words, old))
+
+        self._give(value, put, lambda worker: self._found(worker, number) is MISSING)
+
+    def replace(self, key: SupportsIndex, value: V) -> V:
+        """Replaces the object that a key has, in one step, and returns it. No two calls return one
+        object, unless the map got it again in between. Raises KeyError if the map does not have the
+        key."""
+        found = self._replace(_checked(key), value)
+        if found is MISSING:
+            raise KeyError(key)
+        return found  # type: ignore[no-any-return]
+
+    def _replace(self, number: int, value: V) -> Any:
+        """Replaces the object that a key has; returns it, or `MISSING`."""
+
+        def replace(worker: _Worker, token: int, old: c_uint64) -> int:
+            return int(c.quick.nm_map_replace(worker.handle, number, token, self._words, old))
+
+        return self._give(value, replace, lambda worker: False)[1]
+
+    def compare_replace(self, key: SupportsIndex, expected: object, value: V) -> bool:
+        """Replaces the object that a key has if it is the expected one or equals it. Returns whether
+        it did: not if the map does not have the key. The objects are compared outside of the call
+        of the library. If another thread replaces the object after that, this compares again, at
+        most `rounds` of `Options` times, and then raises `Contention`."""
+        number, was = _checked(key), c_uint64()
+
+        def replace(worker: _Worker, token: int, old: c_uint64) -> int:
+            numbers = number, was.value, token
+            return int(c.quick.nm_map_compare_replace(worker.handle, *numbers, self._words, old))
+
+        for _ in range(self._rounds + 1):
+            found = self._with_worker(lambda worker: self._found(worker, number, was))
+            if found is MISSING or (found is not expected and found != expected):
+                return False
+            if self._give(value, replace, lambda worker: False)[0] == c.REPLACED:
+                return True
+        raise Contention("other threads changed the key in each round: call again")
+
+    # ---- a call that gives the map an object ----
+
+    def _give(
+        self,
+        value: V,
+        call: Callable[[_Worker, int, c_uint64], int],
+        is_insert: Callable[[_Worker], bool],
+    ) -> tuple[int, Any]:
+        """Gives the map an object by a call of the library. Returns its outcome, and the object that
+        was replaced or `MISSING`. `is_insert` says whether the call would take two nodes, or one."""
+        given = self._with_worker(lambda worker: self._given(worker, value, call, is_insert))
+        if given[0] in (c.YES, c.INSERTED) and self._waits:
+            self._wake()
+        return given
+
+    def _given(
+        self,
+        worker: _Worker,
+        value: V,
+        call: Callable[[_Worker, int, c_uint64], int],
+        is_insert: Callable[[_Worker], bool],
+    ) -> tuple[int, Any]:
+        token, old, found = next(self._tokens), c_uint64(), MISSING
         try:
             self._new.add(token)
             self._left[token] = self._read[token] = value  # before another call can find the token
-            outcome = c.quick.nm_map_insert(worker.handle, key, token, self._words)
+            outcome = call(worker, token, old)
             if outcome == c.FULL:
-                outcome = self._inserted_later(worker, key, token)
-            if outcome != c.YES:
+                outcome = self._given_later(worker, partial(call, worker, token, old), is_insert)
+            if outcome == c.REPLACED:
+                self._replaced.add(old.value)
+                found = self._left.pop(old.value)
+            elif outcome not in (c.YES, c.INSERTED):
                 del self._left[token], self._read[token]
         finally:
             self._new.discard(token)
         if outcome < 0:
             raise self._full(worker) if outcome == c.FULL else self._fault(outcome)
-        return bool(outcome == c.YES)
+        return outcome, found
 
-    def _inserted_later(self, worker: _Worker, key: int, token: int) -> int:
-        """Repeats an insert that found no nodes, after collections; returns its outcome. It ends
-        when the keys take all nodes before and after a repetition, because then no node waits."""
-        wait, was_brimful = _Wait(self._seconds), self._is_brimful()
+    def _given_later(
+        self, worker: _Worker, call: Callable[[], int], is_insert: Callable[[_Worker], bool]
+    ) -> int:
+        """Repeats a call that found no nodes, after collections; returns its outcome. It ends when
+        the keys leave too few nodes before and after a repetition, even if none waits."""
+        wait, was_brimful = _Wait(self._seconds), self._is_brimful(worker, is_insert)
         while True:
             self._take_back(worker, worker.returned)
             self._take_back_idle(worker.returned)
-            outcome = int(c.quick.nm_map_insert(worker.handle, key, token, self._words))
-            is_still, was_brimful = was_brimful, self._is_brimful()
-            if outcome != c.FULL or (is_still and was_brimful) or not wait.goes_on():
+            outcome = call()
+            if outcome != c.FULL:
+                return outcome
+            is_still, was_brimful = was_brimful, self._is_brimful(worker, is_insert)
+            if (is_still and was_brimful) or not wait.goes_on():
                 return outcome
 
     def _keys(self) -> int:
-        """Returns the number of keys, without those of inserts that have not ended."""
+        """Returns the number of keys, without those of calls that have not ended."""
         return max(len(self._left) - len(self._new), 0)
 
-    def _is_brimful(self) -> bool:
-        return bool(c.quick.nm_map_is_brimful(self._nodes, self._keys()))
-
-    def __setitem__(self, key: SupportsIndex, value: V) -> None:
-        """Inserts a key with an object. If the map has the key, this takes two steps: it removes
-        the key, and inserts it again. Between the two, other threads find the key absent. If
-        another thread inserts the key in between, this starts again, at most `rounds` of `Options`
-        times, and then raises `Contention`."""
-        number = _checked(key)
-        for _ in range(self._rounds + 1):
-            if self.insert(number, value):
-                return
-            self._pop(number)
-        raise Contention("other threads inserted the key in each round: call again")
+    def _is_brimful(self, worker: _Worker, is_insert: Callable[[_Worker], bool]) -> bool:
+        """Returns whether the keys leave a call too few nodes, even if none waits."""
+        nodes, keys, is_brimful = self._nodes, self._keys(), c.quick.nm_map_is_brimful
+        return bool(
+            is_brimful(nodes, keys, 2) and (is_brimful(nodes, keys, 1) or is_insert(worker))
+        )
 
     def setdefault(self, key: SupportsIndex, default: Any = None) -> Any:
         """Returns the object of a key, after an insert of the default if the key was absent. If
@@ -520,8 +591,8 @@ class Map(Views[int, V]):
     def _nearest_by(
         self, worker: _Worker, find: Callable[..., int], number: int
     ) -> Optional[tuple[int, V]]:
-        """Returns the nearest key with its object, or None. It looks again if the key is removed
-        before its object is read."""
+        """Returns the nearest key with its object, or None. It looks again if the object is removed
+        or replaced before it is read."""
         key, token = c_uint64(), c_uint64()
         for _ in range(self._rounds + 1):
             outcome = find(worker.handle, number, self._words, key, token)
@@ -532,7 +603,7 @@ class Map(Views[int, V]):
             found = self._read.get(token.value, MISSING)
             if found is not MISSING:
                 return key.value, found
-        raise Contention("other threads removed the key in each round: call again")
+        raise Contention("other threads changed the key in each round: call again")
 
     def at_least(self, key: SupportsIndex) -> Optional[tuple[int, V]]:
         """Returns the least key that is not below this one, with its object, or None if there is
@@ -600,8 +671,8 @@ class Map(Views[int, V]):
     def _scan_items(
         self, worker: _Worker, ends: tuple[int, int], room: int, is_back: bool
     ) -> tuple[list[tuple[int, V]], Optional[int]]:
-        """Returns keys with their objects, in the same way. If a key is removed before its object
-        is read, it looks it up again."""
+        """Returns keys with their objects, in the same way. If an object is removed or replaced
+        before it is read, it looks the key up again."""
         entries, count, rest = (c.EntryWords * room)(), c_size_t(), c_uint64()
         scan = c.exports.nm_map_read_entries_back if is_back else c.exports.nm_map_read_entries
         outcome = scan(worker.handle, *ends, entries, room, count, rest, self._words)
@@ -702,18 +773,20 @@ class Map(Views[int, V]):
 
     def __len__(self) -> int:
         """Returns how many keys the map has. It is exact if no thread makes a call meanwhile, and
-        no exception of a signal handler has interrupted an insert or a remove."""
+        no exception of a signal handler has interrupted a call that changes the map."""
         self._check_open()
         return len(self._left)
 
     def waiting(self) -> int:
-        """Returns how many removed nodes wait to be freed: two for each key that was removed and
-        whose object the map still refers to. It is exact if no call is in progress."""
+        """Returns how many nodes wait to be freed: two for each removed key, and one for each
+        replaced object, if the map still refers to its object. It is exact if no call is in
+        progress."""
         self._check_open()
-        return 2 * max(len(self._read) - len(self._left), 0)
+        return max(2 * (len(self._read) - len(self._left)) - len(self._replaced), 0)
 
     def free(self) -> int:
-        """Returns how many nodes are free, computed from `len` and `waiting`. An insert takes two."""
+        """Returns how many nodes are free, computed from `len` and `waiting`. An insert takes two, and
+        a replacement one."""
         return max(self._nodes - 5 - 2 * len(self) - self.waiting(), 0)
 
     @property
@@ -767,7 +840,7 @@ class Map(Views[int, V]):
                     text = "calls of the map have not ended: close again"
                     raise fault(outcome, text if outcome == c.IN_USE else None)
                 c.exports.nm_drop(self._handle)
-            self._read, self._left = {}, {}
+            self._read, self._left, self._replaced = {}, {}, set()
             self._wake()
 
     def _ended(self) -> int:

@@ -654,9 +654,21 @@ class MapOf(_Numbers, _Ordered[T], Views[T, V]):
         return self._of.insert(self._key(key), value)
 
     def __setitem__(self, key: T, value: V) -> None:
-        """Inserts a key with an object. If the map has the key, this takes two steps: see
+        """Inserts a key with an object, or replaces the object that it has, in one step: see
         `Map.__setitem__`."""
         self._of[self._key(key)] = value
+
+    def replace(self, key: T, value: V) -> V:
+        """Replaces the object that a key has, and returns it: see `Map.replace`."""
+        found = self._of._replace(self._key(key), value)
+        if found is MISSING:
+            raise KeyError(key)
+        return found  # type: ignore[no-any-return]
+
+    def compare_replace(self, key: T, expected: object, value: V) -> bool:
+        """Replaces the object that a key has if it is the expected one: see
+        `Map.compare_replace`."""
+        return self._of.compare_replace(self._key(key), expected, value)
 
     def setdefault(self, key: T, default: Any = None) -> Any:
         """Returns the object of a key, after an insert of the default if the key was absent: see

@@ -363,7 +363,7 @@ class Refusals(unittest.TestCase):
     def test_a_key_that_is_always_inserted_by_others_is_contention(self) -> None:
         with Map[int](64, options=Options(rounds=3)) as found:
             with mock.patch.object(found, "insert", return_value=False) as insert:
-                self.assertRaises(Contention, lambda: found.__setitem__(5, 5))
+                self.assertRaises(Contention, lambda: found.setdefault(5, 5))
             self.assertEqual(insert.call_count, 4)
 
 

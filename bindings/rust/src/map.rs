@@ -1,7 +1,7 @@
 //! Maps, which own a value of each key.
 
 use crate::fault::{answer, Fault};
-use crate::ffi::map::{collect_after, MapHandle, Pinned, WorkerHandle};
+use crate::ffi::map::{collect_after, Change, MapHandle, Pinned, WorkerHandle};
 use crate::ffi::{CallOptions, Outcome};
 use crate::key::checked;
 use crate::options::Options;
@@ -10,8 +10,8 @@ use std::collections::BTreeMap;
 use std::fmt;
 use std::time::Duration;
 
-/// The outcome no, and those of an attach and of the making of a map that have numbers.
-const NO: Outcome = 0;
+/// The outcomes of an attach and of the making of a map that have numbers, and others that mean
+/// something of their own.
 const NODES: Outcome = -6;
 const WORKERS: Outcome = -7;
 const BUSY: Outcome = -9;
@@ -26,9 +26,9 @@ const NOBODY: u32 = u32::MAX;
 ///
 /// Threads share it by reference, and each attaches a [`MapWorker`] of its own. A reader gets a
 /// reference to a value under a [`Guard`], and by a second worker it goes over values in order and
-/// pops them ([`MapWorker::under`]). A removed value is dropped when no guard is left that could have
-/// returned it, by whichever worker finds that, or at the drop of the map, and never twice. So threads
-/// share a map if `V: Send + Sync`.
+/// pops them ([`MapWorker::under`]). A value that was removed or replaced is dropped when no guard is
+/// left that could have returned it, by whichever worker finds that, or at the drop of the map, and
+/// never twice. So threads share a map if `V: Send + Sync`.
 ///
 /// ```
 /// # fn main() -> Result<(), Box<dyn std::error::Error>> {
@@ -38,6 +38,7 @@ const NOBODY: u32 = u32::MAX;
 /// let guard = worker.pin()?;
 /// assert_eq!(guard.get(5)?.map(String::as_str), Some("five"));
 /// drop(guard);
+/// worker.put(5, String::from("cinq"))?; // it replaces the text, in one step
 /// assert!(worker.remove(5)?);
 /// # Ok(())
 /// # }
@@ -94,7 +95,7 @@ pub struct Reclaimed {
 /// A call that drops values may panic if the drop of a value does. Then the call was made, and all
 /// other values that were reclaimed were dropped.
 ///
-/// No call waits, except [`insert`](MapWorker::insert). Each may return `Contention` (the bound
+/// No call waits, except those that give the map a value. Each may return `Contention` (the bound
 /// of the options was reached; the map is unchanged), `Pinned` (a guard was forgotten; drop the
 /// worker), and in a forked child `Forked`.
 ///
@@ -240,8 +241,9 @@ impl<V> Map<V> {
         Ok(usize::try_from(keys).unwrap_or(usize::MAX))
     }
 
-    /// Returns the number of removed nodes that wait to be freed, with all workers: two for each key
-    /// that was removed and whose value is not dropped. It is exact if no call is in progress.
+    /// Returns the number of nodes that wait to be freed, with all workers: two for each removed key,
+    /// and one for each replaced value, whose value is not dropped. It is exact if no call is in
+    /// progress.
     ///
     /// Errors: `Forked`.
     pub fn waiting(&self) -> Result<u64, Fault> {
@@ -279,6 +281,15 @@ pub(crate) fn managed(outcome: Outcome) -> Result<bool, Fault> {
     }
 }
 
+/// Returns the fault of a worker's call that has not given a key a value, or None if the outcome is an
+/// answer.
+pub(crate) fn fault_of<V>(worker: &mut WorkerHandle<'_, V>, outcome: Outcome) -> Option<Fault> {
+    match outcome {
+        FULL => Some(Fault::MapFull(worker.fullness().into())),
+        _ => managed(outcome).err(),
+    }
+}
+
 /// Inserts entries by a call for one; returns how many keys were absent.
 pub(crate) fn extend_by<K, V>(
     entries: impl IntoIterator<Item = (K, V)>,
@@ -310,17 +321,15 @@ impl<'a, V> MapWorker<'a, V> {
             Ok(key) => key,
             Err(fault) => return Err(InsertError::Fault(fault, value)),
         };
-        match self.handle.insert(key, Box::new(value)) {
-            (_, None) => Ok(()),
-            (NO, Some(value)) => Err(InsertError::Present(*value)),
-            (FULL, Some(value)) => {
-                let full = Fault::MapFull(self.handle.fullness().into());
-                Err(InsertError::Fault(full, *value))
-            }
-            (outcome, Some(value)) => Err(InsertError::Fault(
-                managed(outcome).err().unwrap_or(Fault::Other(outcome)),
-                *value,
-            )),
+        let (outcome, left) = self
+            .handle
+            .give(key, Change::Insert, Box::new(value), &mut 0);
+        match left {
+            None => Ok(()),
+            Some(value) => Err(match fault_of(&mut self.handle, outcome) {
+                None => InsertError::Present(*value),
+                Some(fault) => InsertError::Fault(fault, *value),
+            }),
         }
     }
 
@@ -359,8 +368,8 @@ impl<'a, V> MapWorker<'a, V> {
     }
 
     /// Pins the worker until the guard is dropped: no value that the guard returns is dropped
-    /// meanwhile. The map drops no value whose key was removed after the pin. So keep it short: the
-    /// nodes that wait for it are not free for inserts.
+    /// meanwhile. The map drops no value that was removed or replaced after the pin. So keep it short:
+    /// the nodes that wait for it are not free for inserts.
     ///
     /// Errors: `Contention`, `Pinned`.
     pub fn pin(&mut self) -> Result<Guard<'_, 'a, V>, Fault> {
@@ -380,7 +389,8 @@ impl<'a, V> MapWorker<'a, V> {
         Ok(Reclaimed { values, behind })
     }
 
-    /// Returns the number of nodes that wait with this worker, two for each removed key.
+    /// Returns the number of nodes that wait with this worker: two for each removed key, and one for
+    /// each replaced value.
     pub fn waiting(&mut self) -> u64 {
         self.handle.waiting()
     }

@@ -41,7 +41,7 @@ const LEAST_NODES: usize = 4_096;
 /// # }
 /// ```
 pub struct GuardedWorker<'w, 'a, 'g, V> {
-    handle: Guarded<'w, 'a, 'g, V>,
+    pub(crate) handle: Guarded<'w, 'a, 'g, V>,
 }
 
 /// Returns the key of an entry, or None after the answer no.

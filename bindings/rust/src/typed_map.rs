@@ -4,6 +4,7 @@ use crate::convert::{show_values, SHOWN};
 use crate::fault::Fault;
 use crate::map::{extend_by, Guard, InsertError, Map, MapWorker, Reclaimed};
 use crate::map_order::GuardedWorker;
+use crate::map_puts::PutError;
 use crate::options::Options;
 use crate::order::{self, Range, Scanned};
 use crate::typed::{bound_of, bounds_of, key_of, keys_of, panic_by, scan_of, Entry, Key, Values};
@@ -63,6 +64,14 @@ fn keyed<K: Key, V>(
     entries
         .into_iter()
         .map(|(key, value)| Ok((key_of(key)?, value)))
+}
+
+/// Returns a value with the key of its typed one, or the value with the fault of that.
+fn keyed_value<K: Key, V>(key: K, value: V) -> Result<(u64, V), PutError<V>> {
+    match key_of(key) {
+        Ok(key) => Ok((key, value)),
+        Err(fault) => Err(PutError::Fault(fault, value)),
+    }
 }
 
 /// Returns the value of the key that a call found.
@@ -158,6 +167,18 @@ impl<'a, K: Key, V> MapWorkerOf<'a, K, V> {
         entries: impl IntoIterator<Item = (K, V)>,
     ) -> Result<usize, InsertError<V>> {
         extend_by(entries, |key, value| self.insert(key, value))
+    }
+
+    /// Inserts a key with a value, or replaces its value, in one step: see [`MapWorker::put`].
+    pub fn put(&mut self, key: K, value: V) -> Result<bool, PutError<V>> {
+        let (key, value) = keyed_value(key, value)?;
+        self.worker.put(key, value)
+    }
+
+    /// Replaces the value that a key has: see [`MapWorker::replace`].
+    pub fn replace(&mut self, key: K, value: V) -> Result<(), PutError<V>> {
+        let (key, value) = keyed_value(key, value)?;
+        self.worker.replace(key, value)
     }
 
     /// Removes a key; returns true if it was present: see [`MapWorker::remove`].
@@ -395,6 +416,38 @@ impl<'w, 'a, 'g, K: Key, V> GuardedWorkerOf<'w, 'a, 'g, K, V> {
     /// Removes a key, and returns its value, or None if it was absent: see [`GuardedWorker::take`].
     pub fn take(&mut self, key: K) -> Result<Option<&'g V>, Fault> {
         self.worker.take(key_of(key)?)
+    }
+
+    /// Inserts a key with a value, or replaces the value that it has, which it returns: see
+    /// [`GuardedWorker::put`].
+    pub fn put(&mut self, key: K, value: V) -> Result<Option<&'g V>, PutError<V>> {
+        let (key, value) = keyed_value(key, value)?;
+        self.worker.put(key, value)
+    }
+
+    /// Replaces the value that a key has, and returns that value: see [`GuardedWorker::replace`].
+    pub fn replace(&mut self, key: K, value: V) -> Result<&'g V, PutError<V>> {
+        let (key, value) = keyed_value(key, value)?;
+        self.worker.replace(key, value)
+    }
+
+    /// Replaces the value that a key has if it is the expected one: see
+    /// [`GuardedWorker::compare_replace`].
+    pub fn compare_replace(&mut self, key: K, expected: &V, value: V) -> Result<(), PutError<V>> {
+        let (key, value) = keyed_value(key, value)?;
+        self.worker.compare_replace(key, expected, value)
+    }
+
+    /// Gives a key the value that a function makes of the one that it has: see
+    /// [`GuardedWorker::update`].
+    pub fn update(&mut self, key: K, make: impl FnMut(Option<&V>) -> V) -> Result<&'g V, Fault> {
+        self.worker.update(key_of(key)?, make)
+    }
+
+    /// Returns the value of a key, after an insert if it is absent: see
+    /// [`GuardedWorker::get_or_insert_with`].
+    pub fn get_or_insert_with(&mut self, key: K, make: impl FnOnce() -> V) -> Result<&'g V, Fault> {
+        self.worker.get_or_insert_with(key_of(key)?, make)
     }
 
     /// Returns an iterator over the keys of a range with their values: see [`GuardedWorker::range`].

@@ -4,7 +4,7 @@
 //! A map has a pointer as the value of each key: that of a box, which the map owns from an insert
 //! that succeeded until the pointer comes back. What makes the `unsafe` here right:
 //!
-//! - *Each pointer in the map is of a box of this `V`.* Only [`WorkerHandle::insert`] puts one in.
+//! - *Each pointer in the map is of a box of this `V`.* Only [`WorkerHandle::give`] puts one in.
 //! - *Each pointer comes back once*, by [`release`], which drops the box.
 //! - *No pointer comes back while a worker is pinned that may have got it.* This is what the
 //!   library
@@ -31,8 +31,12 @@ use std::ptr::{addr_of_mut, null_mut, NonNull};
 /// Takes a value that came back: `nm_map_release`.
 type Release = unsafe extern "C" fn(context: *mut c_void, value: u64);
 
-/// The outcome yes, and that of each call in a forked child.
+/// The outcome yes, those of a call that gives the map a value, and that of each call in a forked
+/// child.
 const YES: Outcome = 1;
+const INSERTED: Outcome = 3;
+const REPLACED: Outcome = 4;
+const OTHER: Outcome = 6;
 const FORKED: Outcome = -30;
 
 /// A key with the word of its value: `nm_entry`.
@@ -152,7 +156,6 @@ extern "C" {
     fn nm_map_counts_free(counts: *mut RawCounts);
     fn nm_map_count_insert(counts: *mut RawCounts, worker: u32, outcome: c_int);
     fn nm_map_count_remove(counts: *mut RawCounts, worker: u32, outcome: c_int);
-    fn nm_map_count_released(counts: *mut RawCounts, worker: u32, values: u64);
     fn nm_map_counts_keys(counts: *const RawCounts) -> u64;
     fn nm_map_counts_waiting(counts: *const RawCounts) -> u64;
     fn nm_map_wait_first(
@@ -165,7 +168,7 @@ extern "C" {
         timeout_ms: u32,
     ) -> c_int;
     fn nm_map_is_forked(counts: *const RawCounts) -> c_int;
-    fn nm_map_fullness(nodes: u64, keys: u64, behind: u32, fullness: *mut Fullness);
+    fn nm_map_fullness(nodes: u64, keys: u64, waiting: u64, behind: u32, fullness: *mut Fullness);
     fn nm_map_pending(worker: *mut Word, key: *mut u64) -> c_int;
     fn nm_map_number(worker: *mut Word, number: *mut u32) -> c_int;
     fn nm_map_queue_len(worker: *mut Word, nodes: *mut u64) -> c_int;
@@ -181,6 +184,7 @@ extern "C" {
     fn nm_map_hold(worker: *mut Word, options: *const CallOptions, epoch: *mut u64) -> c_int;
     fn nm_map_take_back(
         worker: *mut Word,
+        counts: *mut RawCounts,
         release: Release,
         context: *mut c_void,
         behind: *mut u32,
@@ -188,10 +192,11 @@ extern "C" {
     fn nm_map_tend(
         worker: *mut Word,
         options: *const CallOptions,
+        counts: *mut RawCounts,
         release: Release,
         context: *mut c_void,
     ) -> c_int;
-    fn nm_map_put(
+    fn nm_map_wait_insert(
         map: *mut Word,
         worker: *mut Word,
         key: u64,
@@ -202,12 +207,62 @@ extern "C" {
         context: *mut c_void,
         timeout_ms: u32,
     ) -> c_int;
+    fn nm_map_wait_put(
+        map: *mut Word,
+        worker: *mut Word,
+        key: u64,
+        value: u64,
+        options: *const CallOptions,
+        counts: *mut RawCounts,
+        release: Release,
+        context: *mut c_void,
+        old: *mut u64,
+        timeout_ms: u32,
+    ) -> c_int;
+    fn nm_map_wait_replace(
+        map: *mut Word,
+        worker: *mut Word,
+        key: u64,
+        value: u64,
+        options: *const CallOptions,
+        counts: *mut RawCounts,
+        release: Release,
+        context: *mut c_void,
+        old: *mut u64,
+        timeout_ms: u32,
+    ) -> c_int;
+    fn nm_map_wait_compare_replace(
+        map: *mut Word,
+        worker: *mut Word,
+        key: u64,
+        expected: u64,
+        value: u64,
+        options: *const CallOptions,
+        counts: *mut RawCounts,
+        release: Release,
+        context: *mut c_void,
+        found: *mut u64,
+        timeout_ms: u32,
+    ) -> c_int;
     fn nm_map_drain(
         map: *mut Word,
         release: Release,
         context: *mut c_void,
         timeout_ms: u32,
     ) -> c_int;
+}
+
+/// What a call does with the value that it gives a key.
+#[derive(Clone, Copy)]
+pub(crate) enum Change<'e, V> {
+    /// It inserts the key if that is absent.
+    Insert,
+    /// It inserts the key, or replaces its value.
+    Put,
+    /// It replaces the value of the key if that is present.
+    Replace,
+    /// It replaces this value of the key.
+    Compare(&'e V),
 }
 
 /// Returns the number of waiting nodes from which the workers of a map collect, if it is not given.
@@ -292,18 +347,13 @@ impl Counts {
         unsafe { nm_map_counts_waiting(self.0.as_ptr()) }
     }
 
-    /// Counts values that came back in a call by the worker of a number. One thread has that worker.
-    fn released(&self, worker: u32, values: u64) {
-        // SAFETY: the counts exist as long as `self`.
-        unsafe { nm_map_count_released(self.0.as_ptr(), worker, values) }
-    }
-
     fn is_forked(&self) -> bool {
         // SAFETY: the counts exist as long as `self`.
         unsafe { nm_map_is_forked(self.0.as_ptr()) != 0 }
     }
 
-    /// Counts the outcome of an insert by the worker of a number. One thread has that worker.
+    /// Counts the outcome of a call that gives the map a value, by the worker of a number. One thread
+    /// has that worker.
     fn insert(&self, worker: u32, outcome: Outcome) {
         // SAFETY: the counts exist as long as `self`.
         unsafe { nm_map_count_insert(self.0.as_ptr(), worker, outcome) }
@@ -452,44 +502,59 @@ impl<V> WorkerHandle<'_, V> {
         call(self.handle.get(), &self.map.options)
     }
 
-    /// Inserts a box. Returns the outcome, and the box unless the map owns it now.
-    pub(crate) fn insert(&mut self, key: u64, value: Box<V>) -> (Outcome, Option<Box<V>>) {
+    /// Gives a key a box. Returns the outcome, and the box unless the map owns it now. Writes the word
+    /// of the value that the key had, if it was replaced or is another one.
+    pub(crate) fn give(
+        &mut self,
+        key: u64,
+        change: Change<'_, V>,
+        value: Box<V>,
+        old: &mut u64,
+    ) -> (Outcome, Option<Box<V>>) {
         let pointer = Box::into_raw(value);
         let mut taken = Taken::default();
-        let (map, timeout_ms) = (self.map.handle.get(), self.map.timeout_ms);
-        // SAFETY: both handles and the counts exist, and `self` is borrowed. `release` gets boxes of
-        // this `V`.
-        let outcome = taken.by(|context| {
-            self.by(|worker, options| unsafe {
-                let word = pointer as usize as u64;
-                nm_map_put(
-                    map,
-                    worker,
-                    key,
-                    word,
-                    options,
-                    self.map.counts.0.as_ptr(),
-                    release::<V>,
-                    context,
-                    timeout_ms,
-                )
+        let (map, ms) = (self.map.handle.get(), self.map.timeout_ms);
+        let counts = self.map.counts.0.as_ptr();
+        let (new, drop) = (pointer as usize as u64, release::<V> as Release);
+        // SAFETY: both handles and the counts exist, and `self` and the place are borrowed. `release`
+        // gets boxes of this `V`.
+        let outcome = taken.by(|to| {
+            self.by(|it, options| unsafe {
+                match change {
+                    Change::Insert => {
+                        nm_map_wait_insert(map, it, key, new, options, counts, drop, to, ms)
+                    }
+                    Change::Put => {
+                        nm_map_wait_put(map, it, key, new, options, counts, drop, to, old, ms)
+                    }
+                    Change::Replace => {
+                        nm_map_wait_replace(map, it, key, new, options, counts, drop, to, old, ms)
+                    }
+                    Change::Compare(was) => {
+                        let was = was as *const V as usize as u64;
+                        nm_map_wait_compare_replace(
+                            map, it, key, was, new, options, counts, drop, to, old, ms,
+                        )
+                    }
+                }
             })
         });
         self.map.counts.insert(self.number, outcome);
-        self.map.counts.released(self.number, taken.values);
-        // SAFETY: after any other outcome than yes the map does not have the pointer.
-        let left = (outcome != YES).then(|| unsafe { Box::from_raw(pointer) });
+        let is_owned = matches!(outcome, YES | INSERTED | REPLACED);
+        // SAFETY: after any other outcome the map does not have the pointer.
+        let left = (!is_owned).then(|| unsafe { Box::from_raw(pointer) });
         taken.resume();
         (outcome, left)
     }
 
-    /// Returns how full the map is, after an insert that found no nodes.
+    /// Returns how full the map is, after a call that found no nodes.
     pub(crate) fn fullness(&mut self) -> Fullness {
+        let waiting = self.map.counts.waiting();
         let (_, _, behind) = self.reclaim();
         let mut fullness = Fullness::default();
         let (nodes, keys) = (self.map.nodes.into(), self.map.counts.keys());
         // SAFETY: the place is borrowed for this call.
-        unsafe { nm_map_fullness(nodes, keys, behind, &mut fullness) };
+        unsafe { nm_map_fullness(nodes, keys, waiting, behind, &mut fullness) };
         fullness
     }
 
@@ -500,12 +565,12 @@ impl<V> WorkerHandle<'_, V> {
         // is removed is not dropped here: its pointer comes back later.
         let outcome = taken.by(|context| {
             self.by(|worker, options| {
-                unsafe { nm_map_tend(worker, options, release::<V>, context) };
+                let counts = self.map.counts.0.as_ptr();
+                unsafe { nm_map_tend(worker, options, counts, release::<V>, context) };
                 remove(worker, options)
             })
         });
         self.map.counts.remove(self.number, outcome);
-        self.map.counts.released(self.number, taken.values);
         taken.resume();
         outcome
     }
@@ -637,11 +702,11 @@ impl<V> WorkerHandle<'_, V> {
         // SAFETY: the handle exists, and `self` is borrowed. `release` gets boxes of this `V`.
         let outcome = taken.by(|context| {
             self.by(|worker, _| unsafe {
-                nm_map_take_back(worker, release::<V>, context, &mut behind)
+                let counts = self.map.counts.0.as_ptr();
+                nm_map_take_back(worker, counts, release::<V>, context, &mut behind)
             })
         });
         let values = taken.values;
-        self.map.counts.released(self.number, values);
         taken.resume();
         (outcome, values, behind)
     }
@@ -675,13 +740,11 @@ impl<V> Drop for WorkerHandle<'_, V> {
                 nm_map_unpin(worker);
                 let mut waiting = 0;
                 nm_map_queue_len(worker, &mut waiting);
+                let counts = self.map.counts.0.as_ptr();
                 if waiting != 0 {
-                    nm_map_take_back(worker, release::<V>, context, null_mut());
-                    self.map
-                        .counts
-                        .released(self.number, (*context.cast::<Taken>()).values);
+                    nm_map_take_back(worker, counts, release::<V>, context, null_mut());
                 }
-                nm_map_return(self.map.counts.0.as_ptr(), worker);
+                nm_map_return(counts, worker);
                 nm_drop(worker) // if it was not returned
             })
         });
@@ -757,7 +820,7 @@ impl<V> Drop for Pinned<'_, '_, V> {
 #[cfg(test)]
 mod tests {
     use super::super::forking;
-    use crate::{Fault, InsertError, Map};
+    use crate::{Fault, InsertError, Map, PutError};
     use std::sync::atomic::{AtomicU64, Ordering::SeqCst};
     use std::sync::Arc;
 
@@ -786,9 +849,11 @@ mod tests {
             let error = worker
                 .insert(20, Counted(Arc::clone(&dropped)))
                 .unwrap_err();
+            let unput = worker.put(5, Counted(Arc::clone(&dropped))).unwrap_err();
             let mut is_right = map.attach().err() == Some(Fault::Forked)
                 && map.len() == Err(Fault::Forked)
                 && error.fault() == Some(Fault::Forked)
+                && unput.fault() == Some(Fault::Forked)
                 && guard.get(5).err() == Some(Fault::Forked)
                 && guard.get_many(&[5]).err() == Some(Fault::Forked)
                 && worker.remove(5) == Err(Fault::Forked)
@@ -796,7 +861,7 @@ mod tests {
                 && worker.reclaim().err() == Some(Fault::Forked)
                 && worker.range(..).next() == Some(Err(Fault::Forked))
                 && worker.under(&guard).unwrap().first().err() == Some(Fault::Forked);
-            std::mem::forget::<InsertError<Counted>>(error);
+            std::mem::forget::<(InsertError<Counted>, PutError<Counted>)>((error, unput));
             drop((guard, worker));
             drop(reader);
             drop(map);

@@ -1,6 +1,6 @@
 //! Calls by a worker that return references, under the pin of another worker of the same map.
 
-use super::{object, Entry, Pinned, Read, WorkerHandle, YES};
+use super::{object, Change, Entry, Pinned, Read, WorkerHandle, INSERTED, OTHER, REPLACED, YES};
 use crate::ffi::{CallOptions, Order, Outcome, Word};
 use std::ffi::c_int;
 use std::marker::PhantomData;
@@ -34,6 +34,15 @@ extern "C" {
 /// A key with its value.
 pub(crate) type Found<'g, V> = (u64, &'g V);
 
+/// What became of a value that was given to a key.
+pub(crate) struct Given<'g, V> {
+    pub outcome: Outcome,
+    /// The value that the key had, if it was replaced or is another one.
+    pub old: Option<&'g V>,
+    /// The new value, which the map owns, or its box.
+    pub new: Result<&'g V, Box<V>>,
+}
+
 /// A worker that makes calls while another one is pinned, whose [`Pinned`] is borrowed for `'g`.
 pub(crate) struct Guarded<'w, 'a, 'g, V> {
     worker: &'w mut WorkerHandle<'a, V>,
@@ -52,7 +61,12 @@ impl<'w, 'a, 'g, V> Guarded<'w, 'a, 'g, V> {
         })
     }
 
-    /// Returns the value of a word that a call of this worker has written.
+    /// Returns the worker, for what it says of itself.
+    pub(crate) fn worker(&mut self) -> &mut WorkerHandle<'a, V> {
+        self.worker
+    }
+
+    /// Returns the value of a word that a call of this worker has written, or has given a key.
     fn value(word: u64) -> &'g V {
         // SAFETY: the pointer is of a box that the map had at a moment of that call. The other
         // worker was pinned before the call and is until the end of `'g`, so the pointer does not
@@ -77,6 +91,21 @@ impl<'w, 'a, 'g, V> Guarded<'w, 'a, 'g, V> {
         let outcome = self.worker.take(key, &mut word);
         let is_taken = outcome == YES || outcome == UNFINISHED;
         (outcome, is_taken.then(|| Self::value(word)))
+    }
+
+    /// Gives a key a value.
+    pub(crate) fn give(&mut self, key: u64, change: Change<'_, V>, value: Box<V>) -> Given<'g, V> {
+        let (new, mut word) = (&*value as *const V as usize as u64, 0);
+        let (outcome, left) = self.worker.give(key, change, value, &mut word);
+        debug_assert_eq!(left.is_none(), matches!(outcome, YES | INSERTED | REPLACED));
+        Given {
+            outcome,
+            old: matches!(outcome, REPLACED | OTHER).then(|| Self::value(word)),
+            new: match left {
+                Some(value) => Err(value),
+                None => Ok(Self::value(new)),
+            },
+        }
     }
 
     /// Finds the nearest key: see [`WorkerHandle::nearest`].

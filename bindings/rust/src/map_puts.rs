@@ -1,0 +1,243 @@
+//! The calls of a map that replace a value in one step: of a worker, and of a worker under the guard
+//! of another one, which return references to values.
+
+use crate::fault::Fault;
+use crate::ffi::map::guarded::Given;
+use crate::ffi::map::{Change, WorkerHandle};
+use crate::ffi::Outcome;
+use crate::key::checked;
+use crate::map::{fault_of, MapWorker};
+use crate::map_order::GuardedWorker;
+use std::fmt;
+
+/// The outcomes of a call that gives the map a value.
+const INSERTED: Outcome = 3;
+const ABSENT: Outcome = 5;
+const OTHER: Outcome = 6;
+
+/// Why a put or a replacement has not given a key a value. Each has the value, which the map does not
+/// have.
+#[derive(Clone, Copy, PartialEq, Eq)]
+pub enum PutError<V> {
+    /// The map does not have the key: of a replacement.
+    Absent(V),
+    /// The key has another value than the expected one: of [`GuardedWorker::compare_replace`].
+    Other(V),
+    /// The call failed. The map is unchanged.
+    Fault(Fault, V),
+}
+
+impl<V> PutError<V> {
+    fn of(worker: &mut WorkerHandle<'_, V>, outcome: Outcome, value: V) -> PutError<V> {
+        match outcome {
+            ABSENT => PutError::Absent(value),
+            OTHER => PutError::Other(value),
+            _ => PutError::Fault(
+                fault_of(worker, outcome).unwrap_or(Fault::Other(outcome)),
+                value,
+            ),
+        }
+    }
+
+    /// Returns the value.
+    pub fn into_value(self) -> V {
+        match self {
+            PutError::Absent(value) | PutError::Other(value) | PutError::Fault(_, value) => value,
+        }
+    }
+
+    /// Returns why the call failed, or None if the key is absent or has another value.
+    pub fn fault(&self) -> Option<Fault> {
+        match self {
+            PutError::Fault(fault, _) => Some(*fault),
+            PutError::Absent(_) | PutError::Other(_) => None,
+        }
+    }
+}
+
+impl<V> fmt::Debug for PutError<V> {
+    fn fmt(&self, f: &mut fmt::Formatter<'_>) -> fmt::Result {
+        match self {
+            PutError::Absent(_) => f.write_str("Absent(..)"),
+            PutError::Other(_) => f.write_str("Other(..)"),
+            PutError::Fault(fault, _) => write!(f, "Fault({fault:?}, ..)"),
+        }
+    }
+}
+
+impl<V> fmt::Display for PutError<V> {
+    fn fmt(&self, f: &mut fmt::Formatter<'_>) -> fmt::Result {
+        match self {
+            PutError::Absent(_) => f.write_str("the map does not have the key"),
+            PutError::Other(_) => f.write_str("the key has another value than the expected one"),
+            PutError::Fault(fault, _) => fault.fmt(f),
+        }
+    }
+}
+
+impl<V> std::error::Error for PutError<V> {}
+
+impl<V> MapWorker<'_, V> {
+    /// Inserts a key with a value, or replaces the value that it has, in one step: no call finds the
+    /// key absent meanwhile. Returns true if the key was absent. The old value is dropped later, as
+    /// after [`remove`](MapWorker::remove); [`GuardedWorker::put`] returns a reference to it. It waits
+    /// like [`insert`](MapWorker::insert). An insert takes two nodes, and a replacement one.
+    ///
+    /// Errors: `Fault` with `Key`, `MapFull`, `Contention`, `NoMemory`, `Pinned`.
+    ///
+    /// ```
+    /// # fn main() -> Result<(), Box<dyn std::error::Error>> {
+    /// let map = nm_set::Map::new(64, 1)?;
+    /// let mut worker = map.attach()?;
+    /// assert!(worker.put(5, "five")?);
+    /// assert!(!worker.put(5, "cinq")?);
+    /// assert_eq!(worker.pin()?.get(5)?, Some(&"cinq"));
+    /// # Ok(())
+    /// # }
+    /// ```
+    pub fn put(&mut self, key: u64, value: V) -> Result<bool, PutError<V>> {
+        let outcome = self.give(key, Change::Put, value)?;
+        Ok(outcome == INSERTED)
+    }
+
+    /// Replaces the value that a key has, in the same way.
+    ///
+    /// Errors: `Absent`, and those of [`put`](MapWorker::put).
+    pub fn replace(&mut self, key: u64, value: V) -> Result<(), PutError<V>> {
+        self.give(key, Change::Replace, value).map(|_| ())
+    }
+
+    /// Gives a key a value; returns the outcome of a call that did.
+    fn give(&mut self, key: u64, change: Change<'_, V>, value: V) -> Result<Outcome, PutError<V>> {
+        let key = match checked(key) {
+            Ok(key) => key,
+            Err(fault) => return Err(PutError::Fault(fault, value)),
+        };
+        match self.handle.give(key, change, Box::new(value), &mut 0) {
+            (outcome, None) => Ok(outcome),
+            (outcome, Some(value)) => Err(PutError::of(&mut self.handle, outcome, *value)),
+        }
+    }
+}
+
+impl<'g, V> GuardedWorker<'_, '_, 'g, V> {
+    /// Inserts a key with a value, or replaces the value that it has, in one step: no call finds the
+    /// key absent meanwhile. Returns the value that the key had, or None if it was absent. No two
+    /// calls return one value. It is dropped later, when the guard has ended. It waits like
+    /// [`MapWorker::put`](crate::MapWorker::put).
+    ///
+    /// Errors: `Fault` with `Key`, `MapFull`, `Contention`, `NoMemory`, `Pinned`.
+    ///
+    /// ```
+    /// # fn main() -> Result<(), Box<dyn std::error::Error>> {
+    /// let map = nm_set::Map::new(64, 2)?;
+    /// let (mut reader, mut worker) = (map.attach()?, map.attach()?);
+    /// let guard = reader.pin()?;
+    /// let mut calls = worker.under(&guard)?;
+    /// assert_eq!(calls.put(5, "five")?, None);
+    /// assert_eq!(calls.put(5, "cinq")?, Some(&"five"));
+    /// assert_eq!(calls.update(5, |old| old.copied().unwrap_or("fünf"))?, &"cinq");
+    /// assert_eq!(calls.get_or_insert_with(7, || "seven")?, &"seven");
+    /// # Ok(())
+    /// # }
+    /// ```
+    pub fn put(&mut self, key: u64, value: V) -> Result<Option<&'g V>, PutError<V>> {
+        self.give(key, Change::Put, value).map(|given| given.old)
+    }
+
+    /// Replaces the value that a key has, in the same way, and returns that value.
+    ///
+    /// Errors: `Absent`, and those of [`put`](GuardedWorker::put).
+    pub fn replace(&mut self, key: u64, value: V) -> Result<&'g V, PutError<V>> {
+        let given = self.give(key, Change::Replace, value)?;
+        Ok(given.old.expect("a replaced value is written"))
+    }
+
+    /// Replaces the value that a key has, in the same way, if it is the expected one: the same
+    /// object, and not an equal one. So `expected` is a reference that a call has returned.
+    ///
+    /// Errors: `Absent`; `Other`, if the key has another value; and those of
+    /// [`put`](GuardedWorker::put).
+    pub fn compare_replace(&mut self, key: u64, expected: &V, value: V) -> Result<(), PutError<V>> {
+        self.give(key, Change::Compare(expected), value).map(|_| ())
+    }
+
+    /// Gives a key the value that a function makes of the one that it has, or of None if the key is
+    /// absent; returns the new value. It calls the function again if another call has changed the
+    /// key in between. The function may make calls by other workers: no lock is held, and of the
+    /// map only the guard is pinned.
+    ///
+    /// Errors: `Key`, `MapFull`, `Contention`, `NoMemory`, `Pinned`.
+    pub fn update(
+        &mut self,
+        key: u64,
+        mut make: impl FnMut(Option<&V>) -> V,
+    ) -> Result<&'g V, Fault> {
+        let mut found = self.get(key)?;
+        loop {
+            let change = found.map_or(Change::Insert, |old| Change::Compare(old));
+            let given = self.handle.give(key, change, Box::new(make(found)));
+            if let Ok(new) = given.new {
+                return Ok(new);
+            }
+            self.check(given.outcome)?;
+            found = match given.old {
+                None => self.get(key)?,
+                other => other,
+            };
+        }
+    }
+
+    /// Returns the value of a key, after an insert of the value that a function makes if the key is
+    /// absent. The new value is dropped again if another call has inserted the key in between.
+    ///
+    /// Errors: `Key`, `MapFull`, `Contention`, `NoMemory`, `Pinned`.
+    pub fn get_or_insert_with(
+        &mut self,
+        key: u64,
+        make: impl FnOnce() -> V,
+    ) -> Result<&'g V, Fault> {
+        if let Some(found) = self.get(key)? {
+            return Ok(found);
+        }
+        let mut value = Box::new(make());
+        loop {
+            let given = self.handle.give(key, Change::Insert, value);
+            value = match given.new {
+                Ok(new) => return Ok(new),
+                Err(left) => left,
+            };
+            self.check(given.outcome)?;
+            if let Some(found) = self.get(key)? {
+                return Ok(found);
+            }
+        }
+    }
+
+    /// Returns the fault of a call that has not given a key a value, if there is one: the key or its
+    /// value may be in the way.
+    fn check(&mut self, outcome: Outcome) -> Result<(), Fault> {
+        fault_of(self.handle.worker(), outcome).map_or(Ok(()), Err)
+    }
+
+    /// Gives a key a value; returns what became of it if the map owns it.
+    fn give(
+        &mut self,
+        key: u64,
+        change: Change<'_, V>,
+        value: V,
+    ) -> Result<Given<'g, V>, PutError<V>> {
+        let key = match checked(key) {
+            Ok(key) => key,
+            Err(fault) => return Err(PutError::Fault(fault, value)),
+        };
+        match self.handle.give(key, change, Box::new(value)) {
+            given @ Given { new: Ok(_), .. } => Ok(given),
+            Given {
+                outcome,
+                new: Err(value),
+                ..
+            } => Err(PutError::of(self.handle.worker(), outcome, *value)),
+        }
+    }
+}

@@ -1,0 +1,256 @@
+// Tests the calls of nm::Map that replace a value in one step: each answer; objects, each of which
+// is destroyed once, and not while a guard can return it; a reader that always finds a key; threads
+// that raise a counter; a full map that goes on by replacements; and calls that are refused.
+#include "canary.hpp"
+#include "nm_keys.hpp"
+#include "thrown.hpp"
+
+#include <atomic>
+#include <cstdio>
+#include <string>
+#include <thread>
+#include <vector>
+
+namespace {
+
+using Objects = nm::Map<Canary>;
+
+constexpr int threads = 4, steps = 10'000, puts = 100'000;
+
+// ---- values in place ----
+
+void values_are_replaced() {
+    nm::Map<int> map{64, 1};
+    auto worker = map.attach();
+    CHECK(!worker.replace(5u, 1) && !worker.contains(5u));
+    CHECK(worker.insert_or_assign(5u, 2) && !worker.insert_or_assign(5u, 3) && worker.get(5u) == 3);
+    CHECK(worker.replace(5u, 4) && worker.get(5u) == 4);
+    CHECK(worker.exchange(5u, 5) == 4 && !worker.exchange(6u, 6) && worker.get(6u) == 6);
+    CHECK(!worker.insert(5u, 7) && worker.get(5u) == 5 && map.size() == 2);
+    worker.reclaim();
+    CHECK(map.waiting() == 0 && map.free() == 64 - 5 - 4);
+}
+
+void values_are_compared() {
+    nm::Map<int> map{64, 1};
+    auto worker = map.attach();
+    std::optional<int> expected = 1;
+    CHECK(!worker.compare_exchange(5u, expected, 2) && !expected);
+    CHECK(worker.compare_exchange(5u, expected, 2) && worker.get(5u) == 2 && !expected);
+    CHECK(!worker.compare_exchange(5u, expected, 3) && expected == 2);
+    expected = 1;
+    CHECK(!worker.compare_exchange(5u, expected, 3) && expected == 2 && worker.get(5u) == 2);
+    CHECK(worker.compare_exchange(5u, expected, 3) && worker.get(5u) == 3 && expected == 2);
+    auto raised = [](std::optional<int> old) { return old.value_or(10) + 1; };
+    CHECK(worker.update(5u, raised) == 4 && worker.update(6u, raised) == 11);
+    CHECK(worker.get(5u) == 4 && worker.get(6u) == 11);
+}
+
+// The function of an update may make calls by another worker, even for the same key. Then it is
+// called again.
+void an_update_looks_again() {
+    nm::Map<int> map{64, 2};
+    auto worker = map.attach(), other = map.attach();
+    int calls = 0;
+    CHECK(worker.update(5u, [&](const std::optional<int> &old) {
+        if (calls++ == 0) other.insert_or_assign(5u, 100);
+        return old.value_or(0) + 1;
+    }) == 101 && calls == 2);
+    CHECK(worker.update(5u, [&](const std::optional<int> &old) {
+        if (calls++ == 2) CHECK(other.remove(5u));
+        return old.value_or(0) + 1;
+    }) == 1 && calls == 4);
+}
+
+// ---- objects ----
+
+void objects_are_replaced() {
+    {
+        Objects map{1024, 2};
+        auto worker = map.attach();
+        auto object = std::make_unique<Canary>(1);
+        CHECK(!worker.replace(5u, std::move(object)) && object->is_of(1));
+        CHECK(worker.insert_or_assign(5u, std::move(object)) && object == nullptr);
+        CHECK(!worker.insert_or_assign(5u, std::make_unique<Canary>(2)));
+        CHECK(worker.replace(5u, std::make_unique<Canary>(3)) && Canary::alive() == 3);
+        CHECK(worker.pin().get(5u)->is_of(3) && worker.waiting() == 2 && map.waiting() == 2);
+        CHECK(worker.reclaim().values == 2 && Canary::alive() == 1 && map.waiting() == 0);
+    }
+    CHECK(Canary::alive() == 0);
+    nm::Map<std::string> texts{64, 1};
+    auto worker = texts.attach();
+    CHECK(worker.insert_or_assign(5u, "five") && !worker.insert_or_assign(5u, std::string("cinq")));
+    CHECK(worker.replace(5u, {"seven", 2}) && *worker.pin().get(5u) == "se");
+}
+
+// Under a guard the old object exists until the end of the guard.
+void old_objects_exist_under_a_guard() {
+    {
+        Objects map{1024, 2};
+        auto reader = map.attach(), worker = map.attach();
+        auto guard = reader.pin();
+        auto calls = worker.under(guard);
+        CHECK(calls.exchange(5u, std::make_unique<Canary>(1)) == nullptr);
+        Canary *first = calls.exchange(5u, std::make_unique<Canary>(2));
+        CHECK(first->is_of(1) && calls.get(5u)->is_of(2));
+        auto object = std::make_unique<Canary>(3);
+        Canary *expected = first;
+        CHECK(!calls.compare_exchange(5u, expected, std::move(object)) && expected->is_of(2));
+        CHECK(object->is_of(3) && calls.compare_exchange(5u, expected, std::move(object)));
+        CHECK(object == nullptr && expected->is_of(2) && calls.get(5u)->is_of(3));
+        Canary *none = nullptr;
+        CHECK(calls.compare_exchange(6u, none, std::make_unique<Canary>(4)) && none == nullptr);
+        CHECK(!calls.compare_exchange(6u, none, std::make_unique<Canary>(5)) && none->is_of(4));
+        CHECK(worker.reclaim().values == 0 && first->is_of(1) && Canary::alive() == 4);
+        guard.unpin();
+        CHECK(thrown([&] { (void)calls.exchange(5u, std::make_unique<Canary>(6)); }) == NM_NOT_PINNED);
+        CHECK(worker.reclaim().values == 2 && Canary::alive() == 2);
+    }
+    CHECK(Canary::alive() == 0);
+}
+
+void objects_are_updated() {
+    nm::MapOf<double, std::string> map{1024, 2};
+    auto reader = map.attach(), worker = map.attach();
+    auto guard = reader.pin();
+    auto calls = worker.under(guard);
+    auto longer = [](const std::string *old) { return old == nullptr ? "a" : *old + "b"; };
+    CHECK(*calls.update(-0.5, longer) == "a" && *calls.update(-0.5, longer) == "ab");
+    std::string *old = calls.exchange(-0.5, "c");
+    CHECK(*old == "ab" && *calls.get(-0.5) == "c");
+    CHECK(calls.compare_exchange(-0.5, old, "d") == false && *old == "c");
+    CHECK(calls.compare_exchange(-0.5, old, "d") && worker.replace(-0.5, "e"));
+    CHECK(!worker.insert_or_assign(-0.5, "f") && worker.insert_or_assign(1.5, "g"));
+}
+
+// ---- refusals ----
+
+void refused_calls_leave_the_object() {
+    nm::MapOptions options;
+    options.workers = 3;
+    options.timeout_ms = 20;
+    Objects map(9, options);
+    auto worker = map.attach(), other = map.attach();
+    auto object = std::make_unique<Canary>(9);
+    std::unique_ptr<Canary> none;
+    CHECK(thrown([&] { worker.insert_or_assign(UINT64_MAX, std::move(object)); }) == NM_KEY);
+    CHECK(worker.emplace(1u, 1u) && worker.emplace(2u, 2u));
+    CHECK(thrown([&] { worker.insert_or_assign(3u, std::move(object)); }) == NM_FULL);
+    CHECK(thrown([&] { worker.insert_or_assign(2u, std::move(object)); }) == NM_FULL);
+    CHECK(thrown([&] { worker.replace(2u, std::move(object)); }) == NM_FULL && object->is_of(9));
+    CHECK(!worker.replace(3u, std::move(object)) && object->is_of(9));
+    {
+        auto guard = worker.pin();
+        CHECK(thrown([&] { worker.insert_or_assign(2u, std::move(object)); }) == NM_PINNED);
+        CHECK(thrown([&] { (void)other.under(guard).exchange(2u, std::move(object)); }) == NM_FULL);
+        CHECK(thrown([&] { (void)other.under(guard).exchange(UINT64_MAX, std::move(object)); }) ==
+              NM_KEY);
+    }
+    other.close();
+    CHECK(thrown([&] { other.replace(2u, std::move(object)); }) == NM_CLOSED && object->is_of(9));
+    try {
+        worker.replace(2u, std::move(none));
+        CHECK(false);
+    } catch (const std::invalid_argument &) {
+    }
+    CHECK(worker.pin().get(1u)->is_of(1) && worker.pin().get(2u)->is_of(2));
+}
+
+// One node that no key takes is enough for any number of replacements. While a guard holds it back,
+// the text of the fault says so.
+void a_full_map_goes_on() {
+    nm::MapOptions options;
+    options.workers = 2;
+    options.timeout_ms = 20;
+    Objects map(10, options);
+    auto worker = map.attach(), reader = map.attach();
+    CHECK(worker.emplace(1u, 0u) && worker.emplace(2u, 0u));
+    for (std::uint64_t turn = 1; turn <= 1000; turn++) {
+        CHECK(worker.replace(1u, std::make_unique<Canary>(turn)) && Canary::alive() <= 3);
+        CHECK(map.size() == 2 && map.waiting() + map.free() == 1);
+    }
+    auto guard = reader.pin();
+    worker.reclaim();
+    if (map.free() == 1) CHECK(worker.replace(2u, std::make_unique<Canary>(1)));
+    std::string text;
+    try {
+        worker.replace(2u, std::make_unique<Canary>(2));
+    } catch (const nm::Fault &fault) {
+        text = fault.what();
+    }
+    CHECK(text == "the map is full: its 2 keys take 9 of its 10 nodes, and 1 wait to be freed; worker 1 "
+                  "is in their way, by a pin or in a call");
+    guard.unpin();
+    CHECK(worker.replace(2u, std::make_unique<Canary>(3)) && worker.pin().get(2u)->is_of(3));
+}
+
+// ---- threads ----
+
+// A reader finds the key by each look, with an object that is not destroyed.
+void a_key_is_never_absent() {
+    {
+        Objects map{4096, 3};
+        auto writer = map.attach();
+        writer.emplace(5u, 5u);
+        std::atomic<bool> has_ended{false};
+        std::thread reader([&] {
+            auto worker = map.attach();
+            while (!has_ended) {
+                auto guard = worker.pin();
+                for (int look = 0; look < 10; look++) CHECK(guard.get(5u)->is_of(5));
+            }
+        });
+        for (int turn = 0; turn < puts; turn++)
+            CHECK(!writer.insert_or_assign(5u, std::make_unique<Canary>(5)));
+        has_ended = true;
+        reader.join();
+        CHECK(map.size() == 1);
+    }
+    CHECK(Canary::alive() == 0 && Canary::destroyed > puts);
+}
+
+template <typename Raise>
+void is_raised(Raise raise) {
+    std::vector<std::thread> all;
+    for (int at = 0; at < threads; at++) all.emplace_back(raise);
+    for (std::thread &each : all) each.join();
+}
+
+void counters_lose_no_step() {
+    nm::Map<std::uint64_t> map{4096, threads + 1};
+    is_raised([&] {
+        auto worker = map.attach();
+        for (int step = 0; step < steps; step++)
+            worker.update(5u, [](std::optional<std::uint64_t> old) { return old.value_or(0) + 1; });
+    });
+    CHECK(map.attach().get(5u) == std::uint64_t(threads * steps));
+    nm::Map<std::string> texts{4096, 2 * threads + 1};
+    is_raised([&] {
+        auto reader = texts.attach(), worker = texts.attach();
+        for (int step = 0; step < steps / 10; step++) {
+            auto guard = reader.pin();
+            worker.under(guard).update(5u, [](const std::string *old) {
+                return std::to_string(old == nullptr ? 1 : std::stoi(*old) + 1);
+            });
+        }
+    });
+    auto reader = texts.attach();
+    CHECK(*reader.pin().get(5u) == std::to_string(threads * steps / 10));
+}
+
+}  // namespace
+
+int main() {
+    values_are_replaced();
+    values_are_compared();
+    an_update_looks_again();
+    objects_are_replaced();
+    old_objects_exist_under_a_guard();
+    objects_are_updated();
+    refused_calls_leave_the_object();
+    a_full_map_goes_on();
+    a_key_is_never_absent();
+    counters_lose_no_step();
+    CHECK(Canary::alive() == 0);
+    std::puts("each object was destroyed once");
+}
