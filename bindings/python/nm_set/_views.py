@@ -232,6 +232,16 @@ class SubMap(Views[K, V]):
         """Gives a key an object: see `Map.__setitem__`."""
         self._raw[self._checked(key)] = value
 
+    def replace(self, key: K, value: V) -> V:
+        """Replaces the object that a key has, and returns it: see `Map.replace`."""
+        found: V = self._raw.replace(self._checked(key), value)
+        return found
+
+    def compare_replace(self, key: K, expected: object, value: V) -> bool:
+        """Replaces the object that a key has if it is the expected one: see
+        `Map.compare_replace`."""
+        return bool(self._raw.compare_replace(self._checked(key), expected, value))
+
     def setdefault(self, key: K, default: Any = None) -> Any:
         """Returns the object of a key, after an insert of the default if it was absent."""
         return self._raw.setdefault(self._checked(key), default)

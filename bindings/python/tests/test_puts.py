@@ -74,6 +74,10 @@ class Answers(unittest.TestCase):
             self.assertRaises(KeyError, lambda: found.replace(6, "x"))
             self.assertRaises(KeyError, lambda: found.replace(7, None))
             self.assertEqual(list(found.items()), [(-5, "sept")])
+            below = found.sub_map(maximum=0)
+            self.assertEqual((below.replace(-5, "huit"), found[-5]), ("sept", "huit"))
+            self.assertTrue(below.compare_replace(-5, "huit", "neuf"))
+            self.assertEqual((found[-5], len(found)), ("neuf", 1))
 
     def test_an_insert_by_a_set_item_wakes(self) -> None:
         with Map[str](64) as found:
