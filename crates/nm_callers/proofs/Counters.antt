@@ -70,10 +70,10 @@ module _ (m : PlainMap) (a : MapAct) (k : ℕ) where
       by Has answer is = refl
       by Insert false is = refl
       by Delete false is = refl
-      by Insert true (inl no) = absurd (let which = no in cc)
-      by Insert true (inr no) = absurd (true≢false no)
-      by Delete true (inl no) = absurd (let which = no in cc)
-      by Delete true (inr no) = absurd (true≢false no)
+      by Insert true (inl has) = absurd (let which = has in cc)
+      by Insert true (inr untrue) = absurd (true≢false untrue)
+      by Delete true (inl has) = absurd (let which = has in cc)
+      by Delete true (inr untrue) = absurd (true≢false untrue)
 
   -- a put of the key raises the number
   put_raises : (first : ℕ) → (k == a.act.key) ≡ true → k ≡ a.act.key → a.left ≡ Some (a.value + 1)
@@ -95,14 +95,19 @@ and_false : (b c : Bool) → c ≡ false → (b && c) ≡ false
 and_false true c is = is
 and_false false c is = refl
 
-sum : CountersEndWithTheSum
-sum m [] k first gives at all = at ∙ ap (λ (n : ℕ). Some n) (omega arith)
-sum m (a ∷ acts) k first (found, gives) at (each, all) = by (eqb_tells k a.act.key) each
+-- what holds of the acts after the first one: the sum, whatever the number is then
+abbrev SumsUp : PlainMap → List MapAct → ℕ → Type 0
+SumsUp m acts k = (n : ℕ) → m k ≡ Some n → map_after m acts k ≡ Some (n + puts_of k acts)
+
+-- the first act leaves the number as it is, and is not counted; or it raises it by one, and is counted
+first_act : (m : PlainMap) (a : MapAct) (acts : List MapAct) (k first : ℕ)
+    → m a.act.key ≡ found_by a.act.op a.act.answer a.value → m k ≡ Some first → RaisesOrReads k a
+    → SumsUp (map_then m a) acts k → map_after (map_then m a) acts k ≡ Some (first + puts_of k (a ∷ acts))
+first_act m a acts k first found at each rest = by (eqb_tells k a.act.key) each
   where
-    -- the act leaves the number as it is, and is not counted
     goes_on : map_then m a k ≡ m k → ((k == a.act.key) && not (is_plain a)) ≡ false
         → map_after (map_then m a) acts k ≡ Some (first + puts_of k (a ∷ acts))
-    goes_on same none = sum (map_then m a) acts k first gives (same ∙ at) all
+    goes_on same none = rest first (same ∙ at)
         ∙ ap (λ (n : ℕ). Some (first + n)) (sym (none_counted k a acts none))
 
     raises : k ≡ a.act.key → (k == a.act.key) ≡ true → a.left ≡ Some (a.value + 1) → a.act.op ≡ Insert
@@ -111,7 +116,7 @@ sum m (a ∷ acts) k first (found, gives) at (each, all) = by (eqb_tells k a.act
         let counted : puts_of k (a ∷ acts) ≡ suc (puts_of k acts) =
         if_true ((k == a.act.key) && not (is_plain a)) (suc (puts_of k acts)) (puts_of k acts)
         (ap (λ (b : Bool). b && not (is_plain a)) same ∙ ap (λ (l : Option ℕ). not (is_none l)) left) in
-        sum (map_then m a) acts k (first + 1) gives (put_raises m a k first same is left op answer found at) all
+        rest (first + 1) (put_raises m a k first same is left op answer found at)
         ∙ ap (λ (n : ℕ). Some n) (omega (arith, counted))
 
     by : (((k == a.act.key) ≡ true) × (k ≡ a.act.key)) ⊎ (((k == a.act.key) ≡ false) × (k ≢ a.act.key))
@@ -123,4 +128,6 @@ sum m (a ∷ acts) k first (found, gives) at (each, all) = by (eqb_tells k a.act
     by (inl (same, is)) (inr (inr (left, op, answer))) = raises is same left op answer
 
 pub counters_end_with_the_sum : CountersEndWithTheSum
-counters_end_with_the_sum = sum
+counters_end_with_the_sum m [] k first gives at all = at ∙ ap (λ (n : ℕ). Some n) (omega arith)
+counters_end_with_the_sum m (a ∷ acts) k first (found, gives) at (each, all) = first_act m a acts k first found at
+    each (λ n is. counters_end_with_the_sum (map_then m a) acts k n gives is all)
