@@ -2,6 +2,7 @@
 use Rattle.std.proofs.Common.{◌≡◌, ◌≢◌, ◌⊎◌, inl, inr, ℕ, suc, ◌+◌, ◌==◌, Bool, true, false, not, ◌&&◌, List, [], ◌∷◌, refl, sym, ap, subst, ◌∙◌, arith, true≢false}
 use Rattle.std.specs.Prelude.{Option, Some, None, Ok, is_none, if◌then◌else◌}
 use Rattle.std.proofs.lemmas.Bool.Decides.{eqb_tells}
+use Rattle.std.proofs.lemmas.List.Elements.{All-head, All-tail}
 use Rattle.std.proofs.lemmas.Option.{same_Some}
 use Rattle.nm_model.specs.declared.event.Op.{Op}
 use Rattle.nm_model.specs.declared.event.Op.TheVariants.{Has, Insert, Delete}
@@ -129,5 +130,6 @@ first_act m a acts k first found at each rest = by (eqb_tells k a.act.key) each
 
 pub counters_end_with_the_sum : CountersEndWithTheSum
 counters_end_with_the_sum m [] k first gives at all = at ∙ ap (λ (n : ℕ). Some n) (omega arith)
-counters_end_with_the_sum m (a ∷ acts) k first (found, gives) at (each, all) = first_act m a acts k first found at
-    each (λ n is. counters_end_with_the_sum (map_then m a) acts k n gives is all)
+counters_end_with_the_sum m (a ∷ acts) k first (found, gives) at all = first_act m a acts k first found at
+    (All-head (RaisesOrReads k) a acts all)
+    (λ n is. counters_end_with_the_sum (map_then m a) acts k n gives is (All-tail (RaisesOrReads k) a acts all))
