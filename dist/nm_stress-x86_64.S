@@ -2,7 +2,7 @@
  *
  * proved: nm_stress and all crates that it depends on
  * kit: rattle-kit-13f logic dac8208d650f15bf
- * sources: sha256 f9ce87394da797d38a533d5c0b6670535563ce5f81f73d24e1c3860c3f52bf97
+ * sources: sha256 2ed9fd5abb9b7eeb90e8210aba0cd532eb586271c24fdeab18331b0ae215c179
  *
  * dist/README.md says how this file is made, checked and used, and what is trusted.
  */
