@@ -153,7 +153,8 @@ void refused_calls_leave_the_object() {
         CHECK(false);
     } catch (const std::invalid_argument &) {
     }
-    CHECK(worker.pin().get(1u)->is_of(1) && worker.pin().get(2u)->is_of(2));
+    auto guard = worker.pin();
+    CHECK(guard.get(1u)->is_of(1) && guard.get(2u)->is_of(2));
 }
 
 // One node that no key takes is enough for any number of replacements. While a guard holds it back,

@@ -53,7 +53,8 @@ void fill(Objects &map) {
 void replace(Objects &map) {
     Objects::Worker worker = at_last([&] { return map.attach(); });
     std::uint64_t before = Canary::alive();
-    for (std::uint64_t key = 0; key < keys; key++) {
+    for (std::uint64_t each = 0; each < keys; each++) {
+        std::uint64_t key = each * 37 % 151;
         std::unique_ptr<Canary> object;
         while (object == nullptr) object.reset(new (std::nothrow) Canary(key));
         CHECK(!at_last([&] {
