@@ -15,8 +15,8 @@ then the key was removed meanwhile, and the call looks again.
 A call that removes a key returns its object, but by then another worker may have reclaimed the
 token. So there are two dicts. An entry of `_read` ends when the token is reclaimed, and an entry of
 `_left` when the call that removed the key, or replaced its object, has taken it. Each entry ends
-once, by one call, so no two calls need to agree. The object itself ends with the later one of the two, like any object of
-Python.
+once, by one call, so no two calls need to agree. The object itself ends with the later one of the
+two, like any object of Python.
 """
 
 from __future__ import annotations

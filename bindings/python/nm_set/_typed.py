@@ -22,7 +22,7 @@ from ._keys import ends_of
 from ._map import Map
 from ._report import Report
 from ._set import Set, SetStats, Stamp, Stats, Worker
-from ._views import MISSING, Views, text_of
+from ._views import KeyCalls, text_of
 
 T = TypeVar("T")
 V = TypeVar("V")
@@ -562,7 +562,7 @@ class SetOf(_Numbers, _Values[T]):
         return [self._mapping.from_key(key) for key in self._set.close().keys]
 
 
-class MapOf(_Numbers, _Ordered[T], Views[T, V]):
+class MapOf(_Numbers, _Ordered[T], KeyCalls[T, V]):
     """A `Map` whose keys are values of a type, by a `Mapping`, as of a `SetOf`. Each call makes the
     call of the same name of `Map`. `raw` is the map of the keys."""
 
@@ -608,6 +608,9 @@ class MapOf(_Numbers, _Ordered[T], Views[T, V]):
     def _number(self, key: object) -> Optional[int]:
         return self._key_or_none(key)
 
+    def _checked(self, key: T) -> int:
+        return self._key(key)
+
     def _from_number(self, number: int) -> T:
         return self._mapping.from_key(number)
 
@@ -621,74 +624,13 @@ class MapOf(_Numbers, _Ordered[T], Views[T, V]):
     def __enter__(self) -> MapOf[T, V]:
         return self
 
-    # ---- one key ----
-
-    def _get(self, key: object) -> Any:
-        number = self._key_or_none(key)
-        return self._of._get(-1 if number is None else number)
-
-    def __getitem__(self, key: object) -> V:
-        """Returns the object of a key. Raises KeyError if the map does not have the key."""
-        found = self._get(key)
-        if found is MISSING:
-            raise KeyError(key)
-        return found  # type: ignore[no-any-return]
-
-    def __contains__(self, key: object) -> bool:
-        """Returns whether the map has a key. A value that has no key is in no map."""
-        return self._get(key) is not MISSING
-
-    def get(self, key: object, default: Any = None) -> Any:
-        """Returns the object of a key, or the default."""
-        found = self._get(key)
-        return default if found is MISSING else found
+    # ---- calls of its own ----
 
     def get_many(self, keys: Iterable[T], default: Any = None) -> list[Any]:
         """Returns for each of these keys, in their order, its object, or the default: see
         `Map.get_many`."""
         found: list[Any] = self._of.get_many([self._key(key) for key in keys], default)
         return found
-
-    def insert(self, key: T, value: V) -> bool:
-        """Inserts a key with an object; returns True if the key was absent: see `Map.insert`."""
-        return self._of.insert(self._key(key), value)
-
-    def __setitem__(self, key: T, value: V) -> None:
-        """Inserts a key with an object, or replaces the object that it has, in one step: see
-        `Map.__setitem__`."""
-        self._of[self._key(key)] = value
-
-    def replace(self, key: T, value: V) -> V:
-        """Replaces the object that a key has, and returns it: see `Map.replace`."""
-        found = self._of._replace(self._key(key), value)
-        if found is MISSING:
-            raise KeyError(key)
-        return found  # type: ignore[no-any-return]
-
-    def compare_replace(self, key: T, expected: object, value: V) -> bool:
-        """Replaces the object that a key has if it is the expected one: see
-        `Map.compare_replace`."""
-        return self._of.compare_replace(self._key(key), expected, value)
-
-    def setdefault(self, key: T, default: Any = None) -> Any:
-        """Returns the object of a key, after an insert of the default if the key was absent: see
-        `Map.setdefault`."""
-        return self._of.setdefault(self._key(key), default)
-
-    def __delitem__(self, key: object) -> None:
-        """Removes a key. Raises KeyError if the map does not have it."""
-        self.pop(key)
-
-    def pop(self, key: object, default: Any = MISSING) -> Any:
-        """Removes a key, and returns the object that it had: see `Map.pop`. If the map does not have
-        the key, it returns the default, or raises KeyError if none is given."""
-        number = self._key_or_none(key)
-        found = self._get(key) if number is None else self._of._pop(number)
-        if found is not MISSING:
-            return found
-        if default is MISSING:
-            raise KeyError(key)
-        return default
 
     def popitem(self) -> tuple[T, V]:
         """Removes the least key and returns it with its object, like `pop_first`."""

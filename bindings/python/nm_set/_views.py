@@ -170,7 +170,77 @@ class Views(MutableMapping, Generic[K, V]):  # type: ignore[type-arg]
     __hash__ = None  # type: ignore[assignment]
 
 
-class SubMap(Views[K, V]):
+class KeyCalls(Views[K, V]):
+    """The calls for one key of a view, or of a map whose keys are mapped to integers: each makes the
+    call of the same name of the map of the integers."""
+
+    def _checked(self, key: K) -> int:
+        """Returns the number of a key. Raises a fault if it has none."""
+        raise NotImplementedError
+
+    def _get(self, key: object) -> Any:
+        number = self._number(key)
+        return self._raw._get(-1 if number is None else number)
+
+    def __getitem__(self, key: object) -> V:
+        """Returns the object of a key. Raises KeyError if the key is absent."""
+        found = self._get(key)
+        if found is MISSING:
+            raise KeyError(key)
+        return found  # type: ignore[no-any-return]
+
+    def __contains__(self, key: object) -> bool:
+        """Returns whether a key is present. A value that is no key is absent."""
+        return self._get(key) is not MISSING
+
+    def get(self, key: object, default: Any = None) -> Any:
+        """Returns the object of a key, or the default."""
+        found = self._get(key)
+        return default if found is MISSING else found
+
+    def insert(self, key: K, value: V) -> bool:
+        """Inserts a key with an object; returns True if the key was absent: see `Map.insert`."""
+        return bool(self._raw.insert(self._checked(key), value))
+
+    def __setitem__(self, key: K, value: V) -> None:
+        """Inserts a key with an object, or replaces the object that it has, in one step: see
+        `Map.__setitem__`."""
+        self._raw[self._checked(key)] = value
+
+    def replace(self, key: K, value: V) -> V:
+        """Replaces the object that a key has, and returns it: see `Map.replace`."""
+        found = self._raw._replace(self._checked(key), value)
+        if found is MISSING:
+            raise KeyError(key)
+        return found  # type: ignore[no-any-return]
+
+    def compare_replace(self, key: K, expected: object, value: V) -> bool:
+        """Replaces the object that a key has if it is the expected one: see
+        `Map.compare_replace`."""
+        return bool(self._raw.compare_replace(self._checked(key), expected, value))
+
+    def setdefault(self, key: K, default: Any = None) -> Any:
+        """Returns the object of a key, after an insert of the default if the key was absent: see
+        `Map.setdefault`."""
+        return self._raw.setdefault(self._checked(key), default)
+
+    def __delitem__(self, key: object) -> None:
+        """Removes a key. Raises KeyError if it is absent."""
+        self.pop(key)
+
+    def pop(self, key: object, default: Any = MISSING) -> Any:
+        """Removes a key, and returns the object that it had: see `Map.pop`. If the key is absent, it
+        returns the default, or raises KeyError if none is given."""
+        number = self._number(key)
+        found = self._get(key) if number is None else self._raw._pop(number)
+        if found is not MISSING:
+            return found
+        if default is MISSING:
+            raise KeyError(key)
+        return default
+
+
+class SubMap(KeyCalls[K, V]):
     """A view of the keys of a map between two bounds, which `sub_map` returns. A call for one key
     makes the call of the same name of the map. A key that is not between the bounds is absent, and
     cannot be inserted: `OutOfRange`. `len` goes over the keys. While other threads change the map,
@@ -206,59 +276,6 @@ class SubMap(Views[K, V]):
         if found is None or not self._first <= found[0] < self._below:
             return None
         return self._from_number(found[0]), found[1]
-
-    # ---- one key ----
-
-    def _get(self, key: object) -> Any:
-        number = self._number(key)
-        return self._raw._get(-1 if number is None else number)
-
-    def __getitem__(self, key: object) -> V:
-        """Returns the object of a key. Raises KeyError if the view does not have the key."""
-        found = self._get(key)
-        if found is MISSING:
-            raise KeyError(key)
-        return found  # type: ignore[no-any-return]
-
-    def __contains__(self, key: object) -> bool:
-        """Returns whether the view has a key."""
-        return self._get(key) is not MISSING
-
-    def insert(self, key: K, value: V) -> bool:
-        """Inserts a key with an object; returns True if the key was absent: see `Map.insert`."""
-        return bool(self._raw.insert(self._checked(key), value))
-
-    def __setitem__(self, key: K, value: V) -> None:
-        """Gives a key an object: see `Map.__setitem__`."""
-        self._raw[self._checked(key)] = value
-
-    def replace(self, key: K, value: V) -> V:
-        """Replaces the object that a key has, and returns it: see `Map.replace`."""
-        found: V = self._raw.replace(self._checked(key), value)
-        return found
-
-    def compare_replace(self, key: K, expected: object, value: V) -> bool:
-        """Replaces the object that a key has if it is the expected one: see
-        `Map.compare_replace`."""
-        return bool(self._raw.compare_replace(self._checked(key), expected, value))
-
-    def setdefault(self, key: K, default: Any = None) -> Any:
-        """Returns the object of a key, after an insert of the default if it was absent."""
-        return self._raw.setdefault(self._checked(key), default)
-
-    def __delitem__(self, key: object) -> None:
-        """Removes a key. Raises KeyError if the view does not have it."""
-        self.pop(key)
-
-    def pop(self, key: object, default: Any = MISSING) -> Any:
-        """Removes a key, and returns its object, or the default: see `Map.pop`."""
-        number = self._number(key)
-        found = self._get(key) if number is None else self._raw._pop(number)
-        if found is not MISSING:
-            return found
-        if default is MISSING:
-            raise KeyError(key)
-        return default
 
     # ---- in order ----
 
