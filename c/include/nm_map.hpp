@@ -528,7 +528,8 @@ private:
 // The calls of a worker that replace a value in one step, and return the old one: copies of values in
 // place; or, under a guard of another worker, pointers to objects, which exist until the end of the
 // guard. No call finds the key absent meanwhile. They wait for nodes like `insert`, and throw what it
-// throws.
+// throws. A guard holds back the nodes of all calls until its end. So threads that make many calls
+// under guards of their own may wait for one another until NM_FULL: end each guard after a few calls.
 template <typename Of, typename T>
 class MapPuts {
 public:

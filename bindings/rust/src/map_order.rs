@@ -29,6 +29,10 @@ const LEAST_NODES: usize = 4_096;
 /// map: see [`MapWorker::under`]. A reference exists until that guard is dropped, also if the key
 /// is removed meanwhile, by this call or by another one.
 ///
+/// A guard holds back the nodes of all calls until it is dropped. So threads that make many calls
+/// under guards of their own may wait for one another until [`Fault::MapFull`]: drop each guard after
+/// a few calls.
+///
 /// ```compile_fail,E0505
 /// # fn main() -> Result<(), Box<dyn std::error::Error>> {
 /// let map = nm_set::Map::<String>::new(64, 2)?;

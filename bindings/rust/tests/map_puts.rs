@@ -2,7 +2,7 @@
 //! once, and not while a guard can return it; a reader always finds a key that others put; counters
 //! lose no step; a full map goes on by replacements; and what is refused leaves the caller its value.
 
-use nm_set::{Fault, Map, MapOf, Options, PutError};
+use nm_set::{Fault, Map, MapOf, MapWorker, Options, PutError};
 use std::sync::atomic::{AtomicBool, AtomicU64, Ordering::SeqCst};
 use std::sync::Arc;
 use std::thread;
@@ -227,20 +227,34 @@ fn a_key_is_never_absent() {
     assert_eq!(alive.count(), 0);
 }
 
+/// Raises the counter, which the key 5 has, by one. Returns whether it did: not if the guards of all
+/// threads leave no node free. This guard is dropped then.
+fn is_raised(
+    alive: &Alive,
+    reader: &mut MapWorker<'_, Value>,
+    worker: &mut MapWorker<'_, Value>,
+) -> bool {
+    let guard = reader.pin().unwrap();
+    let mut calls = worker.under(&guard).unwrap();
+    match calls.update(5, |old| alive.value(old.map_or(1, |old| old.number + 1))) {
+        Ok(_) => true,
+        Err(Fault::MapFull(_)) => false,
+        Err(fault) => panic!("{fault}"),
+    }
+}
+
 #[test]
 fn a_counter_loses_no_step() {
     let alive = Alive::default();
-    let map = Map::<Value>::new(4_096, 2 * THREADS as u32 + 1).unwrap();
+    let map = Map::<Value>::with_options(4_096, options(2 * THREADS as u32 + 1, 0)).unwrap();
     thread::scope(|scope| {
         for _ in 0..THREADS {
             scope.spawn(|| {
                 let (mut reader, mut worker) = (map.attach().unwrap(), map.attach().unwrap());
                 for _ in 0..STEPS {
-                    let guard = reader.pin().unwrap();
-                    let mut calls = worker.under(&guard).unwrap();
-                    calls
-                        .update(5, |old| alive.value(old.map_or(1, |old| old.number + 1)))
-                        .unwrap();
+                    while !is_raised(&alive, &mut reader, &mut worker) {
+                        thread::yield_now();
+                    }
                 }
             });
         }
