@@ -6,6 +6,7 @@ use nm_set::{Fault, Map, MapOf, MapWorker, Options, PutError};
 use std::sync::atomic::{AtomicBool, AtomicU64, Ordering::SeqCst};
 use std::sync::Arc;
 use std::thread;
+use std::time::Duration;
 
 const THREADS: usize = 4;
 const STEPS: u64 = 10_000;
@@ -250,7 +251,8 @@ fn a_counter_loses_no_step() {
     thread::scope(|scope| {
         for _ in 0..THREADS {
             scope.spawn(|| {
-                let (mut reader, mut worker) = (map.attach().unwrap(), map.attach().unwrap());
+                let attach = || map.attach_timeout(Duration::from_secs(10)).unwrap();
+                let (mut reader, mut worker) = (attach(), attach());
                 for _ in 0..STEPS {
                     while !is_raised(&alive, &mut reader, &mut worker) {
                         thread::yield_now();
