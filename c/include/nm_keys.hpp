@@ -923,14 +923,100 @@ protected:
     using OrderedOf<Of, T>::of_;
 };
 
-// A worker of a set of values.
+// A worker of a set of values. Each call makes the call of the same name of nm::Worker. If that one
+// takes or returns a key, this one takes or returns a value: NM_KEY if its key is none.
 template <typename T>
 class WorkerOf : public ValuesOf<Worker, T> {
 public:
     // Makes it of a worker of keys.
     explicit WorkerOf(Worker worker) : ValuesOf<Worker, T>(std::move(worker)) {}
     // Returns the worker to the set.
-    void close() noexcept { this->of_.close(); }
+    void close() noexcept { of_.close(); }
+
+    // Inserts the value by at most `tries` tries.
+    [[nodiscard]] nm_outcome try_insert(const T &value,
+                                        std::uint32_t tries = usual_tries) noexcept {
+        return of_.try_insert(detail::key_or_none(value), tries);
+    }
+    // Removes the value in the same way.
+    [[nodiscard]] nm_outcome try_remove(const T &value,
+                                        std::uint32_t tries = usual_tries) noexcept {
+        return of_.try_remove(detail::key_or_none(value), tries);
+    }
+    // Finds the value in the same way.
+    [[nodiscard]] nm_outcome try_contains(const T &value,
+                                          std::uint32_t tries = usual_tries) const noexcept {
+        return of_.try_contains(detail::key_or_none(value), tries);
+    }
+    // Finds the least value that is not below this one. Returns NM_YES and writes it, or NM_NO.
+    [[nodiscard]] nm_outcome try_lower_bound(const T &value, T &found,
+                                             std::uint32_t tries = usual_tries) const noexcept {
+        return found_by(found, [&](std::uint64_t &key) {
+            return of_.try_lower_bound(detail::key_or_none(value), key, tries);
+        });
+    }
+    // Finds the greatest value that is not above this one. Returns NM_YES and writes it, or NM_NO.
+    [[nodiscard]] nm_outcome try_prev(const T &value, T &found,
+                                      std::uint32_t tries = usual_tries) const noexcept {
+        return found_by(found, [&](std::uint64_t &key) {
+            return of_.try_prev(detail::key_or_none(value), key, tries);
+        });
+    }
+    // Goes on with a remove that returned NM_UNFINISHED.
+    [[nodiscard]] nm_outcome try_finish(std::uint32_t tries = usual_tries) noexcept {
+        return of_.try_finish(tries);
+    }
+    // Returns the value of an unfinished remove, or nothing.
+    [[nodiscard]] std::optional<T> pending() const { return this->typed(of_.pending()); }
+
+    // Pins the epoch until the end of the result. The worker must neither move nor end before that.
+    Pin pin(std::uint32_t tries = usual_tries) & { return of_.pin(tries); }
+    // A worker that ends at once cannot be pinned.
+    Pin pin(std::uint32_t tries = usual_tries) && = delete;
+    // Pins the epoch until `try_unpin`, and writes it.
+    [[nodiscard]] nm_outcome try_pin(std::uint64_t &epoch,
+                                     std::uint32_t tries = usual_tries) noexcept {
+        return of_.try_pin(epoch, tries);
+    }
+    // Ends the pin of `try_pin`.
+    [[nodiscard]] nm_outcome try_unpin() noexcept { return of_.try_unpin(); }
+    // Returns the epoch at which it is pinned, or nothing.
+    [[nodiscard]] std::optional<std::uint64_t> pinned() const { return of_.pinned(); }
+    // Advances the epoch by one, or returns why not.
+    Advance advance() { return of_.advance(); }
+    // Returns the epoch, and which workers hold it back.
+    [[nodiscard]] Behind behind() const { return of_.behind(); }
+    // Frees what has waited long enough in its queue.
+    Collected collect() { return of_.collect(); }
+
+    // Returns its number in the set.
+    [[nodiscard]] std::uint32_t number() const { return of_.number(); }
+    // Returns the number of nodes that wait in its queue.
+    [[nodiscard]] std::uint64_t queue_len() const { return of_.queue_len(); }
+    // Returns what it has won, and what became of the nodes that it cut off.
+    [[nodiscard]] nm_stats stats() const { return of_.stats(); }
+    // Publishes a stamp of all that it has seen, and writes what it has done so far.
+    [[nodiscard]] nm_outcome try_publish(Stamp &stamp) noexcept { return of_.try_publish(stamp); }
+    // Observes the stamp of the worker of a number.
+    [[nodiscard]] nm_outcome try_observe(std::uint32_t number, Stamp &stamp) noexcept {
+        return of_.try_observe(number, stamp);
+    }
+
+    // Ends the set, after the `SetOf` and its other workers have ended. Returns the values that it
+    // had, ascending.
+    std::vector<T> close_set() { return this->all_typed(of_.close_set().keys()); }
+
+private:
+    using ValuesOf<Worker, T>::of_;
+
+    // Makes a call that may write a key, and writes its value. Returns the outcome.
+    template <typename Call>
+    static nm_outcome found_by(T &found, Call call) noexcept {
+        std::uint64_t key = 0;
+        nm_outcome outcome = call(key);
+        if (outcome == NM_YES) found = WorkerOf::typed(key);
+        return outcome;
+    }
 };
 
 // A set of values: nm::Set with the values of a type. `keys()` has the calls that attach into a worker.

@@ -110,6 +110,46 @@ void sets_are_made_of_values() {
     CHECK(numbers.try_insert(INT64_MAX) == NM_KEY && numbers.empty());
 }
 
+// Ends the set of two workers, which has 5 and 9.
+void a_worker_ends_its_set(nm::SetOf<int> set, nm::WorkerOf<int> worker) {
+    nm::Stamp stamp{};
+    {
+        auto other = set.attach();
+        CHECK(worker.try_publish(stamp) == NM_DONE && stamp.inserted == 3 && stamp.removed == 1);
+        CHECK(other.try_observe(worker.number(), stamp) == NM_YES && stamp.removed == 1);
+        CHECK(other.try_observe(other.number(), stamp) == NM_NO);
+    }
+    set = nm::SetOf<int>(64);
+    CHECK(worker.close_set() == std::vector<int>({5, 9}) && !worker.is_open());
+}
+
+void workers_have_the_calls_for_values() {
+    nm::Options options;
+    options.workers = 2;
+    nm::SetOf<int> set(64, options);
+    auto worker = set.worker(1);
+    int found = 0;
+    CHECK(worker.try_insert(-7) == NM_YES && worker.insert({5, 9}) == 2);
+    CHECK(worker.try_lower_bound(6, found) == NM_YES && found == 9);
+    CHECK(worker.try_prev(4, found) == NM_YES && found == -7);
+    CHECK(worker.try_lower_bound(10, found) == NM_NO && worker.try_prev(-8, found) == NM_NO);
+    CHECK(worker.try_remove(-7, 1) == NM_UNFINISHED && worker.pending() == -7 && found == -7);
+    CHECK(worker.try_finish() == NM_YES && !worker.pending() && worker.try_contains(-7) == NM_NO);
+    {
+        nm::Pin pin = worker.pin();
+        CHECK(worker.pinned() == pin.epoch() && worker.try_contains(5) == NM_PINNED);
+        CHECK(set.worker(0).behind().mask == 0);
+    }
+    std::uint64_t epoch = 0;
+    CHECK(worker.try_pin(epoch) == NM_DONE && worker.try_unpin() == NM_DONE && !worker.pinned());
+    CHECK(worker.number() == 1 && worker.queue_len() == 2 && worker.stats().links == 3);
+    CHECK(worker.advance().moved() && worker.advance().moved() && worker.collect().freed == 2);
+    a_worker_ends_its_set(std::move(set), std::move(worker));
+    nm::SetOf<std::int64_t> wide;
+    std::int64_t none = 0;
+    CHECK(wide.attach().try_lower_bound(INT64_MAX, none) == NM_KEY && none == 0);
+}
+
 void values_that_are_no_keys() {
     nm::SetOf<std::int64_t> set;
     CHECK(set.insert({INT64_MIN, -5, 5, INT64_MAX - 3}) == 4);
@@ -144,6 +184,7 @@ int main() {
     sets_are_written();
     values_that_are_no_keys();
     sets_are_made_of_values();
+    workers_have_the_calls_for_values();
     refused_values_are_named();
     std::puts("a set of values answers like std::set");
 }

@@ -13,6 +13,7 @@ WITHOUT = {
     "cpp": {
         "try_attach": "it attaches into a worker of keys: keys()",
         "try_worker": "the same",
+        "try_contains_many": "it writes into look-ups of keys: contains_many, or keys()",
     },
     "rust": {},
 }
@@ -24,6 +25,7 @@ RUST = "bindings/rust/src/"
 COMPARED = {
     "cpp": [
         (30, [(SET, "InOrder", "Keys", "Set")], [(KEYS, "OrderedOf", "ValuesOf", "SetOf")]),
+        (50, [(SET, "InOrder", "Keys", "Worker")], [(KEYS, "OrderedOf", "ValuesOf", "WorkerOf")]),
         (7, [(MAP, "Map")], [(KEYS, "MapOf")]),
         (30, [(SET, "InOrder"), (MAP, "MapCalls", "MapPuts", "MapWorker")], [(KEYS, "OrderedOf", "EntriesOf", "MapWorkerOf")]),
         (15, [(SET, "InOrder"), (MAP, "MapCalls", "MapPuts", "GuardedWorker")],
