@@ -933,7 +933,7 @@ public:
     // Returns the worker to the set.
     void close() noexcept { of_.close(); }
 
-    // Inserts the value by at most `tries` tries.
+    // Inserts the value by at most `tries` tries. Returns NM_YES if it was absent, and else NM_NO.
     [[nodiscard]] nm_outcome try_insert(const T &value,
                                         std::uint32_t tries = usual_tries) noexcept {
         return of_.try_insert(detail::key_or_none(value), tries);
@@ -962,7 +962,7 @@ public:
             return of_.try_prev(detail::key_or_none(value), key, tries);
         });
     }
-    // Goes on with a remove that returned NM_UNFINISHED.
+    // Goes on with a remove that returned NM_UNFINISHED. Returns NM_YES if it is finished now.
     [[nodiscard]] nm_outcome try_finish(std::uint32_t tries = usual_tries) noexcept {
         return of_.try_finish(tries);
     }
@@ -973,12 +973,12 @@ public:
     Pin pin(std::uint32_t tries = usual_tries) & { return of_.pin(tries); }
     // A worker that ends at once cannot be pinned.
     Pin pin(std::uint32_t tries = usual_tries) && = delete;
-    // Pins the epoch until `try_unpin`, and writes it.
+    // Pins the epoch until `try_unpin`, and writes it. Returns NM_DONE.
     [[nodiscard]] nm_outcome try_pin(std::uint64_t &epoch,
                                      std::uint32_t tries = usual_tries) noexcept {
         return of_.try_pin(epoch, tries);
     }
-    // Ends the pin of `try_pin`.
+    // Ends the pin of `try_pin`. Returns NM_DONE.
     [[nodiscard]] nm_outcome try_unpin() noexcept { return of_.try_unpin(); }
     // Returns the epoch at which it is pinned, or nothing.
     [[nodiscard]] std::optional<std::uint64_t> pinned() const { return of_.pinned(); }
@@ -986,7 +986,7 @@ public:
     Advance advance() { return of_.advance(); }
     // Returns the epoch, and which workers hold it back.
     [[nodiscard]] Behind behind() const { return of_.behind(); }
-    // Frees what has waited long enough in its queue.
+    // Frees what has waited long enough in its queue. Returns the epoch and how many nodes it freed.
     Collected collect() { return of_.collect(); }
 
     // Returns its number in the set.
@@ -995,9 +995,10 @@ public:
     [[nodiscard]] std::uint64_t queue_len() const { return of_.queue_len(); }
     // Returns what it has won, and what became of the nodes that it cut off.
     [[nodiscard]] nm_stats stats() const { return of_.stats(); }
-    // Publishes a stamp of all that it has seen, and writes what it has done so far.
+    // Publishes a stamp of all that it has seen, and writes what it has done so far. Returns NM_DONE.
     [[nodiscard]] nm_outcome try_publish(Stamp &stamp) noexcept { return of_.try_publish(stamp); }
-    // Observes the stamp of the worker of a number.
+    // Observes the stamp of the worker of a number, and writes what that one had done by then.
+    // Returns NM_YES, or NM_NO if it has published none.
     [[nodiscard]] nm_outcome try_observe(std::uint32_t number, Stamp &stamp) noexcept {
         return of_.try_observe(number, stamp);
     }

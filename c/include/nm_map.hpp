@@ -564,9 +564,10 @@ public:
     }
 
     // Gives a key the value that a function makes of the one that it has, or of nothing if it is
-    // absent; returns the new value. The function gets a `Found`, and is called again if another
-    // call has changed the key in between. It may make calls by other workers: it is called outside
-    // of every lock, and this worker is not pinned. It returns a T, or a `std::unique_ptr<T>`.
+    // absent; returns the new value. The function gets a `Found`, and is called again as often as
+    // another call changes the key in between, without a bound. It may make calls by other workers:
+    // it is called outside of every lock, and this worker is not pinned. It returns a T, or a
+    // `std::unique_ptr<T>`.
     template <typename F>
     detail::Returned<T> update(Key key, F f) {
         Found old = static_cast<Of &>(*this).get(key);

@@ -302,26 +302,6 @@ class Map(Views[int, V]):
             return MISSING
         return self._with_worker(lambda worker: self._found(worker, number))
 
-    def __getitem__(self, key: object) -> V:
-        """Returns the object of a key. Raises KeyError if the map does not have the key."""
-        found = self._get(key)
-        if found is MISSING:
-            raise KeyError(key)
-        return found  # type: ignore[no-any-return]
-
-    def __contains__(self, key: object) -> bool:
-        """Returns whether the map has a key. A value that is no key is in no map."""
-        return self._get(key) is not MISSING
-
-    @overload
-    def get(self, key: object) -> Optional[V]: ...
-    @overload
-    def get(self, key: object, default: T) -> Union[V, T]: ...
-    def get(self, key: object, default: Any = None) -> Any:
-        """Returns the object of a key, or the default."""
-        found = self._get(key)
-        return default if found is MISSING else found
-
     @overload
     def get_many(self, keys: Iterable[SupportsIndex]) -> list[Optional[V]]: ...
     @overload
@@ -503,10 +483,6 @@ class Map(Views[int, V]):
         if outcome < 0:
             raise self._fault(outcome)
         return MISSING
-
-    def __delitem__(self, key: object) -> None:
-        """Removes a key. Raises KeyError if the map does not have it."""
-        self.pop(key)
 
     @overload
     def pop(self, key: object) -> V: ...

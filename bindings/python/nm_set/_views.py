@@ -9,12 +9,13 @@ from collections.abc import Callable, ItemsView, Iterable, Iterator, KeysView, M
 from collections.abc import Mapping as AbstractMapping
 from collections.abc import ValuesView
 from itertools import islice
-from typing import Any, Generic, Optional, TypeVar, Union
+from typing import Any, Generic, Optional, TypeVar, Union, overload
 
 from ._faults import SHOWN, Contention, OutOfRange, shown_value
 
 K = TypeVar("K")
 V = TypeVar("V")
+T = TypeVar("T")
 _Of = TypeVar("_Of", bound="Views[Any, Any]")
 
 MISSING: Any = object()
@@ -76,6 +77,10 @@ class Views(MutableMapping, Generic[K, V]):  # type: ignore[type-arg]
         """The map of the keys, which are integers."""
         raise NotImplementedError
 
+    def _get(self, key: object) -> Any:
+        """Returns the object of a key, or `MISSING`."""
+        raise NotImplementedError
+
     def insert(self, key: K, value: V) -> bool:
         """Inserts a key with an object; returns True if the key was absent."""
         raise NotImplementedError
@@ -101,6 +106,32 @@ class Views(MutableMapping, Generic[K, V]):  # type: ignore[type-arg]
     def _from_number(self, number: int) -> K:
         """Returns the key of a number."""
         raise NotImplementedError
+
+    # ---- one key ----
+
+    def __getitem__(self, key: object) -> V:
+        """Returns the object of a key. Raises KeyError if the key is absent."""
+        found = self._get(key)
+        if found is MISSING:
+            raise KeyError(key)
+        return found  # type: ignore[no-any-return]
+
+    def __contains__(self, key: object) -> bool:
+        """Returns whether a key is present. A value that is no key is absent."""
+        return self._get(key) is not MISSING
+
+    @overload
+    def get(self, key: object) -> Optional[V]: ...
+    @overload
+    def get(self, key: object, default: T) -> Union[V, T]: ...
+    def get(self, key: object, default: Any = None) -> Any:
+        """Returns the object of a key, or the default."""
+        found = self._get(key)
+        return default if found is MISSING else found
+
+    def __delitem__(self, key: object) -> None:
+        """Removes a key. Raises KeyError if it is absent."""
+        self.pop(key)
 
     # ---- views ----
 
@@ -182,22 +213,6 @@ class KeyCalls(Views[K, V]):
         number = self._number(key)
         return self._raw._get(-1 if number is None else number)
 
-    def __getitem__(self, key: object) -> V:
-        """Returns the object of a key. Raises KeyError if the key is absent."""
-        found = self._get(key)
-        if found is MISSING:
-            raise KeyError(key)
-        return found  # type: ignore[no-any-return]
-
-    def __contains__(self, key: object) -> bool:
-        """Returns whether a key is present. A value that is no key is absent."""
-        return self._get(key) is not MISSING
-
-    def get(self, key: object, default: Any = None) -> Any:
-        """Returns the object of a key, or the default."""
-        found = self._get(key)
-        return default if found is MISSING else found
-
     def insert(self, key: K, value: V) -> bool:
         """Inserts a key with an object; returns True if the key was absent: see `Map.insert`."""
         return bool(self._raw.insert(self._checked(key), value))
@@ -223,10 +238,6 @@ class KeyCalls(Views[K, V]):
         """Returns the object of a key, after an insert of the default if the key was absent: see
         `Map.setdefault`."""
         return self._raw.setdefault(self._checked(key), default)
-
-    def __delitem__(self, key: object) -> None:
-        """Removes a key. Raises KeyError if it is absent."""
-        self.pop(key)
 
     def pop(self, key: object, default: Any = MISSING) -> Any:
         """Removes a key, and returns the object that it had: see `Map.pop`. If the key is absent, it

@@ -163,8 +163,8 @@ impl<'g, V> GuardedWorker<'_, '_, 'g, V> {
     }
 
     /// Gives a key the value that a function makes of the one that it has, or of None if the key is
-    /// absent; returns the new value. It calls the function again if another call has changed the
-    /// key in between. The function may make calls by other workers: no lock is held, and of the
+    /// absent; returns the new value. It calls the function again as often as another call changes
+    /// the key in between, without a bound. The function may make calls by other workers: no lock is held, and of the
     /// map only the guard is pinned.
     ///
     /// Errors: `Key`, `MapFull`, `Contention`, `NoMemory`, `Pinned`.
@@ -189,7 +189,8 @@ impl<'g, V> GuardedWorker<'_, '_, 'g, V> {
     }
 
     /// Returns the value of a key, after an insert of the value that a function makes if the key is
-    /// absent. The new value is dropped again if another call has inserted the key in between.
+    /// absent. The new value is dropped again if another call has inserted the key in between. It
+    /// tries again as often as other calls insert and remove the key in between, without a bound.
     ///
     /// Errors: `Key`, `MapFull`, `Contention`, `NoMemory`, `Pinned`.
     pub fn get_or_insert_with(
