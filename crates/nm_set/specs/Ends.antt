@@ -48,13 +48,10 @@ pub record HasGathered (s : SetView) (why : CloseReason) (t : SetView) : Type 0 
   pub none : s.closing ≡ true → home ≡ []
   pub reason : IsCloseReason t.tree t.kept why
 
--- the set is open and unchanged
-abbrev pub IsAsBefore : SetView → SetView → Type 0
-IsAsBefore s t = (s.closing ≡ false) × (t ≡ s)
-
--- why a set was not closed, and what the set is then
+-- why a set was not closed, and what the set is then: it is open and unchanged, or its workers were
+-- gathered
 abbrev pub IsLeftOpen : SetView → CloseReason → SetView → Type 0
-IsLeftOpen s because.Attached t = IsAsBefore s t
+IsLeftOpen s because.Attached t = (s.closing ≡ false) × (t ≡ s)
 IsLeftOpen s why t = HasGathered s why t
 
 -- ---- workers that are kept after they were returned

@@ -1,6 +1,6 @@
 -- What the workers of a tree without a call have linked is what they have flagged and what is left.
-use Rattle.std.proofs.Common.{◌≡◌, ◌∙◌, ◌⊎◌, inl, inr, ℕ, ◌+◌, ◌<◌, ◌≤◌, ◌↔◌, List, [], ◌∷◌, ◌++◌, length, length-append, refl, sym, ap, arith}
-use Rattle.std.specs.Prelude.{All, AllPairs, Bool, Contains, None, Result}
+use Rattle.std.proofs.Common.{◌≡◌, ◌∙◌, ◌⊎◌, inl, inr, ℕ, suc, ◌+◌, ◌<◌, ◌≤◌, ◌↔◌, cond, true, false, List, [], ◌∷◌, ◌++◌, length, length-append, refl, sym, ap, arith}
+use Rattle.std.specs.Prelude.{All, AllPairs, Bool, Contains, None, Result, filter}
 use Rattle.std.proofs.lemmas.Bool.{cases_lt}
 use Rattle.nm_edge.specs.Keys.{IsKey}
 use Rattle.nm_edge.specs.Layouts.{Layout, IsLayout}
@@ -26,15 +26,21 @@ use Rattle.nm_tree.proofs.EndLaws.{enough_nodes}
 use Rattle.nm_tree.proofs.RunSums.{KeysOf, flag_keys, link_keys, none_pend, one_if, same_length, so_many, times, times-append, times_none, times_once}
 use Rattle.nm_tree.proofs.TurnTotals.{wins_flags, wins_links}
 
+-- a turn that is kept counts once
+kept_once : (b : Bool) (t : Turn) (ts : List Turn) → length (cond b (t ∷ ts) ts) ≡ one_if b + length ts
+kept_once true t ts = let same : suc (length ts) ≡ 1 + length ts = omega arith in same
+kept_once false t ts = let same : length ts ≡ 0 + length ts = omega arith in same
+
 -- exchanges of one kind, counted on turns
 pub won_are : (op : Op) (is_such : Entry → Bool)
     → ((e : Event) (o : Result Reply Refused) → wins op e o ≡ is_so is_such e o) → (turns : List Turn)
     → won_in op turns ≡ so_many is_such turns
 won_are op is_such table [] = refl
 won_are op is_such table (t ∷ ts) =
+    let kept = kept_once (wins op t.event t.outcome) t (filter (λ u. wins op u.event u.outcome) ts) in
     let here = ap one_if (table t.event t.outcome) in
     let rest = won_are op is_such table ts in
-    omega (arith, here, rest)
+    omega (arith, kept, here, rest)
 
 pub links_won : (turns : List Turn) → won_in Insert turns ≡ so_many is_won_link turns
 links_won = won_are Insert is_won_link wins_links

@@ -25,7 +25,7 @@ use Rattle.nm_theorem.proofs.Hands.{run_hands}
 use Rattle.nm_theorem.proofs.WrittenWords.{run_words}
 use Rattle.nm_steps.specs.declared.view.Stored.{Stored}
 use Rattle.nm_steps.specs.Packing.{words_of}
-use Rattle.nm_steps.specs.Rules.{ComesBefore, Extends, LinksHaveValues, WereHeld, knowledge, value_of}
+use Rattle.nm_steps.specs.Rules.{ComesBefore, Extends, ExtendsStores, LinksHaveValues, WereHeld, knowledge, value_of}
 use Rattle.nm_steps.specs.Steps.{EndedWords, HasSeen, IsInRun, TreeView}
 use Rattle.nm_steps.specs.Values.{EndsWithValues}
 use Rattle.nm_steps.proofs.AfterSteps.{apart_in_run}
@@ -36,7 +36,7 @@ use Rattle.nm_epoch.specs.declared.collecting.HeldQueue.{HeldQueue}
 use Rattle.nm_epoch.specs.Collecting.{AreHeld, IsQueueOf, queued}
 use Rattle.nm_epoch.proofs.Fronts.{shown_queue}
 use Rattle.nm_calls.specs.HandedBack.{WasCutWith}
-use Rattle.nm_calls.specs.Maps.{HoldsStores, IsInMap, value_at}
+use Rattle.nm_calls.specs.Maps.{HoldsStores, IsInMap, LinkedLeavesHaveValues, SwappedLeavesHaveValues, WasInHands, value_at}
 use Rattle.nm_calls.proofs.HandedBack.{CutBy, cut_by, kind_at_end, kind_by_left, waiting_passes, waits_with_its_value}
 use Rattle.nm_calls.proofs.MoreStores.{same_by_more}
 use Rattle.nm_calls.proofs.StoresInTurns.{linked_leaves, swapped_leaves, were_in_hands}
@@ -45,7 +45,7 @@ use Rattle.nm_tree.specs.declared.closing.Report.{Report}
 use Rattle.nm_tree.specs.declared.map_closing.MapReport.{MapReport}
 use Rattle.nm_tree.specs.Closing.{AreFrom, IsClosed, StandsForAll, all_merged, given_in}
 use Rattle.nm_tree.specs.Ended.{IsEndOf, end_of}
-use Rattle.nm_tree.specs.MapReports.{AreLeavesOf, EndsMap, IsLeafOf, LeavesValues, SaysMapClosed, Waits, bare_in, is_bare_in, value_in}
+use Rattle.nm_tree.specs.MapReports.{AreLeavesOf, EndsMap, IsLeafOf, SaysMapClosed, Waits, bare_in, is_bare_in, value_in}
 use Rattle.nm_tree.specs.Workers.{IsWorker, WorkerView}
 use Rattle.nm_tree.proofs.BareSlots.{bare_there}
 use Rattle.nm_tree.proofs.Closed.{GoesOnFromAll, StoresGoOnFromAll, closed, in_order, stores_from_earlier, turns_are}
@@ -241,6 +241,16 @@ module _ (L : Layout) (fits : IsLayout L) (events : List (ℕ × Event)) (all_ke
 
 -- ---- the whole
 
+-- the values of a map that is closed after these turns, as `SaysMapClosed` has them
+record LeavesValues (L : Layout) (ws : List WorkerView) (turns : List Turn) (queues : List HeldQueue)
+    (kept keyed slots : List ℕ) (bare : List Bool) (stores : List Stored) : Type 0 where
+  go_on : All (λ (w : WorkerView). ExtendsStores stores w.pass.view.stores) ws
+  held : All (WasInHands L turns) stores
+  linked : LinkedLeavesHaveValues L turns stores
+  swapped : SwappedLeavesHaveValues turns stores
+  each : (i k v : ℕ) → slice_get kept i ≡ Some k → slice_get keyed i ≡ Some v → IsInMap L turns stores k v
+  waiting : All (λ h. All (Waits L turns stores slots bare) h.queue.items) queues
+
 module _ (b : TreeView) (w : WorkerView) (home : ℕ) (ws : List WorkerView) (kept leaves : List ℕ) (free reached : ℕ)
     (left : EndedWords) (is : IsWorker w home)
     (view : StandsForAll ws w.pass.view) (seen : GoesOnFromAll w.pass.view.past ws)
@@ -302,14 +312,15 @@ module _ (b : TreeView) (w : WorkerView) (home : ℕ) (ws : List WorkerView) (ke
       (held_there (knowledge w.pass.view) w.queues u h is.between.queues at)
       ∙ ap (λ (l : List Entry). map queued l) are) ∙ get_after early e later))
 
-  values : LeavesValues L ws T w.queues kept (map (value_in left.values) leaves) left.values (bare_in L left.core)
+  abbrev keyed : List ℕ
+  keyed = map (value_in left.values) leaves
+
+  values : LeavesValues L ws T w.queues kept keyed left.values (bare_in L left.core) v.stores
   values = record {
-    stores = v.stores;
     go_on = stores_from_earlier v.stores w.pass.view.stores ws v.extends stores_seen;
-    holds = all_stores L v.ends.fits v.ends.turns v.ends.keys v.stores v.held v.linked v.order left.values left.core
-        v.long v.ends.words_are v.are no_hands T (goes_on_itself T);
-    long = v.long;
-    as_many = length-map leaves (value_in left.values) ∙ as_many_leaves L (words_after L T) kept leaves leaves_now;
+    held = were_in_hands L v.ends.fits v.ends.turns v.stores v.held;
+    linked = linked_leaves L v.ends.fits v.ends.turns v.ends.keys v.stores v.linked;
+    swapped = swapped_leaves L v.ends.turns v.ends.keys v.stores v.linked;
     each = each_in_map L v.ends.fits v.ends.turns v.ends.keys v.stores v.held v.linked v.order left.values left.core
         v.long v.ends.words_are v.are no_hands kept leaves leaves_now;
     waiting = all_waiting (Waits L T v.stores left.values (bare_in L left.core)) w.queues
@@ -320,15 +331,31 @@ module _ (b : TreeView) (w : WorkerView) (home : ℕ) (ws : List WorkerView) (ke
         (pooled u h early later e at are)));
   }
 
+  says_closed : SaysMapClosed b ws w.queues kept keyed left.values (bare_in L left.core) free reached
+  says_closed =
+      let now = subst (λ (ts : List Turn). LeavesValues L ws ts w.queues kept keyed left.values (bare_in L left.core)
+      v.stores) (sym same) values in
+      record {
+        says = c.says;
+        stores = v.stores;
+        go_on = now.go_on;
+        held = now.held;
+        linked = now.linked;
+        swapped = now.swapped;
+        order = v.order;
+        long = v.long;
+        as_many = length-map leaves (value_in left.values) ∙ as_many_leaves L (words_after L T) kept leaves leaves_now;
+        each = now.each;
+        waiting = now.waiting;
+      }
+
   pub ends_map : EndsMap b ws w.queues kept leaves left layout free reached
   ends_map = subst (λ (l : Layout). EndsMap b ws w.queues kept leaves left l free reached) (sym same_layout_as)
       (record {
-        says = c.says;
         all = sym v.long;
         laid = laid;
         within = leaves_within L (words_after L T) (length left.values) kept leaves v.long leaves_now;
-        values = subst (λ (ts : List Turn). LeavesValues L ws ts w.queues kept
-            (map (value_in left.values) leaves) left.values (bare_in L left.core)) (sym same) values;
+        closed = says_closed;
       })
 
 -- ---- the report of a map
@@ -351,4 +378,4 @@ module _ (b : TreeView) (ws : List WorkerView) (e : Ended) (r : MapReport) (repo
       let S : List Bool → Type 0 = λ f. SaysMapClosed b ws e.report.queues.items e.report.keys.items
       (map (value_in e.words.values) e.leaves.items) e.words.values f e.report.free e.report.reached in
       subst P (sym report) (subst Q (sym keyed) (subst R (sym slots)
-      (subst S (sym bare) (record { says = ends.says; values = ends.values }))))
+      (subst S (sym bare) ends.closed)))

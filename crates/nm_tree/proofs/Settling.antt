@@ -20,7 +20,7 @@ use Rattle.nm_steps.specs.Steps.{PassView}
 use Rattle.nm_progress.specs.Pending.{NonePends, leaf_after, leaf_by}
 use Rattle.nm_progress.proofs.PendingTurns.{leaf_is_told, leaf_own}
 use Rattle.nm_tree.specs.Closing.{AreFrom, StandsForAll, all_joined}
-use Rattle.nm_tree.specs.Settled.{TellNoFlag, HasNothingPending, HeirsHaveNothingPending, RestingWorkersHaveNothingPending, turns_of}
+use Rattle.nm_tree.specs.Settled.{TellNoFlag, HasNothingPending, HeirsHaveNothingPending, RestingWorkersHaveNothingPending}
 use Rattle.nm_tree.specs.Workers.{WorkerView, IsWorker, HasNumber}
 use Rattle.nm_tree.proofs.EndWorkers.{are, there}
 use Rattle.nm_tree.proofs.Heirs.{logs}
@@ -35,6 +35,10 @@ by_turns n s (e ∷ es) =
     let turns : List Turn = map (λ (d : Entry). answered_turn n d.0 d.1) es in
     ap (λ (b : Bool). leaf_after n (cond b (leaf_by s.flagged e.0 (Ok e.1)) s.flagged) turns) (eq-eqb n n refl)
     ∙ (ap (λ (f : Option NodeId). leaf_after n f turns) (leaf_own s e.0 e.1) ∙ by_turns n (searched s e.0 e.1) es)
+
+-- a log as the turns of its worker
+abbrev turns_of : Held → List Turn
+turns_of h = map (λ e. answered_turn h.number e.0 e.1) h.log
 
 abbrev IsQuiet : Held → Type 0
 IsQuiet h = (search_after idle h.log).flagged ≡ None

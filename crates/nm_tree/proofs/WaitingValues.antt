@@ -9,7 +9,7 @@ use Rattle.nm_model.specs.declared.trace.Turn.{Turn}
 use Rattle.nm_model.specs.Headline.{nodes_cut_of, slots_of, words_after}
 use Rattle.nm_model.specs.Memory.{is_leaf, node}
 use Rattle.nm_steps.specs.declared.view.Stored.{Stored}
-use Rattle.nm_steps.proofs.Growing.{goes_on_through}
+use Rattle.nm_steps.proofs.Growing.{goes_on_itself}
 use Rattle.nm_steps.proofs.Seeing.{stores_same}
 use Rattle.nm_tree.specs.MapReports.{WaitingLeavesHaveTheirValues, WaitingNodesWereReached, Waits}
 
@@ -31,25 +31,25 @@ was_leaf : (L : Layout) (turns : List Turn) (stores : List Stored) (slots : List
 was_leaf L turns stores slots bare e w is_bare = same_Some _ true (sym w.leaf ∙ is_bare)
 
 pub waiting_leaves_have_their_values : WaitingLeavesHaveTheirValues
-waiting_leaves_have_their_values L turns stores slots bare e h holds w is_bare v at = record {
+waiting_leaves_have_their_values b ws queues kept keyed slots bare free reached e c w is_bare v at = record {
   before = w.before;
   cut = w.cut;
   since = w.since;
   are = w.are;
   cuts = w.cuts;
   high = w.slot.0;
-  reached = waiting_nodes_were_reached L turns stores slots bare e h w;
-  leaf = was_leaf L turns stores slots bare e w is_bare;
-  first = stores;
-  extends = stores_same stores stores refl;
+  reached = waiting_nodes_were_reached b.layout c.says.turns c.stores slots bare e c.says.headline.headline w;
+  leaf = was_leaf b.layout c.says.turns c.stores slots bare e w is_bare;
+  first = c.stores;
+  extends = stores_same c.stores c.stores refl;
   stored = record {
-    until = holds.until;
-    from = goes_on_through holds.until turns w.before holds.from (record { more = w.cut ∷ w.since; is = w.are });
-    ends = holds.ends;
-    held = holds.held;
-    linked = holds.linked;
-    swapped = holds.swapped;
-    order = holds.order;
+    until = c.says.turns;
+    from = record { more = w.cut ∷ w.since; is = w.are };
+    ends = goes_on_itself c.says.turns;
+    held = c.held;
+    linked = c.linked;
+    swapped = c.swapped;
+    order = c.order;
   };
-  has_value = same_Some _ v (sym (w.value (was_leaf L turns stores slots bare e w is_bare)) ∙ at);
+  has_value = same_Some _ v (sym (w.value (was_leaf b.layout c.says.turns c.stores slots bare e w is_bare)) ∙ at);
 }

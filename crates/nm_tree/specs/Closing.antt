@@ -65,8 +65,7 @@ pub record EndsOnce (m : Memory) (hs : List HeldQueue) (x : ℕ) : Type 0 where
 -- a history of one plain set. The report's queue of each worker has the nodes that still wait of
 -- those that it cut off. The report's keys are those of the plain set. No worker holds a private
 -- slot
-pub record IsOfTurns (L : Layout) (turns : List Turn) (queues : List HeldQueue) (kept : List ℕ)
-    : Type 0 where
+pub record IsOfTurns (L : Layout) (turns : List Turn) (queues : List HeldQueue) (kept : List ℕ) : Type 0 where
   pub workers : AreOfWorkers L turns
   pub headline : Headline L turns
   pub plain_set : HasHistory L turns
@@ -100,14 +99,12 @@ KeysAreTheTotals L turns kept = NonePends L turns → (k : ℕ) → IsKey k
 
 -- how many links (`Insert`) or flags (`Delete`) were won in these turns
 abbrev pub won_in : Op → List Turn → ℕ
-won_in op [] = 0
-won_in op (t ∷ ts) = (if wins op t.event t.outcome then 1 else 0) + won_in op ts
+won_in op turns = length (filter (λ t. wins op t.event t.outcome) turns)
 
 -- if no worker has a call after these turns, they have won as many links as flags and keys that are
 -- left
 abbrev pub KeysAddUp : List Turn → List ℕ → Type 0
-KeysAddUp turns kept = ((w : ℕ) → call_begun w turns ≡ None)
-    → won_in Insert turns ≡ won_in Delete turns + length kept
+KeysAddUp turns kept = ((w : ℕ) → call_begun w turns ≡ None) → won_in Insert turns ≡ won_in Delete turns + length kept
 
 -- What a caller learns from a closed tree. There are turns that extend what each worker that was
 -- given had seen, and after which it made only joins. So these turns have all answers that it got,

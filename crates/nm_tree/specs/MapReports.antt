@@ -1,5 +1,5 @@
 -- The close of a map: the value under each key that is left, and the values that wait.
-use Rattle.std.specs.Prelude.{◌≡◌, ◌-◌, ◌≤◌, ℕ, zero, suc, nat_lt, Bool, true, false, List, [], ◌∷◌, ◌++◌, length, map, slice_get, slice_index, unwrap_or, All, Contains, Option, None, Some}
+use Rattle.std.specs.Prelude.{◌≡◌, ◌-◌, ◌≤◌, ℕ, zero, suc, nat_lt, Bool, true, false, List, [], ◌∷◌, ◌++◌, length, map, slice_get, slice_index, unwrap_or, All, AllPairs, Contains, Option, None, Some}
 use Rattle.std.specs.List.{range_with_len}
 use Rattle.nm_edge.specs.Layouts.{Layout}
 use Rattle.nm_edge.specs.Words.{IsSlot, at_edge, word, words as all_words}
@@ -9,12 +9,12 @@ use Rattle.nm_model.specs.Headline.{Headline, nodes_cut_of, words_after}
 use Rattle.nm_model.specs.Memory.{Memory, is_leaf, node}
 use Rattle.nm_model.specs.Paths.{Reached}
 use Rattle.nm_steps.specs.declared.view.Stored.{Stored}
-use Rattle.nm_steps.specs.Rules.{ExtendsStores}
+use Rattle.nm_steps.specs.Rules.{ComesBefore, ExtendsStores}
 use Rattle.nm_steps.specs.Steps.{EndedWords, TreeView}
 use Rattle.nm_epoch.specs.declared.collecting.Entry.{Entry}
 use Rattle.nm_epoch.specs.declared.collecting.HeldQueue.{HeldQueue}
 use Rattle.nm_calls.specs.HandedBack.{WasCutWith}
-use Rattle.nm_calls.specs.Maps.{HoldsStores, IsInMap, value_at}
+use Rattle.nm_calls.specs.Maps.{IsInMap, LinkedLeavesHaveValues, SwappedLeavesHaveValues, WasInHands, value_at}
 use Rattle.nm_tree.specs.Closing.{SaysClosed}
 use Rattle.nm_tree.specs.Workers.{WorkerView}
 
@@ -79,35 +79,35 @@ pub record Waits (L : Layout) (turns : List Turn) (stores : List Stored) (slots 
   pub value : is_leaf (node (words_after L before) e.node.slot) ≡ true
       → slice_get slots (e.node.slot - 1) ≡ Some (value_at (length before) stores e.node.slot)
 
--- The values of a closed map, by all stores of its run. These extend what each worker that was given
--- had seen of stores. There is a value for each key of the report, and the map has each key with the
--- value at its place. Each slot has a value. That of a leaf which waits is the one that the leaf had
+-- What a caller learns from a closed map: what it learns from a closed tree, and the values, by all
+-- stores of the map's run in their order. These extend what each worker that was given had seen of
+-- stores. Each was made in a slot that was in its worker's hands. They have the store of each leaf that
+-- was linked or swapped in. There is a value for each key of the report, and the map has each key with
+-- the value at its place. Each slot has a value. That of a leaf which waits is the one that the leaf had
 -- right before it was cut off. A node that waits is a leaf if its slot is bare
-pub record LeavesValues (L : Layout) (ws : List WorkerView) (turns : List Turn)
-    (queues : List HeldQueue) (kept keyed slots : List ℕ) (bare : List Bool) : Type 0 where
+pub record SaysMapClosed (b : TreeView) (ws : List WorkerView) (queues : List HeldQueue)
+    (kept keyed slots : List ℕ) (bare : List Bool) (free reached : ℕ) : Type 0 where
+  pub says : SaysClosed b ws queues kept free reached
   pub stores : List Stored
   pub go_on : All (λ (w : WorkerView). ExtendsStores stores w.pass.view.stores) ws
-  pub holds : HoldsStores L turns turns stores
-  pub long : length slots ≡ L.nodes
+  pub held : All (WasInHands b.layout says.turns) stores
+  pub linked : LinkedLeavesHaveValues b.layout says.turns stores
+  pub swapped : SwappedLeavesHaveValues says.turns stores
+  pub order : AllPairs ComesBefore stores
+  pub long : length slots ≡ b.layout.nodes
   pub as_many : length keyed ≡ length kept
-  pub each : (i k v : ℕ) → slice_get kept i ≡ Some k → slice_get keyed i ≡ Some v → IsInMap L turns stores k v
-  pub waiting : All (λ h. All (Waits L turns stores slots bare) h.queue.items) queues
+  pub each : (i k v : ℕ) → slice_get kept i ≡ Some k → slice_get keyed i ≡ Some v
+      → IsInMap b.layout says.turns stores k v
+  pub waiting : All (λ h. All (Waits b.layout says.turns stores slots bare) h.queue.items) queues
 
 -- what the end of a map leaves, with the slot of the leaf of each key, its words, and its sizes
 pub record EndsMap (b : TreeView) (ws : List WorkerView) (queues : List HeldQueue)
     (kept leaves : List ℕ) (words : EndedWords) (layout : Layout) (free reached : ℕ) : Type 0 where
-  pub says : SaysClosed b ws queues kept free reached
   pub all : layout.nodes ≡ length words.values
   pub laid : length words.core ≡ all_words layout
   pub within : All (λ (x : ℕ). (1 ≤ x) × (x ≤ length words.values)) leaves
-  pub values : LeavesValues b.layout ws says.turns queues kept (map (value_in words.values) leaves)
-      words.values (bare_in layout words.core)
-
--- what a caller learns from a closed map: what it learns from a closed tree, and the values
-pub record SaysMapClosed (b : TreeView) (ws : List WorkerView) (queues : List HeldQueue)
-    (kept keyed slots : List ℕ) (bare : List Bool) (free reached : ℕ) : Type 0 where
-  pub says : SaysClosed b ws queues kept free reached
-  pub values : LeavesValues b.layout ws says.turns queues kept keyed slots bare
+  pub closed : SaysMapClosed b ws queues kept (map (value_in words.values) leaves) words.values
+      (bare_in layout words.core) free reached
 
 -- ---- what follows for each closed map
 
@@ -119,7 +119,8 @@ WaitingNodesWereReached = (L : Layout) (turns : List Turn) (stores : List Stored
 
 -- each leaf that waits was cut off with the value that its slot has
 abbrev pub WaitingLeavesHaveTheirValues : Type 0
-WaitingLeavesHaveTheirValues = (L : Layout) (turns : List Turn) (stores : List Stored) (slots : List ℕ)
-    (bare : List Bool) (e : Entry) → Headline L turns → HoldsStores L turns turns stores
-    → Waits L turns stores slots bare e → slice_get bare (e.node.slot - 1) ≡ Some true
-    → (v : ℕ) → slice_get slots (e.node.slot - 1) ≡ Some v → WasCutWith L turns stores e.node v
+WaitingLeavesHaveTheirValues = (b : TreeView) (ws : List WorkerView) (queues : List HeldQueue)
+    (kept keyed slots : List ℕ) (bare : List Bool) (free reached : ℕ) (e : Entry)
+    → (c : SaysMapClosed b ws queues kept keyed slots bare free reached)
+    → Waits b.layout c.says.turns c.stores slots bare e → slice_get bare (e.node.slot - 1) ≡ Some true
+    → (v : ℕ) → slice_get slots (e.node.slot - 1) ≡ Some v → WasCutWith b.layout c.says.turns c.stores e.node v

@@ -8,13 +8,9 @@ use Rattle.nm_tree.specs.Resigning.{HasResigned}
 use Rattle.nm_tree.specs.Running.{HasSeenTurns}
 use Rattle.nm_tree.specs.Workers.{WorkerView}
 
--- a log as the turns of its worker
-abbrev pub turns_of : Held → List Turn
-turns_of h = map (λ e. answered_turn h.number e.0 e.1) h.log
-
 -- by these logs, no call has flagged a leaf and has no answer
 abbrev pub TellNoFlag : List Held → Type 0
-TellNoFlag hs = All (λ (h : Held). leaf_after h.number None (turns_of h) ≡ None) hs
+TellNoFlag hs = All (λ (h : Held). leaf_after h.number None (map (λ e. answered_turn h.number e.0 e.1) h.log) ≡ None) hs
 
 -- no delete of this worker is pending, nor of a worker that resigned to it
 abbrev pub HasNothingPending : WorkerView → Type 0
