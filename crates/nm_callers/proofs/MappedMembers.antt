@@ -1,6 +1,6 @@
 -- A member of a map that gets a value after an insert of the same key.
 use Rattle.std.proofs.Common.{◌≡◌, inl, inr, ℕ, true, sym, ap, subst, ◌∙◌}
-use Rattle.std.specs.Prelude.{IfSome, Ok, Err, Option, Some, Result}
+use Rattle.std.specs.Prelude.{IfSome, IsSome, Ok, Err, Option, Some, Result}
 use Rattle.std.specs.Result.{result_ok}
 use Rattle.nm_edge.specs.Keys.{IsKey}
 use Rattle.nm_edge.specs.Layouts.{IsLayout}
@@ -31,6 +31,14 @@ module _ (b d : TreeView) (h : Options) (k v : ℕ) (w x z : WorkerView) (r : Re
   puts_then_gets put (inl pinned) = refused (PutsThenGets w.pass z.pass k v) r o is pinned.1
   puts_then_gets put (inr (free, l)) = of_found r o (MapGave x.pass z.pass k) (PutsThenGets w.pass z.pass k v) is
       (λ found gave. record { mid = x.pass; put = put; on = l.answers.on.past; gave = gave }) l.answers.moment
+
+  pub finds_some : IsKey k → HasHistory z.pass.view.layout z.pass.view.past
+      → SaysChange Insert b h k w x (Ok true) → NoneDeleted z.pass.view.layout w.pass.view.past z.pass.view.past k
+      → SaysGet d h k x z r → IfSome o (λ found. IsSome found)
+  finds_some key history says none (inl pinned) = refused (λ found. IsSome found) r o is pinned.1
+  finds_some key history says none (inr (free, l)) = of_found r o (MapGave x.pass z.pass k) (λ found. IsSome found) is
+      (is_found w.pass x.pass z.pass k key history (sym (ap (λ (p : PassView). p.view.layout) l.answers.on.same))
+      l.answers.on.past (was_made w x true says).answers.moment none) l.answers.moment
 
   pub finds : IsKey k → HasSeen z.pass.view → IsLayout z.pass.view.layout
       → HasHistory z.pass.view.layout z.pass.view.past → SaysChange Insert b h k w x (Ok true)

@@ -1,12 +1,13 @@
 //! An arena: objects that the values of a map name, proved from the clauses of `nm_set` and the page
 //! alone. Object i of a slice is named by the value i. An object is a number here, and 0 if it is
-//! reset. Whoever removes a key does not reset its object, because a reader may still have the number.
-//! The object is reset when its number comes back.
+//! reset. Whoever removes a key, or puts another number under it, does not reset its object, because a
+//! reader may still have the number. The object is reset when its number comes back.
 ghost use Rattle.std.specs.Prelude.{ℕ, ◌≡◌, ◌⊎◌, ◌≤◌, length, get_or, set, take, Contains, IfSome};
+ghost use Rattle.nm_puts.specs.Replaced.{HasReplaced};
 ghost use Rattle.nm_callers.specs.Arenas.{AreReset, ChangesOnly, ReadsObject, ResetsOnlyReturned, object_at};
 
 use nm_edge::Key;
-use nm_set::{MapMember, PinnedGetFault};
+use nm_set::{Condition, MapMember, Options, PinnedGetFault, PutOutcome};
 
 /// Resets one object; changes nothing if there is none of that number.
 fn reset_one(objects: &mut [u64], number: u64)
@@ -59,7 +60,27 @@ pub fn read_object(member: &mut MapMember, objects: &[u64], key: Key, tries: u32
     object
 }
 
-/// Reclaims the numbers of removed objects into `out`, and resets each of these objects. Returns how
+/// Puts the number of another object under a key that has one; returns the number that it replaced.
+/// `None`: the map did not have the key, or the put returned an error. Proved: otherwise the map had the
+/// key with the old number right before one step of this call, and with the new one right after it. The
+/// old object is not reset here, but after its number has come back (`reset_returned`).
+pub fn replace_object(
+    member: &mut MapMember,
+    key: Key,
+    number: u64,
+    options: &Options,
+) -> Option<u64>
+    ensures tree { member.new.tree ≡ member.old.tree }
+    ensures replaced { IfSome result (λ old. HasReplaced member.old.worker.pass member.new.worker.pass
+        key old number) }
+{
+    match member.put(key, number, Condition::IfThere, options) {
+        Ok(PutOutcome::Replaced(old)) => Some(old),
+        _ => None,
+    }
+}
+
+/// Reclaims the numbers of removed and replaced objects into `out`, and resets each of these objects. Returns how
 /// many numbers came back. Proved: each object is as before, or its number has come back: a leaf with
 /// this value was cut off, and each worker that was pinned at the cut has unpinned since. So no worker
 /// that found the number in the map is still pinned when its object is reset. Proved too: each object

@@ -56,6 +56,7 @@ pub use any_thread::remove_unless_all_are_away;
 pub use any_thread::take_due_shared;
 pub use any_thread::take_value_shared;
 pub use arena::read_object;
+pub use arena::replace_object;
 pub use arena::reset_returned;
 pub use beside::delete_beside;
 pub use beside::insert_beside;

@@ -1,6 +1,6 @@
 //! A member of a map that inserts a key with a value and gets the value of the key, proved from the
 //! clauses of `nm_set` and the page alone.
-ghost use Rattle.std.specs.Prelude.{◌≡◌, Some, IfSome};
+ghost use Rattle.std.specs.Prelude.{◌≡◌, Some, IfSome, IsSome};
 ghost use Rattle.nm_steps.specs.Steps.{PassView};
 ghost use Rattle.nm_callers.specs.Mapping.{PutsThenGets};
 ghost use Rattle.nm_callers.specs.Meanwhile.{NoneDeleted, NoneReplaced};
@@ -22,7 +22,8 @@ pub struct PutAndGot {
 /// an error, or the key was in the map before. Proved: otherwise right after the insert's link the map
 /// had the key with the value, and the get returned what the map had at a later moment (linearization
 /// point). Proved too: the get found the value that was inserted, unless a delete or a put of the key
-/// took effect after all that the member had seen before.
+/// took effect after all that the member had seen before. However often others put the key, the get
+/// found some value, unless a delete of the key took effect (`there`).
 pub fn put_then_get(
     member: &mut MapMember,
     key: Key,
@@ -36,6 +37,8 @@ pub fn put_then_get(
         member.new.worker.pass.view.past key → NoneReplaced member.new.worker.pass.view.layout
         member.old.worker.pass.view.past member.new.worker.pass.view.past key
         → IfSome result (λ found. found ≡ Some value) }
+    ensures there { NoneDeleted member.new.worker.pass.view.layout member.old.worker.pass.view.past
+        member.new.worker.pass.view.past key → IfSome result (λ found. IsSome found) }
 {
     let mut unused = 0;
     let Ok(true) = member.insert(key, value, &mut unused, options) else {
