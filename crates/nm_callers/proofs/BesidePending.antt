@@ -39,6 +39,7 @@ use Rattle.nm_tree.specs.Answers.{LacksRoom}
 use Rattle.nm_tree.specs.Workers.{WorkerView}
 use Rattle.nm_set.specs.declared.managed.Options.{Options}
 use Rattle.nm_set.specs.Managed.{Manages, MetInterference, SaysManaged, flags_told_by}
+use Rattle.nm_set.proofs.Managing.{stays_alone}
 use Rattle.nm_callers.specs.AnsweredAlone.{IsAnswered, IsAnsweredWithRoom}
 use Rattle.nm_callers.proofs.RunningAlone.{was_managed}
 
@@ -183,6 +184,6 @@ change_beside op change b h k w z r seen_w seen_z fits free many says alone room
         absurd (omega (arith, few, many))
     by (Err fault.Full) m = tt
     by (Err fault.NoMemory) m = tt
-    by (Err fault.Unfinished) m = absurd (some (m.pending alone (inr refl)))
-    by (Err fault.Pending) m = absurd (some (m.pending alone (inl refl)))
+    by (Err fault.Unfinished) m = absurd (some (stays_alone h w z alone (m.pending (inr refl))))
+    by (Err fault.Pending) m = absurd (some (stays_alone h w z alone (m.pending (inl refl))))
     by (Err fault.Pinned) m = absurd m.answers.left

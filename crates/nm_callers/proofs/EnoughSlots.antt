@@ -23,7 +23,7 @@ use Rattle.nm_tree.specs.Workers.{WorkerView}
 use Rattle.nm_set.specs.declared.managed.Options.{Options}
 use Rattle.nm_set.specs.Asked.{UnlessPinned}
 use Rattle.nm_set.specs.Managed.{ManagesIn}
-use Rattle.nm_set.proofs.Managing.{none_there}
+use Rattle.nm_set.proofs.Managing.{none_there, stays_alone}
 use Rattle.nm_callers.specs.Enough.{IsAnswer, StaysFree}
 
 -- ---- turns
@@ -98,7 +98,7 @@ module _ (map : Bool) (b : TreeView) (h : Options) (op : Op) (k : ℕ) (w z : Wo
   managed_answers (Err fault.Full) m = slots m.answers.left.2
   managed_answers (Err fault.NoMemory) m = room m.answers.left.2
   managed_answers (Err fault.Unfinished) m = room_or (m.alone runs)
-  managed_answers (Err fault.Pending) m = room_or (m.pending runs.alone (inl refl))
+  managed_answers (Err fault.Pending) m = room_or (stays_alone h w z runs.alone (m.pending (inl refl)))
   managed_answers (Err fault.Pinned) m = m.answers.left
 
   pub answers_with_enough : (r : Result Bool CallFault) → w.held ≡ None
@@ -123,5 +123,5 @@ removes_with_room map b h k w z some runs room r free (inr did) = by r did.1
     by (Err fault.Busy) m = let less = m.alone runs in omega (arith, some, less)
     by (Err fault.NoMemory) m = room m.answers.left.2
     by (Err fault.Unfinished) m = either (m.alone runs)
-    by (Err fault.Pending) m = either (m.pending runs.alone (inl refl))
+    by (Err fault.Pending) m = either (stays_alone h w z runs.alone (m.pending (inl refl)))
     by (Err fault.Pinned) m = m.answers.left

@@ -17,7 +17,7 @@ use Rattle.nm_tree.specs.Workers.{WorkerView}
 use Rattle.nm_set.specs.declared.managed.Options.{Options}
 use Rattle.nm_set.specs.Managed.{Manages, SaysManaged}
 use Rattle.nm_set.specs.Popping.{Pops, SaysManagedPop, pop_rounds_bound}
-use Rattle.nm_set.proofs.Managing.{none_there}
+use Rattle.nm_set.proofs.Managing.{none_there, stays_alone}
 use Rattle.nm_callers.specs.AnsweredAlone.{IsAnswered, IsAnsweredWithRoom}
 
 -- ---- calls of a tree
@@ -101,7 +101,8 @@ module _ (b : TreeView) (h : Options) (k : ℕ) (w z : WorkerView) (some : 1 ≤
   managed_answered op (Err fault.Full) m runs room = tt
   managed_answered op (Err fault.NoMemory) m runs room = tt
   managed_answered op (Err fault.Unfinished) m runs room = room_or (m.alone runs) room
-  managed_answered op (Err fault.Pending) m runs room = room_or (m.pending runs.alone (inl refl)) room
+  managed_answered op (Err fault.Pending) m runs room = room_or
+      (stays_alone h w z runs.alone (m.pending (inl refl))) room
   managed_answered op (Err fault.Pinned) m runs room = absurd m.answers.left
 
   -- an insert needs no room if nothing is pending
@@ -138,12 +139,12 @@ popped_alone b h w z r some free (inr did) runs room = by r did.1
     room_or (inl less) = absurd (omega (arith, some, less))
     room_or (inr lacks) = absurd (room lacks)
 
-    by : (r : Result (Option ℕ) CallFault) → Pops IsKey ◌<◌ (pop_rounds_bound h b.layout) h.tries (h.rounds + 1) w z
+    by : (r : Result (Option ℕ) CallFault) → Pops IsKey ◌<◌ h (pop_rounds_bound h b.layout) (h.rounds + 1) w z
         r → IsAnswered r
     by (Ok taken) m = tt
     by (Err fault.Busy) m = let less = m.alone runs in absurd (omega (arith, some, less))
     by (Err fault.Full) m = tt
     by (Err fault.NoMemory) m = tt
     by (Err fault.Unfinished) m = room_or (m.alone runs)
-    by (Err fault.Pending) m = room_or (m.pending runs.alone refl)
+    by (Err fault.Pending) m = room_or (stays_alone h w z runs.alone (m.pending (inl refl)))
     by (Err fault.Pinned) m = absurd m.left

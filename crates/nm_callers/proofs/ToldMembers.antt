@@ -99,6 +99,6 @@ puts_back k w x z (Some answer) removed found = (x, removed, found)
 
 -- a call that took a key has done so
 pub has_popped : (b : TreeView) (h : Options) (k : ℕ) (w z : WorkerView) → SaysManagedPop ◌<◌ b h w z (Ok (Some k))
-    → Pops IsKey ◌<◌ (pop_rounds_bound h b.layout) h.tries (h.rounds + 1) w z (Ok (Some k))
+    → Pops IsKey ◌<◌ h (pop_rounds_bound h b.layout) (h.rounds + 1) w z (Ok (Some k))
 has_popped b h k w z (inl held) = absurd (true≢false (ap (λ (r : Result (Option ℕ) CallFault). is_ok r) held.1))
 has_popped b h k w z (inr did) = did.1

@@ -1,10 +1,11 @@
 -- What managed calls leave, by what each part of them leaves.
 use Rattle.std.proofs.Common.{◌≡◌, ◌≢◌, ◌≤◌, ◌<◌, ◌⊎◌, inl, inr, true≢false, ℕ, zero, suc, ◌+◌, ◌*◌, ◌==◌, Bool, true, false, cond, not, ◌&&◌, ◌||◌, List, [], ◌∷◌, ◌++◌, append-nil, append_assoc, length, refl, sym, ap, subst, ◌∙◌, arith}
-use Rattle.std.specs.Prelude.{drop, Option, Some, None, IsSome, Result, Ok, Err, IfOk, IfErr, is_ok}
+use Rattle.std.specs.Prelude.{◌-◌, ◌^◌, All, drop, min, Option, Some, None, IsSome, Result, Ok, Err, IfOk, IfErr, is_ok}
 use Rattle.std.specs.List.{AllZip, prefix_len}
-use Rattle.std.proofs.Math.Nat.{suc-mul, zero-mul, add-mul, mul-zero, mul-le-mul_right}
-use Rattle.std.proofs.lemmas.List.{drop-drop}
+use Rattle.std.proofs.Math.Nat.{suc-mul, zero-mul, add-mul, mul-add, mul_assoc, mul-zero, mul-le-mul_right}
+use Rattle.std.proofs.lemmas.List.{append_cancel_left, drop-drop}
 use Rattle.std.proofs.lemmas.List.Elements.{Contains-append_left, Contains-append_right}
+use Rattle.std.proofs.lemmas.Bool.{eq-eqb}
 use Rattle.std.proofs.lemmas.Option.{none-some, same_Some}
 use Rattle.nm_edge.specs.Layouts.{Layout}
 use Rattle.nm_model.specs.declared.event.Event.{Event}
@@ -21,9 +22,9 @@ use Rattle.nm_progress.specs.Lookups.{WasBusy}
 use Rattle.nm_progress.specs.Lost.{ChangeWasBusy}
 use Rattle.nm_progress.specs.Moves.{number_of, moves, moves_of_others}
 use Rattle.nm_progress.specs.Paid.{links_on, flags_on, cuts_on, tags_on, cuts_in}
-use Rattle.nm_progress.specs.Tries.{interferes, reshapes_of_others}
+use Rattle.nm_progress.specs.Tries.{changes_edge, changes_of_others, interferes, reshapes_of_others}
 use Rattle.nm_progress.specs.Walked.{NearWasBusy}
-use Rattle.nm_progress.proofs.RunningAlone.{alone_later, runs_later}
+use Rattle.nm_progress.proofs.RunningAlone.{runs_later}
 use Rattle.nm_progress.proofs.SplitTurns.{number-append}
 use Rattle.nm_steps.specs.Steps.{TreeView, PassView, IsSamePass, HasSeenAllOf}
 use Rattle.nm_steps.proofs.Seeing.{seen_itself, seen_through}
@@ -36,7 +37,7 @@ use Rattle.nm_calls.specs.Won.{HasWon}
 use Rattle.nm_calls.specs.declared.deleting.Unfinished.{Unfinished}
 use Rattle.nm_calls.specs.declared.fault.CallFault.{CallFault}
 use Rattle.nm_calls.specs.declared.fault.CallFault.TheVariants as fault
-use Rattle.nm_tree.specs.Answers.{FailsAlone, FinishHasMoment, FinishTold, FoundNoSlot, FreesNone, HasMade, links_won, flags_won}
+use Rattle.nm_tree.specs.Answers.{FailsAlone, FinishHasMoment, FinishWasLost, FinishTold, FoundNoSlot, FreesNone, HasMade, links_won, flags_won}
 use Rattle.nm_tree.proofs.Answered.{found_ever}
 use Rattle.nm_tree.specs.Calls.{LeavesHas, LeavesInsert, LeavesDelete, LeavesAdvance, LeavesCollect, SaysFinish}
 use Rattle.nm_tree.specs.Workers.{WorkerView, IsIdle, KeepsOtherQueues, waiting_in}
@@ -47,8 +48,8 @@ use Rattle.nm_set.specs.declared.fault.Fullness.{Fullness}
 use Rattle.nm_set.specs.declared.fault.InsertFault.{InsertFault}
 use Rattle.nm_set.specs.declared.fault.InsertFault.TheVariants as inserting
 use Rattle.nm_set.specs.declared.managed.Options.{Options}
-use Rattle.nm_set.specs.Managed.{Answers, Collects, FindsBehind, GoesOn, HasFoundElsewhere, HasSighted, IsLeft, FinishesFirst, IsFullIn, IsReadyIn, Manages, ManagesIn, MetInterference, OnlyLoses, Prepares, Since, WasFull, flags_told_by, interfering, links_told_by, of_insert, round_bound}
-use Rattle.nm_set.specs.Rounds.{AnswersIn, FinishesIn, Inserts, IsKnown, IsOnward, IsReady, IsRelieved, ManagesInsert, Removes, WereBusy, plain, rounds_bound, with_fullness}
+use Rattle.nm_set.specs.Managed.{Answers, Collects, FindsBehind, GoesOn, HasFoundElsewhere, HasSighted, IsLeft, FinishesFirst, IsFullIn, IsReadyIn, Manages, ManagesIn, MetInterference, OnlyLoses, Prepares, Since, StaysPending, WasFull, flags_told_by, interfering, links_told_by, of_insert, round_bound}
+use Rattle.nm_set.specs.Rounds.{AnswersIn, Finishes, Inserts, IsKnown, IsOnward, IsReady, IsRelieved, ManagesInsert, Removes, WereBusy, plain, rounds_bound, with_fullness}
 
 -- nothing is not there
 pub none_there : {A B : Type 0} (x : Option A) → x ≡ None → IsSome x → B
@@ -762,108 +763,123 @@ module _ (b : TreeView) (h : Options) (op : Op) where
   answers_last k n rounds w x z r few all first a = answers_fewer k (n + 1) rounds w z r few all
       (answers_at_last k n 1 w x z r (omega arith) first (answers_once k x z r a))
 
+-- ---- a remove that stays pending
+
+-- why a call of the tree did not finish it
+stays_lost : (h : Options) (t : ℕ) (w z : WorkerView) → t ≡ min ((h.rounds + 1) * h.tries) (2 ^ 32 - 1)
+    → FinishWasLost t w z → StaysPending h w z
+stays_lost h t w z is (inl lacks) = inl lacks
+stays_lost h t w z is (inr c) = inr (c.turns, c.is, (let many = c.changed in omega (arith, is, many)))
+
+-- what came before takes nothing away
+pub stays_since : (h : Options) (w x z : WorkerView) → Follows w.pass x.pass → StaysPending h x z → StaysPending h w z
+stays_since h w x z on (inl lacks) = inl lacks
+stays_since h w x z on (inr (ts, is, many)) =
+    let more = on.past.goes_on.more in
+    let same = subst (λ (v : ℕ). min ((h.rounds + 1) * h.tries) (2 ^ 32 - 1) ≤ number_of (changes_of_others v) ts) (number_of_pass w.pass x.pass on.same) many in
+    let whole = number-append (changes_of_others w.pass.view.number) more ts in
+    inr (
+      more ++ ts,
+      is ∙ (ap (λ (l : List Turn). l ++ ts) on.past.goes_on.is ∙ append_assoc w.pass.view.past more ts),
+      omega (arith, same, whole),
+    )
+
+-- the property holds if a remove is pending by this result
+abbrev pub IfPends : {A : Type 0} → Result A CallFault → Type 0 → Type 0
+IfPends (Err fault.Pending) P = P
+IfPends (Err fault.Unfinished) P = P
+IfPends _ P = Unit {0}
+
+pub pends_if : {A P : Type 0} (r : Result A CallFault) → IfPends r P
+    → (r ≡ Err fault.Pending) ⊎ (r ≡ Err fault.Unfinished) → P
+pends_if {A} {P} r p (inl is) = subst (λ (q : Result A CallFault). IfPends q P) is p
+pends_if {A} {P} r p (inr is) = subst (λ (q : Result A CallFault). IfPends q P) is p
+
+-- if none was pending before, only one that is not finished is pending
+pub pends_left : {A P : Type 0} (op : Op) (k : ℕ) (w z : WorkerView) (r : Result A CallFault) → w.pending ≡ None
+    → IsLeft op k w z r → (r ≡ Err fault.Unfinished → P) → IfPends r P
+pends_left op k w z (Ok answer) none left why = tt
+pends_left op k w z (Err fault.Pending) none left why = none_there w.pending none left.0
+pends_left op k w z (Err fault.Unfinished) none left why = why refl
+pends_left op k w z (Err fault.Busy) none left why = tt
+pends_left op k w z (Err fault.Full) none left why = tt
+pends_left op k w z (Err fault.NoMemory) none left why = tt
+pends_left op k w z (Err fault.Pinned) none left why = tt
+
+-- a worker that runs alone sees no change by others
+none_changed : (w : ℕ) (ts : List Turn) → All (λ t. t.worker ≡ w) ts → number_of (changes_of_others w) ts ≡ 0
+none_changed w [] own = refl
+none_changed w (t ∷ ts) own =
+    let rest = none_changed w ts (λ i d below. own (suc i) d (omega (arith, below))) in
+    let mine = eq-eqb t.worker w (own 0 t (omega arith)) in
+    let calm : changes_of_others w t ≡ false = ap (λ (b : Bool). not b && changes_edge t.event t.outcome) mine in
+    let none = ap (λ (b : Bool). cond {A = ℕ} b 1 0) calm in
+    omega (arith, none, rest)
+
+pub stays_alone : (h : Options) (w z : WorkerView) → IsAlone w.pass z.pass → StaysPending h w z
+    → FailsAlone 1 1 h.tries z fault.Unfinished
+stays_alone h w z mine (inl lacks) = inr lacks
+stays_alone h w z mine (inr (ts, is, many)) =
+    let same : ts ≡ mine.turns = append_cancel_left w.pass.view.past _ _ (sym is ∙ mine.is) in
+    let none = none_changed w.pass.view.number ts
+    (subst (All (λ t. t.worker ≡ w.pass.view.number)) (sym same) mine.own) in
+    let no_try = none_each (h.rounds + 1) h.tries (omega arith) (omega (arith, many, none)) in
+    inl (omega (arith, no_try))
+
 -- ---- going on with a remove
 
-module _ (b : TreeView) (h : Options) where
-  pub finishes_once : (w z : WorkerView) (r : Result Bool CallFault) → w.held ≡ None
-      → (IsAlone w.pass z.pass → IfErr r (FailsAlone 1 1 h.tries z)) → FreesNone w z
-      → SaysFinish b.layout h.tries w z r → FinishesIn b h 1 w z r
-  finishes_once w z r free alone frees l =
-      let one = suc-mul 0 (round_bound h.tries b.layout) in
-      record {
-        on = goes_more (round_bound h.tries b.layout) (1 * round_bound h.tries b.layout) w z (omega (arith, one))
-            (record {
-              same = l.same;
-              past = l.past;
-              queues = lose_by_call w.pass.view.number w.queues z.queues l.queues;
-              steps = in_tries h.tries b.layout (length w.pass.view.log) (length z.pass.view.log)
-                  (h.tries * (4 * reach b.layout + 512)) refl l.steps;
-              held = l.held ∙ free;
-              fit = l.fit;
-            });
-        told = l.told;
-        moment = l.moment;
-        won = l.won;
-        alone = alone;
-        frees = frees;
-      }
+-- rounds of u tries have the steps of a call with as many tries
+rounds_cover : (n t u x y : ℕ) → t ≤ (n + 1) * u → t * x + y ≤ (n + 1) * (u * x + y)
+rounds_cover n t u x y few =
+    let more = mul-le-mul_right x few in
+    let parts = mul_assoc (n + 1) u x in
+    let sum = mul-add (n + 1) (u * x) y in
+    let ys = add-mul n 1 y in
+    let one = suc-mul 0 y in
+    omega (arith, more, parts, sum, ys, one)
 
-  pub finishes_more : (m n : ℕ) (w z : WorkerView) (r : Result Bool CallFault) → m ≤ n → FinishesIn b h m w z r
-      → FinishesIn b h n w z r
-  finishes_more m n w z r few a = record {
-    on = goes_more (m * round_bound h.tries b.layout)
-        (n * round_bound h.tries b.layout) w z (mul-le-mul_right (round_bound h.tries b.layout) few) a.on;
-    told = a.told;
-    moment = a.moment;
-    won = a.won;
-    alone = a.alone;
-    frees = a.frees;
+steps_cover : (L : Layout) (n t u a b : ℕ) → t ≤ (n + 1) * u → b ≤ a + t * (4 * reach L + 512) + 10
+    → b ≤ a + (n + 1) * round_bound u L
+steps_cover L n t u a b few steps =
+    let all = rounds_cover n t u (4 * reach L + 512) (7 * L.nodes + 2 * L.workers + 12) few in
+    let same : round_bound u L ≡ u * (4 * reach L + 512) + (7 * L.nodes + 2 * L.workers + 12) = omega arith in
+    let whole = ap (λ (m : ℕ). (n + 1) * m) same in
+    omega (arith, steps, all, whole)
+
+module _ (b : TreeView) (h : Options) where
+  pub finishes : (t : ℕ) (w z : WorkerView) (r : Result Bool CallFault)
+      → t ≡ min ((h.rounds + 1) * h.tries) (2 ^ 32 - 1) → w.held ≡ None
+      → (r ≡ Err fault.Unfinished → FinishWasLost t w z) → FreesNone w z → SaysFinish b.layout t w z r
+      → Finishes b h w z r
+  finishes t w z r is free lost frees l = record {
+    on = record {
+      same = l.same;
+      past = l.past;
+      queues = lose_by_call w.pass.view.number w.queues z.queues l.queues;
+      steps = steps_cover b.layout h.rounds t h.tries (length w.pass.view.log) (length z.pass.view.log)
+          (omega (arith, is)) l.steps;
+      held = l.held ∙ free;
+      fit = l.fit;
+    };
+    told = l.told;
+    moment = l.moment;
+    won = l.won;
+    lost = λ so. stays_lost h t w z is (lost so);
+    frees = frees;
   }
 
-  told_since : (w x z : WorkerView) (r : Result Bool CallFault) → FinishTold w x (Err fault.Unfinished)
-      → FinishTold x z r → FinishTold w z r
-  told_since w x z (Ok true) first last = (first.0, last.1)
-  told_since w x z (Ok false) first last = none_there w.pending (sym first.1 ∙ last.0) first.0
-  told_since w x z (Err fault.Unfinished) first last = (first.0, last.1 ∙ first.1)
-  told_since w x z (Err fault.Busy) first last = absurd last
-  told_since w x z (Err fault.Full) first last = absurd last
-  told_since w x z (Err fault.NoMemory) first last = absurd last
-  told_since w x z (Err fault.Pending) first last = absurd last
-  told_since w x z (Err fault.Pinned) first last = absurd last
+  pub finish_err : (w z : WorkerView) (f : CallFault) → Finishes b h w z (Err f) → f ≡ fault.Unfinished
+  finish_err w z fault.Unfinished a = refl
+  finish_err w z fault.Busy a = absurd a.told
+  finish_err w z fault.Full a = absurd a.told
+  finish_err w z fault.NoMemory a = absurd a.told
+  finish_err w z fault.Pending a = absurd a.told
+  finish_err w z fault.Pinned a = absurd a.told
 
-  had_since : (o p q : PassView) → Follows p q → HadNoCall o p → HadNoCall o q
-  had_since o p q on had = let all = follows_then o p q (record { same = had.same; past = had.past }) on in
-      record { same = all.same; past = all.past; call = had.call }
-
-  moment_after : (w x z : WorkerView) (r : Result Bool CallFault) → Follows w.pass x.pass → x.pending ≡ w.pending
-      → FinishHasMoment x z r → FinishHasMoment w z r
-  moment_after w x z (Ok true) on same (n, is, at) =
-      (n, sym same ∙ is, λ o had. at o (had_since o w.pass x.pass on had))
-  moment_after w x z (Ok false) on same m = tt
-  moment_after w x z (Err f) on same m = tt
-
-  pub finishes_again : (m n : ℕ) (w x z : WorkerView) (r : Result Bool CallFault)
-      → FinishesIn b h m w x (Err fault.Unfinished) → FinishesIn b h n x z r → FinishesIn b h (m + n) w z r
-  finishes_again m n w x z r first last =
-      let steps = add-mul m n (round_bound h.tries b.layout) in
-      record {
-        on = goes_more (m * round_bound h.tries b.layout + n * round_bound h.tries b.layout)
-            ((m + n) * round_bound h.tries b.layout) w z (omega (arith, steps)) (goes_then w x z first.on last.on);
-        told = told_since w x z r first.told last.told;
-        moment = moment_after w x z r (record { same = first.on.same; past = first.on.past }) first.told.1 last.moment;
-        won = wins_after 0 0 w x z first.won last.won;
-        alone = λ alone. last.alone (alone_later w.pass x.pass z.pass first.on.same first.on.past last.on.past alone);
-        frees = last.frees ∙ first.frees;
-      }
-
-  -- n calls so far left it pending: whatever comes after them comes after their rounds
-  abbrev pub FinishesYet : ℕ → WorkerView → WorkerView → Type 0
-  FinishesYet n w x = (x.held ≡ None) × ((m : ℕ) (z : WorkerView) (r : Result Bool CallFault)
-      → FinishesIn b h m x z r → FinishesIn b h (n + m) w z r)
-
-  pub not_yet_called : (w : WorkerView) → w.held ≡ None → FinishesYet 0 w w
-  not_yet_called w free = (free, λ m z r f. subst (λ (n : ℕ). FinishesIn b h n w z r) (omega arith) f)
-
-  pub called_again : (n : ℕ) (w x y : WorkerView) → FinishesYet n w x → FinishesIn b h 1 x y (Err fault.Unfinished)
-      → FinishesYet (n + 1) w y
-  called_again n w x y yet f = (
-    f.on.held,
-    λ m z r last. subst (λ (i : ℕ). FinishesIn b h i w z r) (omega arith)
-        (yet.1 (1 + m) z r (finishes_again 1 m x y z r f last)),
-  )
-
-  pub finish_err : (n : ℕ) (w z : WorkerView) (f : CallFault) → FinishesIn b h n w z (Err f) → f ≡ fault.Unfinished
-  finish_err n w z fault.Unfinished a = refl
-  finish_err n w z fault.Busy a = absurd a.told
-  finish_err n w z fault.Full a = absurd a.told
-  finish_err n w z fault.NoMemory a = absurd a.told
-  finish_err n w z fault.Pending a = absurd a.told
-  finish_err n w z fault.Pinned a = absurd a.told
-
-  pub finished : (n : ℕ) (w z : WorkerView) (answer : Bool) → FinishesIn b h n w z (Ok answer)
-      → IsOnward (n * round_bound h.tries b.layout) w z
-  finished n w z true a = record { on = a.on; none = a.told.1; won = a.won }
-  finished n w z false a = record {
+  pub finished : (w z : WorkerView) (answer : Bool) → Finishes b h w z (Ok answer)
+      → IsOnward (rounds_bound b h (h.rounds + 1)) w z
+  finished w z true a = record { on = a.on; none = a.told.1; won = a.won }
+  finished w z false a = record {
     on = a.on;
     none = ap (λ (x : WorkerView). x.pending) a.told.1
         ∙ a.told.0;
@@ -871,18 +887,18 @@ module _ (b : TreeView) (h : Options) where
   }
 
   -- what was pending was removed
-  pub finished_earlier : (n : ℕ) (w z : WorkerView) (answer : Bool) → FinishesIn b h n w z (Ok answer)
+  pub finished_earlier : (w z : WorkerView) (answer : Bool) → Finishes b h w z (Ok answer)
       → (u : Unfinished) → w.pending ≡ Some u → (o : PassView) → HadNoCall o w.pass
       → AnswerHasMoment o z.pass Delete u.key true
-  finished_earlier n w z false a u is o had = absurd (none-some u (sym a.told.0 ∙ is))
-  finished_earlier n w z true a u is o had = subst (λ (v : Unfinished). AnswerHasMoment o z.pass Delete v.key true)
+  finished_earlier w z false a u is o had = absurd (none-some u (sym a.told.0 ∙ is))
+  finished_earlier w z true a u is o had = subst (λ (v : Unfinished). AnswerHasMoment o z.pass Delete v.key true)
       (same_Some a.moment.0 u (sym a.moment.1 ∙ is)) (a.moment.2 o had)
 
   -- nothing was pending, so nothing was done
-  pub finished_nothing : (n : ℕ) (w z : WorkerView) (answer : Bool) → w.pending ≡ None
-      → FinishesIn b h n w z (Ok answer) → z ≡ w
-  finished_nothing n w z true none a = none_there w.pending none a.told.0
-  finished_nothing n w z false none a = a.told.1
+  pub finished_nothing : (w z : WorkerView) (answer : Bool) → w.pending ≡ None → Finishes b h w z (Ok answer)
+      → z ≡ w
+  finished_nothing w z true none a = none_there w.pending none a.told.0
+  finished_nothing w z false none a = a.told.1
 
 -- ---- what comes before the operation
 
@@ -896,15 +912,15 @@ prepares_nothing h op w none few = record {
   collects = λ not none many. absurd (few not many);
 }
 
-pub finishes_first : (b : TreeView) (h : Options) (n : ℕ) (w x : WorkerView) (answer : Bool)
-    → FinishesIn b h n w x (Ok answer) → FinishesFirst w x.pass
-finishes_first b h n w x answer f = record { after = f.on.past; earlier = finished_earlier b h n w x answer f }
+pub finishes_first : (b : TreeView) (h : Options) (w x : WorkerView) (answer : Bool) → Finishes b h w x (Ok answer)
+    → FinishesFirst w x.pass
+finishes_first b h w x answer f = record { after = f.on.past; earlier = finished_earlier b h w x answer f }
 
-pub prepares_look : (b : TreeView) (h : Options) (n : ℕ) (w x : WorkerView) (answer : Bool)
-    → FinishesIn b h n w x (Ok answer) → Prepares h Has w x.pass
-prepares_look b h n w x answer f = record {
+pub prepares_look : (b : TreeView) (h : Options) (w x : WorkerView) (answer : Bool) → Finishes b h w x (Ok answer)
+    → Prepares h Has w x.pass
+prepares_look b h w x answer f = record {
   finished = x.pass;
-  first = finishes_first b h n w x answer f;
+  first = finishes_first b h w x answer f;
   then = seen_itself x.pass;
   collects = λ not none many. absurd (not refl);
 }
@@ -915,7 +931,7 @@ relieved_in_round : (t : ℕ) (L : Layout) (w z : WorkerView) → IsOnward (L.no
 relieved_in_round t L w z on = onward_more (L.nodes + 2 * L.workers + 2) (round_bound t L) w z (omega arith) on
 
 module _ (b : TreeView) (h : Options) (w x : WorkerView) (answer : Bool)
-    (f : FinishesIn b h (h.rounds + 1) w x (Ok answer)) where
+    (f : Finishes b h w x (Ok answer)) where
   abbrev one : ℕ
   one = round_bound h.tries b.layout
 
@@ -927,14 +943,14 @@ module _ (b : TreeView) (h : Options) (w x : WorkerView) (answer : Bool)
       let sum = all in
       record {
         onward = onward_more ((h.rounds + 1) * one + one) ((h.rounds + 2) * one) w z (omega (arith, sum))
-            (onward_then ((h.rounds + 1) * one) one w x z (finished b h (h.rounds + 1) w x answer f)
+            (onward_then ((h.rounds + 1) * one) one w x z (finished b h w x answer f)
             (relieved_in_round h.tries b.layout x z r.onward));
         prepares = λ op. record {
           finished = x.pass;
-          first = finishes_first b h (h.rounds + 1) w x answer f;
+          first = finishes_first b h w x answer f;
           then = r.onward.on.past;
           collects = λ not none many. subst (λ (v : WorkerView). Collects v z.pass)
-              (finished_nothing b h (h.rounds + 1) w x answer none f) r.collects;
+              (finished_nothing b h w x answer none f) r.collects;
         };
       }
 
@@ -943,14 +959,14 @@ module _ (b : TreeView) (h : Options) (w x : WorkerView) (answer : Bool)
       let sum = all in
       record {
         onward = onward_more ((h.rounds + 1) * one) ((h.rounds + 2) * one) w x (omega (arith, sum))
-            (finished b h (h.rounds + 1) w x answer f);
+            (finished b h w x answer f);
         prepares = λ op. record {
           finished = x.pass;
-          first = finishes_first b h (h.rounds + 1) w x answer f;
+          first = finishes_first b h w x answer f;
           then = seen_itself x.pass;
           collects = λ not none many. absurd (let few = subst
               (λ (v : WorkerView). waiting_in v.queues < h.collect_after)
-              (finished_nothing b h (h.rounds + 1) w x answer none f) few in omega (arith, few, many));
+              (finished_nothing b h w x answer none f) few in omega (arith, few, many));
         };
       }
 
@@ -958,7 +974,7 @@ module _ (b : TreeView) (h : Options) (w x : WorkerView) (answer : Bool)
 
 -- where the remove of an earlier call is not finished, nothing else is done
 pub pending_manages : {map : Bool} (b : TreeView) (h : Options) (op : Op) (k : ℕ) (w z : WorkerView)
-    → FinishesIn b h (h.rounds + 1) w z (Err fault.Unfinished) → ManagesIn map b h op k w z (Err fault.Pending)
+    → Finishes b h w z (Err fault.Unfinished) → ManagesIn map b h op k w z (Err fault.Pending)
 pending_manages b h op k w z f =
     let none = wins_none op fault.Pending (λ is. let which = is in cc) in
     record {
@@ -976,7 +992,7 @@ pending_manages b h op k w z f =
       full = λ is. absurd (let no = is in cc);
       begins = λ other. absurd (other refl);
       alone = λ runs. subst IsSome (sym f.told.1) f.told.0;
-      pending = λ alone is. f.alone alone;
+      pending = λ is. f.lost refl;
       frees = λ map. f.frees;
     }
 
@@ -998,8 +1014,8 @@ pub manages_in : (map : Bool) (b : TreeView) (h : Options) (op : Op) (k m n : �
     (r : Result Bool CallFault) → m + n ≤ 3 * h.rounds + 5 → IsOnward (rounds_bound b h m) w y
     → IsReadyIn map h op w y.pass
     → Answers op k (rounds_bound b h n) ((h.rounds + 1) * h.tries) y z r → (r ≡ Err fault.Full → IsFullIn map w z)
-    → (IsAlone y.pass z.pass → r ≡ Err fault.Unfinished → FailsAlone 1 1 h.tries z fault.Unfinished)
-    → (map ≡ true → FreesNone w z) → ManagesIn map b h op k w z r
+    → (r ≡ Err fault.Unfinished → StaysPending h y z) → (map ≡ true → FreesNone w z)
+    → ManagesIn map b h op k w z r
 manages_in map b h op k m n w y z r few on first a full last frees =
     let most = round_bound h.tries b.layout in
     let sum = add-mul m n most in
@@ -1011,23 +1027,19 @@ manages_in map b h op k m n w y z r few on first a full last frees =
       full = full;
       begins = λ other. (y.pass, first, a.moment);
       alone = λ runs. (let more = runs_on w y z on.on a.on runs in
-          managed_fails h op k (rounds_bound b h n) y z r a more (last more.alone));
-      pending = λ mine is. still mine is;
+          managed_fails h op k (rounds_bound b h n) y z r a more
+          (λ is. stays_alone h y z more.alone (last is)));
+      pending = pends_if r (pends_left op k y z r on.none a.left
+          (λ is. stays_since h w y z (record { same = on.on.same; past = on.on.past }) (last is)));
       frees = frees;
     }
-  where
-    still : IsAlone w.pass z.pass → (r ≡ Err fault.Pending) ⊎ (r ≡ Err fault.Unfinished)
-        → FailsAlone 1 1 h.tries z fault.Unfinished
-    still mine (inl is) = none_there y.pending on.none (subst (IsLeft op k y z) is a.left).0
-    still mine (inr is) = last (alone_later w.pass y.pass z.pass on.on.same on.on.past a.on.past mine) is
 
 -- and so in a set
 pub manages : (b : TreeView) (h : Options) (op : Op) (k m n : ℕ) (w y z : WorkerView) (r : Result Bool CallFault)
     → m + n ≤ 3 * h.rounds + 5 → IsOnward (rounds_bound b h m) w y → Prepares h op w y.pass
     → Answers op k (rounds_bound b h n) ((h.rounds + 1) * h.tries) y z r
     → (r ≡ Err fault.Full → (f : Fullness) × WasFull w z f)
-    → (IsAlone y.pass z.pass → r ≡ Err fault.Unfinished → FailsAlone 1 1 h.tries z fault.Unfinished)
-    → Manages b h op k w z r
+    → (r ≡ Err fault.Unfinished → StaysPending h y z) → Manages b h op k w z r
 manages b h op k m n w y z r few on first a full last = manages_in false b h op k m n w y z r few on first a full
     last (λ is. absurd (true≢false (sym is)))
 
@@ -1036,8 +1048,7 @@ pub manages_at_once : (b : TreeView) (h : Options) (op : Op) (k n : ℕ) (w z : 
     → n ≤ 3 * h.rounds + 5 → w.held ≡ None → w.pending ≡ None → (op ≢ Has → h.collect_after ≤ waiting_in w.queues → ⊥)
     → Answers op k (rounds_bound b h n) ((h.rounds + 1) * h.tries) w z r
     → (r ≡ Err fault.Full → (f : Fullness) × WasFull w z f)
-    → (IsAlone w.pass z.pass → r ≡ Err fault.Unfinished → FailsAlone 1 1 h.tries z fault.Unfinished)
-    → Manages b h op k w z r
+    → (r ≡ Err fault.Unfinished → StaysPending h w z) → Manages b h op k w z r
 manages_at_once b h op k n w z r few free none tidy a full last =
     let most = round_bound h.tries b.layout in
     let nothing = zero-mul most in
@@ -1177,7 +1188,7 @@ inserts_manage b h k m w y z r few known later on first i =
     )) in (
       manages b h Insert k m (2 * h.rounds + 3) w y z (of_insert r) (omega (arith, few)) on first i.answers
           (λ is. (let found = full is in (found.0, found.2)))
-          (λ runs is. never_unfinished Insert k _ _ y z (of_insert r) (λ no. (let which = no in cc)) i.answers is),
+          (never_unfinished Insert k _ _ y z (of_insert r) (λ no. (let which = no in cc)) i.answers),
       as_full w z r full,
     )
 
@@ -1200,14 +1211,14 @@ module _ (b : TreeView) (h : Options) (k : ℕ) (w : WorkerView) where
 
   pub removes_plain : (z : WorkerView) (r : Result Bool CallFault) → r ≢ Err fault.Unfinished
       → AnswersIn b h Delete k (h.rounds + 1) w z r → Removes b h k w z r
-  removes_plain z r other a = record { answers = removes_so z r a; alone = λ runs is. absurd (other is) }
+  removes_plain z r other a = record { answers = removes_so z r a; lost = λ is. absurd (other is) }
 
   module _ (x z : WorkerView) (idle : IsIdle w) (none : w.pending ≡ None)
       (first : AnswersIn b h Delete k (h.rounds + 1) w x (Err fault.Unfinished)) where
     abbrev mine : Unfinished
     mine = record { key = k; leaf = first.left.1 }
 
-    goes : (r : Result Bool CallFault) → FinishesIn b h (h.rounds + 1) x z r → GoesOn ((2 * h.rounds + 2) * round') w z
+    goes : (r : Result Bool CallFault) → Finishes b h x z r → GoesOn ((2 * h.rounds + 2) * round') w z
     goes r f =
         let sum = add-mul (h.rounds + 1) (h.rounds + 1) round' in
         let le = mul-le-mul_right {m = (h.rounds + 1) + (h.rounds + 1)} {n = 2 * h.rounds + 2} round' (omega arith) in
@@ -1217,10 +1228,10 @@ module _ (b : TreeView) (h : Options) (k : ℕ) (w : WorkerView) where
     had : HadNoCall w.pass x.pass
     had = record { same = first.on.same; past = first.on.past; call = idle none }
 
-    removes_ended : (r : Result Bool CallFault) → FinishesIn b h (h.rounds + 1) x z r
+    removes_ended : (r : Result Bool CallFault) → Finishes b h x z r
         → Answers Delete k (rounds_bound b h (2 * h.rounds + 2)) ((h.rounds + 1) * h.tries) w z r
     removes_ended (Ok true) f = record {
-      moment = finished_earlier b h (h.rounds + 1) x z true f mine first.left.2 w.pass had;
+      moment = finished_earlier b h x z true f mine first.left.2 w.pass had;
       left = f.told.1;
       won = wins_before 0 1 w x z first.won f.won;
       on = goes (Ok true) f;
@@ -1242,11 +1253,10 @@ module _ (b : TreeView) (h : Options) (k : ℕ) (w : WorkerView) where
     removes_ended (Err fault.Pending) f = absurd f.told
     removes_ended (Err fault.Pinned) f = absurd f.told
 
-    pub removes_at_last : (r : Result Bool CallFault) → FinishesIn b h (h.rounds + 1) x z r → Removes b h k w z r
+    pub removes_at_last : (r : Result Bool CallFault) → Finishes b h x z r → Removes b h k w z r
     removes_at_last r f = record {
       answers = removes_ended r f;
-      alone = λ mine is. subst (λ (q : Result Bool CallFault). IfErr q (FailsAlone 1 1 h.tries z)) is
-          (f.alone (alone_later w.pass x.pass z.pass first.on.same first.on.past f.on.past mine));
+      lost = λ is. stays_since h w x z (record { same = first.on.same; past = first.on.past }) (f.lost is);
     }
 
 -- ---- a call that failed at once, and what was done after it
@@ -1288,7 +1298,7 @@ pub looks_at_once : (b : TreeView) (h : Options) (k : ℕ) (w z : WorkerView) (r
     → w.held ≡ None → w.pending ≡ None → AnswersIn b h Has k (h.rounds + 1) w z r → Manages b h Has k w z r
 looks_at_once b h k w z r free none a = manages_at_once b h Has k (h.rounds + 1) w z r (omega arith) free none
     (λ not many. not refl) a (never_full Has k _ _ w z r (λ is. let no = is in cc) a)
-    (λ runs. never_unfinished Has k _ _ w z r (λ is. let no = is in cc) a)
+    (never_unfinished Has k _ _ w z r (λ is. let no = is in cc) a)
 
 module _ (b : TreeView) (h : Options) (k : ℕ) (w z : WorkerView) (free : w.held ≡ None) (none : w.pending ≡ None)
     (few : waiting_in w.queues < h.collect_after) where
@@ -1304,11 +1314,11 @@ module _ (b : TreeView) (h : Options) (k : ℕ) (w z : WorkerView) (free : w.hel
 
   pub removes_tidy : (r : Result Bool CallFault) → Removes b h k w z r → Manages b h Delete k w z r
   removes_tidy r a = manages_at_once b h Delete k (2 * h.rounds + 2) w z r (omega arith) free none (tidy Delete)
-      a.answers (never_full Delete k _ _ w z r (λ is. let no = is in cc) a.answers) a.alone
+      a.answers (never_full Delete k _ _ w z r (λ is. let no = is in cc) a.answers) a.lost
 
 -- a remove after what came before it
 pub removes_after : (b : TreeView) (h : Options) (k : ℕ) (w y z : WorkerView) (r : Result Bool CallFault)
     → IsReady b h w y → Removes b h k y z r → Manages b h Delete k w z r
 removes_after b h k w y z r ready a = manages b h Delete k (h.rounds + 2) (2 * h.rounds + 2) w y z r (omega arith)
     ready.onward (ready.prepares Delete) a.answers (never_full Delete k _ _ y z r (λ is. let no = is in cc)
-    a.answers) a.alone
+    a.answers) a.lost

@@ -32,7 +32,7 @@ use Rattle.nm_set.specs.declared.managed.Options.{Options}
 use Rattle.nm_set.specs.Managed.{IsLeft, ManagesIn, MetInterference, SaysManaged, round_bound}
 use Rattle.nm_set.specs.MapRounds.{GetsIn, KeepsStores, LooksWereBusy, MovesValue, SaysRemoved}
 use Rattle.nm_set.specs.Maps.{AnswersGet, ManagesGet, PopsValue, SaysChange, TookMeanwhile, look_bound}
-use Rattle.nm_set.specs.Rounds.{AnswersIn, FinishesIn, IsOnward, Removes, rounds_bound}
+use Rattle.nm_set.specs.Rounds.{AnswersIn, Finishes, IsOnward, Removes, rounds_bound}
 use Rattle.nm_set.proofs.Managing.{finished, finished_nothing, finishes_first, goes_more, goes_then, left_since, lose_same, manages_in, met_nothing, met_since, met_then, never_full, never_unfinished, none_there, number_of_pass, onward_itself, onward_more, onward_then, wins_after}
 
 -- ---- an earlier moment
@@ -151,12 +151,14 @@ took_before o p x q k t r seen had until same = if_any r (record {
 pub removed_from_set : (b : TreeView) (h : Options) (k : ℕ) (w z : WorkerView) (r : Result Bool CallFault)
     → SaysManaged Delete b h k w z r → SaysRemoved b h k w z r
 removed_from_set b h k w z r (inl pinned) = inl pinned
-removed_from_set b h k w z r (inr (free, m)) = inr (free, record { answers = m.answers; alone = m.alone })
+removed_from_set b h k w z r (inr (free, m)) =
+    inr (free, record { answers = m.answers; alone = m.alone; pending = λ is. m.pending (inr is) })
 
 pub removed_from_map : (b : TreeView) (h : Options) (k : ℕ) (w z : WorkerView) (r : Result Bool CallFault)
     → SaysChange Delete b h k w z r → SaysRemoved b h k w z r
 removed_from_map b h k w z r (inl pinned) = inl pinned
-removed_from_map b h k w z r (inr (free, m)) = inr (free, record { answers = m.answers; alone = m.alone })
+removed_from_map b h k w z r (inr (free, m)) =
+    inr (free, record { answers = m.answers; alone = m.alone; pending = λ is. m.pending (inr is) })
 
 -- which frees no node
 pub change_frees_none : (b : TreeView) (h : Options) (k : ℕ) (w z : WorkerView) (r : Result Bool CallFault)
@@ -320,9 +322,9 @@ get_fails b h k n y z (Err fault.Pending) a mine = subst IsSome (sym a.left.1) a
 get_fails b h k n y z (Err fault.Pinned) a mine = absurd a.left
 
 module _ (b : TreeView) (h : Options) (k : ℕ) (w y : WorkerView) (answer : Bool)
-    (f : FinishesIn b h (h.rounds + 1) w y (Ok answer)) where
+    (f : Finishes b h w y (Ok answer)) where
   abbrev came : IsOnward (rounds_bound b h (h.rounds + 1)) w y
-  came = finished b h (h.rounds + 1) w y answer f
+  came = finished b h w y answer f
 
   pub gets_then : (z : WorkerView) (r : Result (Option ℕ) CallFault) → GetsIn b h k (h.rounds + 1) y z r
       → ManagesGet b h k w z r
@@ -342,28 +344,28 @@ module _ (b : TreeView) (h : Options) (k : ℕ) (w y : WorkerView) (answer : Boo
               (record { same = came.on.same; past = came.on.past }) (a.busy is some);
           alone = λ mine is. a.alone (alone_later w.pass y.pass z.pass came.on.same came.on.past a.on.past mine) is;
         };
-        begins = λ other. (y.pass, finishes_first b h (h.rounds + 1) w y answer f, a.moment);
+        begins = λ other. (y.pass, finishes_first b h w y answer f, a.moment);
         stores = λ none. subst (λ (v : WorkerView). KeepsStores v z)
-            (finished_nothing b h (h.rounds + 1) w y answer none f) gets.stores;
+            (finished_nothing b h w y answer none f) gets.stores;
         alone = λ mine. get_fails b h k ((h.rounds + 1) * looks) y z r a
             (alone_later w.pass y.pass z.pass came.on.same came.on.past a.on.past mine);
-        pending = λ mine is. none_there y.pending came.none (subst (IsLeft Has k y z) is a.left).0;
+        pending = λ is. none_there y.pending came.none (subst (IsLeft Has k y z) is a.left).0;
         frees = gets.frees ∙ f.frees;
       }
 
   pub inserts_then : (z : WorkerView) (r : Result Bool CallFault) → FreesNone y z
       → AnswersIn b h Insert k (h.rounds + 1) y z r → ManagesIn true b h Insert k w z r
   inserts_then z r none a = manages_in true b h Insert k (h.rounds + 1) (h.rounds + 1) w y z r (omega arith) came
-      (finishes_first b h (h.rounds + 1) w y answer f) a
+      (finishes_first b h w y answer f) a
       (λ is. (left_since {A = Bool} Insert k w y z (Err fault.Full) came.on.past came.none
       (subst (IsLeft Insert k y z) is a.left)).2)
-      (λ runs. never_unfinished Insert k _ _ y z r (λ is. (let no = is in cc)) a) (λ map. none ∙ f.frees)
+      (never_unfinished Insert k _ _ y z r (λ is. (let no = is in cc)) a) (λ map. none ∙ f.frees)
 
   pub removes_then : (z : WorkerView) (r : Result Bool CallFault) → FreesNone y z → Removes b h k y z r
       → ManagesIn true b h Delete k w z r
   removes_then z r none a = manages_in true b h Delete k (h.rounds + 1) (2 * h.rounds + 2) w y z r (omega arith) came
-      (finishes_first b h (h.rounds + 1) w y answer f) a.answers
-      (never_full Delete k _ _ y z r (λ is. (let no = is in cc)) a.answers) a.alone (λ map. none ∙ f.frees)
+      (finishes_first b h w y answer f) a.answers
+      (never_full Delete k _ _ y z r (λ is. (let no = is in cc)) a.answers) a.lost (λ map. none ∙ f.frees)
 
 -- ---- a look-up with nothing to do first
 
@@ -422,7 +424,7 @@ gets_now b h k w z r free none gets =
       );
       stores = λ none'. gets.stores;
       alone = λ mine. get_fails b h k ((h.rounds + 1) * looks) w z r a mine;
-      pending = λ mine is. none_there w.pending none (subst (IsLeft Has k w z) is a.left).0;
+      pending = λ is. none_there w.pending none (subst (IsLeft Has k w z) is a.left).0;
       frees = gets.frees;
     }
 
@@ -437,7 +439,7 @@ got_at_once b h k w z r free other only l =
 
 -- if the remove of an earlier call is not finished, nothing is looked up
 pub pending_get : (b : TreeView) (h : Options) (k : ℕ) (w z : WorkerView)
-    → FinishesIn b h (h.rounds + 1) w z (Err fault.Unfinished) → ManagesGet b h k w z (Err fault.Pending)
+    → Finishes b h w z (Err fault.Unfinished) → ManagesGet b h k w z (Err fault.Pending)
 pending_get b h k w z f =
     let round = round_bound h.tries b.layout in
     let looks = look_bound h.tries b.layout in
@@ -454,6 +456,6 @@ pending_get b h k w z f =
       begins = λ other. absurd (other refl);
       stores = λ none. none_there w.pending none f.told.0;
       alone = λ mine. subst IsSome (sym f.told.1) f.told.0;
-      pending = λ mine is. f.alone mine;
+      pending = λ is. f.lost refl;
       frees = f.frees;
     }

@@ -26,7 +26,7 @@ use Rattle.nm_set.specs.declared.managed.Options.{Options}
 use Rattle.nm_set.specs.Managed.{IsLeft, MetInterference, round_bound}
 use Rattle.nm_set.specs.MapPuts.{AnswersPut, ManagesPut, PutsIn, PutsWereBusy, SaysTryPut, put_bound}
 use Rattle.nm_set.specs.MapRounds.{KeepsStores}
-use Rattle.nm_set.specs.Rounds.{FinishesIn, IsOnward, rounds_bound}
+use Rattle.nm_set.specs.Rounds.{Finishes, IsOnward, rounds_bound}
 use Rattle.nm_set.proofs.Managing.{all_none, fails_busy, finished, finished_nothing, finishes_first, goes_more, goes_then, insert_met, left_since, lose_by_call, met_nothing, met_since, met_then, none_each, none_there, number_of_pass, onward_itself, onward_more, onward_then, runs_on, wins_after}
 use Rattle.nm_set.proofs.MapManaging.{gave_earlier}
 
@@ -181,12 +181,12 @@ module _ (b : TreeView) (h : Options) (when : Condition) (k v : ℕ) where
   put_fails most y z (Err fault.Pending) a runs = subst IsSome (sym a.left.1) a.left.0
   put_fails most y z (Err fault.Pinned) a runs = absurd a.left
 
-  pub puts_then : (w y : WorkerView) (answer : Bool) → FinishesIn b h (h.rounds + 1) w y (Ok answer)
+  pub puts_then : (w y : WorkerView) (answer : Bool) → Finishes b h w y (Ok answer)
       → (z : WorkerView) (r : Result PutOutcome CallFault) → PutsIn b h when k v (h.rounds + 1) y z r
       → ManagesPut b h when k v w z r
   puts_then w y answer f z r puts =
       let came : IsOnward (rounds_bound b h (h.rounds + 1)) w y =
-      finished b h (h.rounds + 1) w y answer f in
+      finished b h w y answer f in
       let a = puts.answers in
       let round = round_bound h.tries b.layout in
       let sum = mul-add (h.rounds + 1) round one in
@@ -203,15 +203,15 @@ module _ (b : TreeView) (h : Options) (when : Condition) (k v : ℕ) where
           alone = λ runs is. a.alone (runs_on w y z came.on a.on runs) is;
           frees = a.frees ∙ f.frees;
         };
-        begins = λ other. (y.pass, finishes_first b h (h.rounds + 1) w y answer f, a.map);
+        begins = λ other. (y.pass, finishes_first b h w y answer f, a.map);
         stores = λ none. subst (λ (x : WorkerView). KeepsStores x z)
-            (finished_nothing b h (h.rounds + 1) w y answer none f) puts.stores;
+            (finished_nothing b h w y answer none f) puts.stores;
         alone = λ runs. put_fails ((h.rounds + 1) * one) y z r a (runs_on w y z came.on a.on runs);
-        pending = λ mine is. none_there y.pending came.none (subst (IsLeft Insert k y z) is a.left).0;
+        pending = λ is. none_there y.pending came.none (subst (IsLeft Insert k y z) is a.left).0;
       }
 
   -- if the remove of an earlier call is not finished, nothing is put
-  pub pending_put : (w z : WorkerView) → FinishesIn b h (h.rounds + 1) w z (Err fault.Unfinished)
+  pub pending_put : (w z : WorkerView) → Finishes b h w z (Err fault.Unfinished)
       → ManagesPut b h when k v w z (Err fault.Pending)
   pending_put w z f =
       let round = round_bound h.tries b.layout in
@@ -230,5 +230,5 @@ module _ (b : TreeView) (h : Options) (when : Condition) (k v : ℕ) where
         begins = λ other. absurd (other refl);
         stores = λ none. none_there w.pending none f.told.0;
         alone = λ runs. subst IsSome (sym f.told.1) f.told.0;
-        pending = λ mine is. f.alone mine;
+        pending = λ is. f.lost refl;
       }

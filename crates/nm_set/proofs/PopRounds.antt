@@ -5,7 +5,7 @@ use Rattle.std.proofs.Math.Nat.{add-mul, suc-mul, mul-add, mul-le-mul_right}
 use Rattle.nm_edge.specs.Layouts.{Layout, IsLayout}
 use Rattle.nm_model.specs.declared.event.Op.TheVariants.{Delete}
 use Rattle.nm_progress.specs.Alone.{RunsAlone}
-use Rattle.nm_progress.proofs.RunningAlone.{alone_later, runs_later}
+use Rattle.nm_progress.proofs.RunningAlone.{runs_later}
 use Rattle.nm_steps.specs.Steps.{TreeView, PassView, HasSeen, HasSeenAllOf}
 use Rattle.nm_steps.proofs.Seeing.{seen_itself}
 use Rattle.nm_walks.specs.Bounds.{reach}
@@ -23,8 +23,8 @@ use Rattle.nm_set.specs.declared.managed.Options.{Options}
 use Rattle.nm_set.specs.Managed.{GoesOn, MetInterference, round_bound}
 use Rattle.nm_set.specs.MapRounds.{Removed, SaysRemoved}
 use Rattle.nm_set.specs.Popping.{PopLeft, Pops, flags_told_by_pop, pop_round_bound, pop_rounds_bound}
-use Rattle.nm_set.specs.Rounds.{FinishesIn, IsOnward}
-use Rattle.nm_set.proofs.Managing.{finished, goes_more, goes_then, late_met, lose_same, met_fewer, met_nothing, met_since, met_then, near_met, none_there, number_of_pass, onward_itself, onward_more, onward_then, wins_after}
+use Rattle.nm_set.specs.Rounds.{Finishes, IsOnward}
+use Rattle.nm_set.proofs.Managing.{finished, goes_more, goes_then, late_met, lose_same, met_fewer, met_nothing, met_since, met_then, near_met, none_there, number_of_pass, onward_itself, onward_more, onward_then, pends_if, stays_since, wins_after}
 
 abbrev pop_busy : Result (Option ℕ) CallFault
 pop_busy = Err fault.Busy
@@ -57,7 +57,7 @@ module _ (end : End) (b : TreeView) (h : Options) (w : WorkerView) (none : w.pen
   L = b.layout
 
   abbrev Says : WorkerView → Result (Option ℕ) CallFault → Type 0
-  Says z r = Pops (among end) (comes_before end) (pop_round_bound h L) h.tries 1 w z r
+  Says z r = Pops (among end) (comes_before end) h (pop_round_bound h L) 1 w z r
 
   abbrev Near : WorkerView → Result (Option ℕ) CallFault → Type 0
   Near z r = LeavesNear (told_at end) (gives_up_at end L h.tries) L h.tries w z r
@@ -80,7 +80,7 @@ module _ (end : End) (b : TreeView) (h : Options) (w : WorkerView) (none : w.pen
         busy = λ is two. absurd (let no = is in cc);
         alone = λ runs.
             tt;
-        pending = λ mine is. absurd (let no = is in cc);
+        pending = pends_if (Ok None) tt;
       }
 
   -- the call that finds a key was not answered
@@ -96,7 +96,7 @@ module _ (end : End) (b : TreeView) (h : Options) (w : WorkerView) (none : w.pen
         on = on;
         busy = λ is two. near_met w.pass z.pass h.tries two (l.interfered refl);
         alone = λ runs. (let few = l.alone runs.alone refl in omega (arith, few));
-        pending = λ mine is. absurd (let no = is in cc);
+        pending = pends_if pop_busy tt;
       }
       by fault.Pending on l = none_there w.pending none l.did.0
       by fault.Full on l = absurd l.did
@@ -118,7 +118,7 @@ module _ (end : End) (b : TreeView) (h : Options) (w : WorkerView) (none : w.pen
         busy = λ is two.
             absurd (let no = is in cc);
         alone = λ runs. tt;
-        pending = λ mine is. absurd (let no = is in cc);
+        pending = pends_if (Ok None) tt;
       }
 
   module _ (x z : WorkerView) (key : ℕ) (found : Finds end L h.tries w x (Ok (Some key))) (is : among end key) where
@@ -152,7 +152,7 @@ module _ (end : End) (b : TreeView) (h : Options) (w : WorkerView) (none : w.pen
           busy = λ is
               two. absurd (let no = is in cc);
           alone = λ runs. tt;
-          pending = λ mine is. absurd (let no = is in cc);
+          pending = pends_if (Ok (Some key)) tt;
         }
 
     -- the remove came too late, which it does not if the worker runs alone
@@ -176,7 +176,7 @@ module _ (end : End) (b : TreeView) (h : Options) (w : WorkerView) (none : w.pen
           alone = λ runs. absurd (found_is_there w.pass z.pass seen_z fits on.same runs
               (none_seen w.pass w.pending w.held seen between.stands none) seen.is_part won x.pass l.same l.past
               t.answers.on.past key was.is_key was.was t.answers.moment);
-          pending = λ mine is. absurd (let no = is in cc);
+          pending = pends_if pop_busy tt;
         }
 
     -- or was not answered
@@ -196,7 +196,7 @@ module _ (end : End) (b : TreeView) (h : Options) (w : WorkerView) (none : w.pen
               * h.tries = ap (λ (n : ℕ). n * h.tries) (omega arith) in omega (arith, two, most, all))
               (t.answers.busy refl));
           alone = λ runs. (let less = t.alone (later t.answers.on runs) in omega (arith, less));
-          pending = λ mine is. absurd (let no = is in cc);
+          pending = pends_if pop_busy tt;
         }
         by fault.NoMemory t = record {
           took = tt;
@@ -206,7 +206,7 @@ module _ (end : End) (b : TreeView) (h : Options) (w : WorkerView) (none : w.pen
           on = both (Err fault.NoMemory) t;
           busy = λ is two. absurd (let no = is in cc);
           alone = λ runs. t.answers.left.2;
-          pending = λ mine is. absurd (let no = is in cc);
+          pending = pends_if (Err fault.NoMemory) tt;
         }
         by fault.Full t = absurd (let no = t.answers.left.0 in cc)
         by fault.Pinned t = absurd t.answers.left
@@ -221,7 +221,7 @@ module _ (end : End) (b : TreeView) (h : Options) (w : WorkerView) (none : w.pen
               on = both (Err fault.Unfinished) t;
               busy = λ is two. absurd (let no = is in cc);
               alone = λ runs. t.alone (later t.answers.on runs);
-              pending = λ mine is. absurd (let no = is in cc);
+              pending = λ one. stays_since h w x z (record { same = l.same; past = l.past }) (t.pending refl);
             }
 
 -- ---- all rounds
@@ -256,14 +256,14 @@ left_since Among Before o w z (Err fault.Unfinished) past none (n, is, key, was,
 )
 
 -- n rounds in a row came to nothing
-pub record LostRounds (most n tries : ℕ) (w x : WorkerView) : Type 0 where
+pub record LostRounds (h : Options) (most n : ℕ) (w x : WorkerView) : Type 0 where
   pub onward : IsOnward (n * most) w x
-  pub met : 2 ≤ tries → MetInterference Delete w.pass x.pass n
+  pub met : 2 ≤ h.tries → MetInterference Delete w.pass x.pass n
 
-module _ (Among : ℕ → Type 0) (Before : ℕ → ℕ → Type 0) (tries : ℕ) where
+module _ (Among : ℕ → Type 0) (Before : ℕ → ℕ → Type 0) (h : Options) where
   pub pops_since : (m n s t : ℕ) (w x z : WorkerView) (r : Result (Option ℕ) CallFault) → IsOnward m w x
-      → (r ≡ pop_busy → 2 ≤ tries → MetInterference Delete w.pass z.pass t) → Pops Among Before n tries s x z r
-      → Pops Among Before (m + n) tries t w z r
+      → (r ≡ pop_busy → 2 ≤ h.tries → MetInterference Delete w.pass z.pass t) → Pops Among Before h n s x z r
+      → Pops Among Before h (m + n) t w z r
   pops_since m n s t w x z r first met last = record {
     took = took_since Among Before w.pass x.pass z.pass r first.on.past last.took;
     left = left_since Among Before w x z r first.on.past first.none last.left;
@@ -271,12 +271,12 @@ module _ (Among : ℕ → Type 0) (Before : ℕ → ℕ → Type 0) (tries : ℕ
     on = goes_then w x z first.on last.on;
     busy = met;
     alone = λ runs. last.alone (runs_later w.pass x.pass z.pass first.on.same first.on.past last.on.past runs);
-    pending = λ mine is. last.pending (alone_later w.pass x.pass z.pass first.on.same first.on.past last.on.past
-        mine) is;
+    pending = λ one. stays_since h w x z (record { same = first.on.same; past = first.on.past })
+        (last.pending one);
   }
 
   pub pops_more : (m n t : ℕ) (w z : WorkerView) (r : Result (Option ℕ) CallFault) → m ≤ n
-      → Pops Among Before m tries t w z r → Pops Among Before n tries t w z r
+      → Pops Among Before h m t w z r → Pops Among Before h n t w z r
   pops_more m n t w z r le a = record {
     took = a.took;
     left = a.left;
@@ -287,7 +287,7 @@ module _ (Among : ℕ → Type 0) (Before : ℕ → ℕ → Type 0) (tries : ℕ
     pending = a.pending;
   }
 
-  pub no_round_yet : (most : ℕ) (w : WorkerView) → w.pending ≡ None → w.held ≡ None → LostRounds most 0 tries w w
+  pub no_round_yet : (most : ℕ) (w : WorkerView) → w.pending ≡ None → w.held ≡ None → LostRounds h most 0 w w
   no_round_yet most w none free = record {
     onward = onward_more 0 (0 * most) w w (omega arith)
         (onward_itself w none free);
@@ -295,13 +295,13 @@ module _ (Among : ℕ → Type 0) (Before : ℕ → ℕ → Type 0) (tries : ℕ
   }
 
   -- what they met, and what one round more has met
-  met_more : (most n : ℕ) (w x z : WorkerView) → LostRounds most n tries w x → 2 ≤ tries
-      → Pops Among Before most tries 1 x z pop_busy → MetInterference Delete w.pass z.pass (n + 1)
+  met_more : (most n : ℕ) (w x z : WorkerView) → LostRounds h most n w x → 2 ≤ h.tries
+      → Pops Among Before h most 1 x z pop_busy → MetInterference Delete w.pass z.pass (n + 1)
   met_more most n w x z first two last = met_then Delete n 1 w.pass x.pass z.pass
       (number_of_pass w.pass x.pass first.onward.on.same) (first.met two) (last.busy refl two)
 
-  pub one_round_more : (most n : ℕ) (w x z : WorkerView) → LostRounds most n tries w x
-      → Pops Among Before most tries 1 x z pop_busy → LostRounds most (n + 1) tries w z
+  pub one_round_more : (most n : ℕ) (w x z : WorkerView) → LostRounds h most n w x
+      → Pops Among Before h most 1 x z pop_busy → LostRounds h most (n + 1) w z
   one_round_more most n w x z first last =
       let whole = add-mul n 1 most in
       record {
@@ -312,36 +312,36 @@ module _ (Among : ℕ → Type 0) (Before : ℕ → ℕ → Type 0) (tries : ℕ
       }
 
   pub last_round : (most n rounds : ℕ) (w x z : WorkerView) (r : Result (Option ℕ) CallFault) → suc n ≤ rounds
-      → (r ≡ pop_busy → n + 1 ≡ rounds) → LostRounds most n tries w x → Pops Among Before most tries 1 x z r
-      → Pops Among Before (rounds * most) tries rounds w z r
+      → (r ≡ pop_busy → n + 1 ≡ rounds) → LostRounds h most n w x → Pops Among Before h most 1 x z r
+      → Pops Among Before h (rounds * most) rounds w z r
   last_round most n rounds w x z r few all first last =
       let whole = suc-mul n most in
       let le = mul-le-mul_right most few in
       pops_more (n * most + most) (rounds * most) rounds w z r (omega (arith, whole, le))
       (pops_since (n * most) most 1 rounds w x z r first.onward
       (λ is two. subst (MetInterference Delete w.pass z.pass) (all is)
-      (met_more most n w x z first two (subst (λ (q : Result (Option ℕ) CallFault). Pops Among Before most tries 1
+      (met_more most n w x z first two (subst (λ (q : Result (Option ℕ) CallFault). Pops Among Before h most 1
       x z q) is last))) last)
 
 -- what was finished first, and then popped
 pub pops_after : (Among : ℕ → Type 0) (Before : ℕ → ℕ → Type 0) (b : TreeView) (h : Options) (w x z : WorkerView)
-    (answer : Bool) (r : Result (Option ℕ) CallFault) → FinishesIn b h (h.rounds + 1) w x (Ok answer)
-    → Pops Among Before ((h.rounds + 1) * pop_round_bound h b.layout) h.tries (h.rounds + 1) x z r
-    → Pops Among Before (pop_rounds_bound h b.layout) h.tries (h.rounds + 1) w z r
+    (answer : Bool) (r : Result (Option ℕ) CallFault) → Finishes b h w x (Ok answer)
+    → Pops Among Before h ((h.rounds + 1) * pop_round_bound h b.layout) (h.rounds + 1) x z r
+    → Pops Among Before h (pop_rounds_bound h b.layout) (h.rounds + 1) w z r
 pops_after Among Before b h w x z answer r f last =
     let most = round_bound h.tries b.layout in
     let sum = mul-add (h.rounds + 1) most (pop_round_bound h b.layout) in
-    let first = finished b h (h.rounds + 1) w x answer f in
-    pops_more Among Before h.tries ((h.rounds + 1) * most + (h.rounds + 1) * pop_round_bound h b.layout)
+    let first = finished b h w x answer f in
+    pops_more Among Before h ((h.rounds + 1) * most + (h.rounds + 1) * pop_round_bound h b.layout)
     (pop_rounds_bound h b.layout) (h.rounds + 1) w z r (omega (arith, sum))
-    (pops_since Among Before h.tries ((h.rounds + 1) * most) ((h.rounds + 1) * pop_round_bound h b.layout)
+    (pops_since Among Before h ((h.rounds + 1) * most) ((h.rounds + 1) * pop_round_bound h b.layout)
     (h.rounds + 1) (h.rounds + 1) w x z r first (λ is two. met_since Delete (h.rounds + 1) w.pass x.pass z.pass
     (record { same = first.on.same; past = first.on.past }) (last.busy is two)) last)
 
 -- where the remove of an earlier call is not finished, nothing else is done
 pub pending_pops : (Among : ℕ → Type 0) (Before : ℕ → ℕ → Type 0) (b : TreeView) (h : Options) (w z : WorkerView)
-    → FinishesIn b h (h.rounds + 1) w z (Err fault.Unfinished)
-    → Pops Among Before (pop_rounds_bound h b.layout) h.tries (h.rounds + 1) w z (Err fault.Pending)
+    → Finishes b h w z (Err fault.Unfinished)
+    → Pops Among Before h (pop_rounds_bound h b.layout) (h.rounds + 1) w z (Err fault.Pending)
 pending_pops Among Before b h w z f =
     let most = round_bound h.tries b.layout in
     let sum = mul-add (h.rounds + 1) most (pop_round_bound h b.layout) in
@@ -353,5 +353,5 @@ pending_pops Among Before b h w z f =
           (pop_rounds_bound h b.layout) w z (omega (arith, sum)) f.on;
       busy = λ is two. absurd (let no = is in cc);
       alone = λ runs. subst IsSome (sym f.told.1) f.told.0;
-      pending = λ mine is. f.alone mine;
+      pending = λ one. f.lost refl;
     }

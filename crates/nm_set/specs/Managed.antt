@@ -1,6 +1,6 @@
 -- Managed calls: what a caller learns from a call that is retried while it loses its tries, that
 -- finishes a remove which has begun, and that collects waiting nodes.
-use Rattle.std.specs.Prelude.{◌≡◌, ◌≢◌, ◌⊎◌, ◌+◌, ◌*◌, ◌≤◌, ℕ, Bool, false, true, length, drop, List, ◌++◌, Option, Some, None, IsSome, Result, Ok, Err, IfOk, IfErr, Contains}
+use Rattle.std.specs.Prelude.{◌≡◌, ◌≢◌, ◌⊎◌, ◌+◌, ◌-◌, ◌*◌, ◌^◌, ◌≤◌, min, ℕ, Bool, false, true, length, drop, List, ◌++◌, Option, Some, None, IsSome, Result, Ok, Err, IfOk, IfErr, Contains}
 use Rattle.std.specs.List.{AllZip}
 use Rattle.nm_edge.specs.Layouts.{Layout}
 use Rattle.nm_edge.specs.declared.node.NodeId.{NodeId}
@@ -14,9 +14,9 @@ use Rattle.nm_model.specs.declared.trace.Turn.{Turn}
 use Rattle.nm_model.specs.Headline.{freed_by}
 use Rattle.nm_model.specs.Step.{last_number}
 use Rattle.nm_order.specs.Reads.{sight_epoch}
-use Rattle.nm_progress.specs.Alone.{IsAlone, RunsAlone}
+use Rattle.nm_progress.specs.Alone.{RunsAlone}
 use Rattle.nm_progress.specs.Moves.{number_of, moves, moves_of_others}
-use Rattle.nm_progress.specs.Tries.{interferes, reshapes_of_others}
+use Rattle.nm_progress.specs.Tries.{changes_of_others, interferes, reshapes_of_others}
 use Rattle.nm_steps.specs.Steps.{TreeView, PassView, IsSamePass, HasSeenAllOf}
 use Rattle.nm_epoch.specs.declared.collecting.Entry.{Entry}
 use Rattle.nm_epoch.specs.declared.collecting.HeldQueue.{HeldQueue}
@@ -39,8 +39,7 @@ use Rattle.nm_set.specs.declared.managed.Options.{Options}
 
 -- a queue of the same origin: it has that origin, or it has only lost nodes at its front
 abbrev pub OnlyLoses : ℕ → HeldQueue → HeldQueue → Type 0
-OnlyLoses o h g = (g.origin ≡ h.origin)
-    × ((h.origin ≡ o) ⊎ ((n : ℕ) × (g.queue.items ≡ drop n h.queue.items)))
+OnlyLoses o h g = (g.origin ≡ h.origin) × ((h.origin ≡ o) ⊎ ((n : ℕ) × (g.queue.items ≡ drop n h.queue.items)))
 
 -- the worker has gone on, in at most `most` steps: it has the same pass, which has seen more, and
 -- its caller has not pinned it
@@ -69,6 +68,12 @@ interfering _ w = interferes w
 abbrev pub MetInterference : Op → PassView → PassView → ℕ → Type 0
 MetInterference op p q times = Since p q (λ ts. times ≤ number_of (moves_of_others p.view.number) ts
     + number_of (interfering op p.view.number) ts)
+
+-- why a remove stays pending: the worker's own queue has less room than a try needs, or other workers
+-- changed edges at least as often as all rounds together have tries (2^32 - 1 times if that is more)
+abbrev pub StaysPending : Options → WorkerView → WorkerView → Type 0
+StaysPending h w z = LacksRoom z ⊎ Since w.pass z.pass (λ ts. min ((h.rounds + 1) * h.tries) (2 ^ 32 - 1)
+    ≤ number_of (changes_of_others w.pass.view.number) ts)
 
 -- among these turns worker w has read this epoch
 abbrev pub HasSighted : ℕ → List Turn → ℕ → Type 0
@@ -107,8 +112,7 @@ of_insert (Err (inserting.Other f)) = Err f
 -- less room than a try needs
 abbrev pub IsLeft : {A : Type 0} → Op → ℕ → WorkerView → WorkerView → Result A CallFault → Type 0
 IsLeft op k w z (Err fault.Pending) = IsSome w.pending × (z.pending ≡ w.pending)
-IsLeft op k w z (Err fault.Full) =
-    (op ≡ Insert) × (z.pending ≡ None) × FoundNoSlot w.pass z.pass
+IsLeft op k w z (Err fault.Full) = (op ≡ Insert) × (z.pending ≡ None) × FoundNoSlot w.pass z.pass
 IsLeft op k w z (Err fault.NoMemory) = (op ≢ Has) × (z.pending ≡ None) × LacksRoom z
 IsLeft op k w z (Err fault.Unfinished) =
     (op ≡ Delete) × (leaf : NodeId) × (z.pending ≡ Some (record { key = k; leaf = leaf }))
@@ -183,18 +187,16 @@ IsFullIn true w z = FoundNoSlot w.pass z.pass
 -- which is not made if an earlier remove stays pending. If it is `Busy`, the epoch was advanced or
 -- turns have interfered with it at least (`rounds` + 1) * `tries` times. If the worker ran alone, an
 -- error is due to a number of tries that is 0, to a lack of room, or to a full pool (`alone`). A
--- remove then stays pending for such a reason too, even if others have removes pending (`pending`). In
--- a map the worker has freed no node (`frees`)
+-- remove stays pending for a lack of room, or because others changed edges (`pending`). In a map the
+-- worker has freed no node (`frees`)
 pub record ManagesIn (map : Bool) (b : TreeView) (h : Options) (op : Op) (k : ℕ) (w z : WorkerView)
     (r : Result Bool CallFault) : Type 0 where
-  pub answers : Answers op k ((3 * h.rounds + 5) * round_bound h.tries b.layout)
-      ((h.rounds + 1) * h.tries) w z r
+  pub answers : Answers op k ((3 * h.rounds + 5) * round_bound h.tries b.layout) ((h.rounds + 1) * h.tries) w z r
   pub full : r ≡ Err fault.Full → IsFullIn map w z
   pub begins : r ≢ Err fault.Pending → (begun : PassView) × IsReadyIn map h op w begun
       × IfOk r (AnswerHasMoment begun z.pass op k)
   pub alone : RunsAlone w.pass z.pass → IfErr r (FailsAlone 1 1 h.tries z)
-  pub pending : IsAlone w.pass z.pass → (r ≡ Err fault.Pending) ⊎ (r ≡ Err fault.Unfinished)
-      → FailsAlone 1 1 h.tries z fault.Unfinished
+  pub pending : (r ≡ Err fault.Pending) ⊎ (r ≡ Err fault.Unfinished) → StaysPending h w z
   pub frees : map ≡ true → FreesNone w z
 
 -- a managed call of a set

@@ -2,7 +2,7 @@
 use Rattle.std.specs.Prelude.{◌≡◌, ◌≢◌, ◌+◌, ◌*◌, ℕ, None, Result, Err, IfErr}
 use Rattle.nm_edge.specs.Layouts.{Layout}
 use Rattle.nm_model.specs.declared.event.Op.TheVariants.{Insert}
-use Rattle.nm_progress.specs.Alone.{IsAlone, RunsAlone}
+use Rattle.nm_progress.specs.Alone.{RunsAlone}
 use Rattle.nm_progress.specs.Lost.{ChangeWasBusy}
 use Rattle.nm_steps.specs.Rules.{ExtendsStores}
 use Rattle.nm_steps.specs.Steps.{PassView, TreeView}
@@ -19,7 +19,7 @@ use Rattle.nm_tree.specs.Putting.{SaysPut}
 use Rattle.nm_tree.specs.Workers.{WorkerView}
 use Rattle.nm_set.specs.declared.managed.Options.{Options}
 use Rattle.nm_set.specs.Asked.{Asked, UnlessPinned}
-use Rattle.nm_set.specs.Managed.{FinishesFirst, GoesOn, IsLeft, MetInterference, round_bound}
+use Rattle.nm_set.specs.Managed.{FinishesFirst, GoesOn, IsLeft, MetInterference, StaysPending, round_bound}
 use Rattle.nm_set.specs.Rounds.{IsOnward}
 
 -- the most steps of one put
@@ -51,8 +51,8 @@ pub record AnswersPut (when : Condition) (k v most tries : ℕ) (w z : WorkerVie
 
 -- a managed put: its result, and the remove of an earlier call, which it finished first. If the worker
 -- ran alone, an error is due to a number of tries that is 0, to a lack of room, or to a full pool
--- (`alone`). That remove then stays pending for such a reason too, even if others have removes pending
--- (`pending`). If no remove was pending, the worker has seen all stores that it had seen (`stores`)
+-- (`alone`). That remove stays pending for a lack of room, or because others changed edges (`pending`).
+-- If no remove was pending, the worker has seen all stores that it had seen (`stores`)
 pub record ManagesPut (b : TreeView) (h : Options) (when : Condition) (k v : ℕ) (w z : WorkerView)
     (r : Result PutOutcome CallFault) : Type 0 where
   pub answers : AnswersPut when k v
@@ -62,7 +62,7 @@ pub record ManagesPut (b : TreeView) (h : Options) (when : Condition) (k v : ℕ
       × IfDone r (Did when k v begun z.pass)
   pub stores : w.pending ≡ None → ExtendsStores z.pass.view.stores w.pass.view.stores
   pub alone : RunsAlone w.pass z.pass → IfErr r (FailsAlone 1 1 h.tries z)
-  pub pending : IsAlone w.pass z.pass → r ≡ Err fault.Pending → FailsAlone 1 1 h.tries z fault.Unfinished
+  pub pending : r ≡ Err fault.Pending → StaysPending h w z
 
 -- what a caller learns from a managed put
 abbrev pub SaysManagedPut : TreeView → Options → Condition → ℕ → ℕ → WorkerView → WorkerView

@@ -1,17 +1,18 @@
 -- What the parts of a managed call of a map leave, for the contracts inside this crate.
-use Rattle.std.specs.Prelude.{◌≡◌, ◌+◌, ◌*◌, ◌≤◌, ℕ, Bool, true, false, Option, Some, Result, Ok, IfErr}
+use Rattle.std.specs.Prelude.{◌≡◌, ◌+◌, ◌*◌, ◌≤◌, ℕ, Bool, true, false, Option, Some, Result, Ok, Err, IfErr}
 use Rattle.nm_model.specs.declared.event.Op.{Op}
 use Rattle.nm_model.specs.declared.event.Op.TheVariants.{Delete, Has, Insert}
 use Rattle.nm_steps.specs.Rules.{ExtendsStores}
 use Rattle.nm_steps.specs.Steps.{PassView, TreeView}
 use Rattle.nm_calls.specs.Maps.{HasPut, HasTaken, MapGave}
 use Rattle.nm_calls.specs.declared.fault.CallFault.{CallFault}
+use Rattle.nm_calls.specs.declared.fault.CallFault.TheVariants as fault
 use Rattle.nm_progress.specs.Alone.{RunsAlone}
 use Rattle.nm_tree.specs.Answers.{FailsAlone, FreesNone, IfTaken}
 use Rattle.nm_tree.specs.Workers.{WorkerView}
 use Rattle.nm_set.specs.declared.managed.Options.{Options}
 use Rattle.nm_set.specs.Asked.{UnlessPinned}
-use Rattle.nm_set.specs.Managed.{Answers, MetInterference, round_bound}
+use Rattle.nm_set.specs.Managed.{Answers, MetInterference, StaysPending, round_bound}
 use Rattle.nm_set.specs.Maps.{AnswersGet, look_bound}
 use Rattle.nm_set.specs.Rounds.{IsOnward}
 
@@ -46,6 +47,7 @@ pub record Removed (b : TreeView) (h : Options) (k : ℕ) (w z : WorkerView) (r 
   pub answers : Answers Delete k ((3 * h.rounds + 5) * round_bound h.tries b.layout)
       ((h.rounds + 1) * h.tries) w z r
   pub alone : RunsAlone w.pass z.pass → IfErr r (FailsAlone 1 1 h.tries z)
+  pub pending : r ≡ Err fault.Unfinished → StaysPending h w z
 
 abbrev pub SaysRemoved : TreeView → Options → ℕ → WorkerView → WorkerView → Result Bool CallFault → Type 0
 SaysRemoved b h k w z r = UnlessPinned (Removed b h k w z r) w z r

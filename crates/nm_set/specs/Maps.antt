@@ -24,7 +24,7 @@ use Rattle.nm_set.specs.declared.fault.PinnedGetFault.{PinnedGetFault}
 use Rattle.nm_set.specs.declared.fault.PinnedGetFault.TheVariants as getting
 use Rattle.nm_set.specs.declared.managed.Options.{Options}
 use Rattle.nm_set.specs.Asked.{UnlessPinned}
-use Rattle.nm_set.specs.Managed.{FinishesFirst, GoesOn, IsLeft, ManagesIn, MetInterference, round_bound}
+use Rattle.nm_set.specs.Managed.{FinishesFirst, GoesOn, IsLeft, ManagesIn, MetInterference, StaysPending, round_bound}
 use Rattle.nm_set.specs.Rounds.{found_behind}
 
 -- the values that came back are the first `result.values` ones of the slice, which is as long as
@@ -74,9 +74,10 @@ pub record AnswersGet (k most rounds tries : ℕ) (w z : WorkerView) (r : Result
   pub alone : IsAlone w.pass z.pass → r ≡ Err fault.Busy → tries ≡ 0
 
 -- a managed look-up of a value: its answer, and the remove of an earlier call, which it finished
--- first. If the worker ran alone, an error is due to a number of tries that is 0 (`alone`), or the
--- remove stays pending for a lack of room (`pending`). If no remove was pending, the worker has seen
--- all stores that it had seen (`stores`). It has freed no node (`frees`)
+-- first. If the worker ran alone, an error is due to a number of tries that is 0, or to that remove
+-- (`alone`). It stays pending for a lack of room, or because others changed edges (`pending`). If no
+-- remove was pending, the worker has seen all stores that it had seen (`stores`). It has freed no node
+-- (`frees`)
 pub record ManagesGet (b : TreeView) (h : Options) (k : ℕ) (w z : WorkerView)
     (r : Result (Option ℕ) CallFault) : Type 0 where
   pub answers : AnswersGet k
@@ -86,7 +87,7 @@ pub record ManagesGet (b : TreeView) (h : Options) (k : ℕ) (w z : WorkerView)
       × IfOk r (MapGave begun z.pass k)
   pub stores : w.pending ≡ None → ExtendsStores z.pass.view.stores w.pass.view.stores
   pub alone : IsAlone w.pass z.pass → IfErr r (FailsAlone 1 1 h.tries z)
-  pub pending : IsAlone w.pass z.pass → r ≡ Err fault.Pending → FailsAlone 1 1 h.tries z fault.Unfinished
+  pub pending : r ≡ Err fault.Pending → StaysPending h w z
   pub frees : FreesNone w z
 
 -- what a caller learns from a managed look-up of a value

@@ -1,22 +1,21 @@
 -- What the parts of a managed call leave, for the contracts inside this crate.
-use Rattle.std.specs.Prelude.{◌≡◌, ◌+◌, ◌*◌, ℕ, Bool, Option, Some, None, Result, Ok, Err, IfErr}
+use Rattle.std.specs.Prelude.{◌≡◌, ◌+◌, ◌*◌, ℕ, Bool, Option, Some, None, Result, Ok, Err}
 use Rattle.nm_edge.specs.Layouts.{IsLayout, Layout}
 use Rattle.nm_model.specs.declared.event.Op.{Op}
 use Rattle.nm_model.specs.declared.event.Op.TheVariants.{Delete, Insert}
-use Rattle.nm_progress.specs.Alone.{IsAlone}
 use Rattle.nm_steps.specs.Steps.{TreeView, HasSeen}
 use Rattle.nm_epoch.specs.declared.answers.Advance.{Advance}
 use Rattle.nm_epoch.specs.declared.answers.Advance.TheVariants as advance
 use Rattle.nm_calls.specs.Won.{HasWon}
 use Rattle.nm_calls.specs.declared.fault.CallFault.{CallFault}
 use Rattle.nm_calls.specs.declared.fault.CallFault.TheVariants as fault
-use Rattle.nm_tree.specs.Answers.{FailsAlone, FinishHasMoment, FinishTold, FreesNone}
+use Rattle.nm_tree.specs.Answers.{FinishHasMoment, FinishTold, FreesNone}
 use Rattle.nm_tree.specs.Workers.{WorkerView, IsBetweenCalls}
 use Rattle.nm_set.specs.declared.fault.Fullness.{Fullness}
 use Rattle.nm_set.specs.declared.fault.InsertFault.{InsertFault}
 use Rattle.nm_set.specs.declared.fault.InsertFault.TheVariants as inserting
 use Rattle.nm_set.specs.declared.managed.Options.{Options}
-use Rattle.nm_set.specs.Managed.{Answers, Collects, FindsBehind, GoesOn, Manages, MetInterference, Prepares, Since, WasFull, of_insert, round_bound}
+use Rattle.nm_set.specs.Managed.{Answers, Collects, FindsBehind, GoesOn, Manages, MetInterference, Prepares, Since, StaysPending, WasFull, of_insert, round_bound}
 
 -- what a worker has seen, and what it holds between two calls, as `Member::know_run` shows it
 pub record IsKnown (w : WorkerView) : Type 0 where
@@ -43,15 +42,14 @@ pub record WereBusy (b : TreeView) (h : Options) (op : Op) (n : ℕ) (w z : Work
 abbrev pub AnswersIn : TreeView → Options → Op → ℕ → ℕ → WorkerView → WorkerView → Result Bool CallFault → Type 0
 AnswersIn b h op k n = Answers op k (rounds_bound b h n) (n * h.tries)
 
--- a call that goes on with a pending remove, in at most n rounds. If the worker ran alone and the
--- remove is not finished, the number of tries is 0, or the worker lacks room (`alone`). It has freed no
--- node (`frees`)
-pub record FinishesIn (b : TreeView) (h : Options) (n : ℕ) (w z : WorkerView) (r : Result Bool CallFault) : Type 0 where
-  pub on : GoesOn (rounds_bound b h n) w z
+-- a call that goes on with a pending remove, with the tries of all rounds. If the remove is not
+-- finished, the worker lacks room, or others changed edges (`lost`). It has freed no node (`frees`)
+pub record Finishes (b : TreeView) (h : Options) (w z : WorkerView) (r : Result Bool CallFault) : Type 0 where
+  pub on : GoesOn (rounds_bound b h (h.rounds + 1)) w z
   pub told : FinishTold w z r
   pub moment : FinishHasMoment w z r
   pub won : HasWon w.pass.view.log z.pass.view.log 0 0
-  pub alone : IsAlone w.pass z.pass → IfErr r (FailsAlone 1 1 h.tries z)
+  pub lost : r ≡ Err fault.Unfinished → StaysPending h w z
   pub frees : FreesNone w z
 
 -- the worker that an advance found announcing another epoch than the one that it read; of two
@@ -91,12 +89,11 @@ pub record Inserts (b : TreeView) (h : Options) (k : ℕ) (w z : WorkerView) (r 
       (of_insert r)
   pub full : of_insert r ≡ Err fault.Full → (f : Fullness) × (r ≡ Err (inserting.Full f)) × WasFull w z f
 
--- a remove, with retries, which is finished if it has flagged its leaf. If the worker ran alone and
--- the remove is not finished, the number of tries is 0, or the worker lacks room (`alone`)
+-- a remove, with retries, which is finished if it has flagged its leaf. If it is not finished, the
+-- worker lacks room, or others changed edges (`lost`)
 pub record Removes (b : TreeView) (h : Options) (k : ℕ) (w z : WorkerView) (r : Result Bool CallFault) : Type 0 where
   pub answers : Answers Delete k (rounds_bound b h (2 * h.rounds + 2)) ((h.rounds + 1) * h.tries) w z r
-  pub alone : IsAlone w.pass z.pass → r ≡ Err fault.Unfinished
-      → FailsAlone 1 1 h.tries z fault.Unfinished
+  pub lost : r ≡ Err fault.Unfinished → StaysPending h w z
 
 -- a managed insert, with its two numbers
 abbrev pub ManagesInsert : TreeView → Options → ℕ → WorkerView → WorkerView → Result Bool InsertFault → Type 0

@@ -1,6 +1,6 @@
 //! Managed calls: a call that lost its tries is retried, a remove that has begun is finished, and
 //! retired nodes are collected.
-ghost use Rattle.std.specs.Prelude.{◌≡◌, ◌≢◌, ◌≤◌, ◌<◌, ◌+◌, ◌-◌, true, false, None, IfOk, IfErr, Err};
+ghost use Rattle.std.specs.Prelude.{◌≡◌, ◌≢◌, ◌≤◌, ◌<◌, ◌+◌, ◌-◌, ◌*◌, ◌^◌, min, true, false, None, IfOk, IfErr, Err};
 ghost use Rattle.nm_model.specs.declared.event.Op.TheVariants.{Has, Insert, Delete};
 ghost use Rattle.nm_calls.specs.declared.fault.CallFault.TheVariants as call;
 ghost use Rattle.nm_tree.specs.Answers.{FreesNone};
@@ -10,7 +10,7 @@ ghost use Rattle.nm_tree.specs.Workers.{IsIdle, WorkerView, waiting_in};
 ghost use Rattle.nm_set.specs.declared.fault.Fullness.{Fullness};
 ghost use Rattle.nm_set.specs.Managed.{Answers, Manages, SaysManaged, WasFull, of_insert, round_bound};
 ghost use Rattle.nm_set.specs.MapRounds.{MovesValue};
-ghost use Rattle.nm_set.specs.Rounds.{AnswersIn, FinishesIn, Inserts, IsKnown, IsReady, IsRelieved, ManagesInsert, Removes, found_behind, plain, with_fullness};
+ghost use Rattle.nm_set.specs.Rounds.{AnswersIn, Finishes, Inserts, IsKnown, IsReady, IsRelieved, ManagesInsert, Removes, found_behind, plain, with_fullness};
 
 use crate::contents::{Contents, Keys};
 use crate::fault::{Fullness, InsertFault};
@@ -115,6 +115,15 @@ fn with_fullness(
     }
 }
 
+/// Returns how many tries `rounds` and one rounds have, or `u32::MAX` if there are more.
+#[inline(always)]
+fn tries_of_rounds(options: &Options) -> u32
+    ensures { result ≡ min ((options.now.rounds + 1) * options.now.tries) (2 ^ 32 - 1) }
+{
+    let tries = (u64::from(options.rounds) + 1) * u64::from(options.tries);
+    tries.min(u64::from(u32::MAX)) as u32
+}
+
 /// Returns the options with one round less.
 pub(crate) fn without_one(options: &Options) -> Options
     requires { 1 ≤ options.now.rounds }
@@ -171,16 +180,17 @@ impl Member<Keys> {
     /// Removes `key`; returns true if it was present, after the leaf with the key was cut off.
     ///
     /// Like `contains`, it finishes the remove of an earlier call first, and retries a remove that
-    /// lost each of its tries. One that has flagged its leaf goes on by at most `rounds` and one
-    /// calls of `finish`. It collects first when `insert` does. Nothing is pending after an answer,
-    /// `Busy` and `NoMemory`.
+    /// lost each of its tries. One that has flagged its leaf goes on by a call of `finish` with the
+    /// tries of `rounds` and one rounds. It collects first when `insert` does. Nothing is pending
+    /// after an answer, `Busy` and `NoMemory`.
     ///
     /// Errors: `Pinned`, `Pending`, `Busy`: as of `contains`. `NoMemory`: the memory for a try was
     /// refused before the leaf was flagged. `Unfinished`: the leaf is flagged and not known to be
-    /// cut off. The key will be removed, and no other remove of it returns true. It is pending, and
-    /// the next managed call finishes it first. Proved (`alone`, `pending`): a call with at least
-    /// one try returns an answer or `NoMemory` if no other worker has a remove pending before it or
-    /// makes a transition during it. The exception is that the room of a try is refused later.
+    /// cut off, for the same reasons as after `Pending`. The key will be removed, and no other
+    /// remove of it returns true. It is pending, and the next managed call finishes it first.
+    /// Proved (`alone`, `pending`): a call with at least one try returns an answer or `NoMemory` if
+    /// no other worker has a remove pending before it or makes a transition during it. The
+    /// exception is that the room of a try is refused later.
     #[inline(always)]
     pub fn remove(&mut self, key: Key, options: &Options) -> Result<bool, CallFault>
         ensures tree { self.new.tree ≡ self.old.tree }
@@ -195,16 +205,18 @@ impl<V: Contents> Member<V> {
     /// Returns whether the set has the key.
     ///
     /// It retries a look-up that lost each of its tries, at most `rounds` times. If the remove of
-    /// an earlier call is pending, it finishes that one first, by at most `rounds` and one calls of
-    /// `finish`. So nothing is pending after an answer, and after `Busy`. Proved (`frees`): it
-    /// frees no node.
+    /// an earlier call is pending, it finishes that one first, by a call of `finish` with the tries
+    /// of `rounds` and one rounds. So nothing is pending after an answer, and after `Busy`. Proved
+    /// (`frees`): it frees no node.
     ///
     /// Errors: `Pinned`: the caller has pinned the worker; nothing has changed. `Pending`: the
-    /// earlier remove is not finished, and this call has done nothing else. `Busy`: each look-up
-    /// lost each of its tries, or the options allow none; other workers have advanced the epoch, or
-    /// linked or cut off nodes, at least that often meanwhile. Proved (`alone`, `pending`): a call
-    /// with at least one try is answered if no other worker has a remove pending before it or makes
-    /// a transition during it. The exception is that the room for the earlier remove is refused.
+    /// earlier remove is not finished, and this call has done nothing else. Proved (`pending`): the
+    /// worker's own queue has less room than a try needs, or other workers have changed edges
+    /// meanwhile, at least once for each of those tries. `Busy`: each look-up lost each of its tries, or the options
+    /// allow none; other workers have advanced the epoch, or linked or cut off nodes, at least that
+    /// often meanwhile. Proved (`alone`, `pending`): a call with at least one try is answered if no
+    /// other worker has a remove pending before it or makes a transition during it. The exception
+    /// is that the room for the earlier remove is refused.
     #[inline(always)]
     pub fn contains(&mut self, key: Key, options: &Options) -> Result<bool, CallFault>
         ensures tree { self.new.tree ≡ self.old.tree }
@@ -383,8 +395,8 @@ impl<V: Contents> Member<V> {
         ensures ready { IfOk result (λ u. IsReady self.old.tree options.now self.old.worker
             self.new.worker) }
         ensures fault { IfErr result (λ f. f ≡ call.Pending) }
-        ensures pending { IfErr result (λ f. FinishesIn self.old.tree options.now
-            (options.now.rounds + 1) self.old.worker self.new.worker (Err call.Unfinished)) }
+        ensures pending { IfErr result (λ f. Finishes self.old.tree options.now self.old.worker
+            self.new.worker (Err call.Unfinished)) }
     {
         let Ok(_done) = self.finish_with_retries(options) else {
             return Err(CallFault::Pending);
@@ -582,35 +594,14 @@ impl<V: Contents> Member<V> {
         }
     }
 
-    /// Finishes the remove that is pending, with retries. Nearly always there is none.
+    /// Finishes the remove that is pending, by one call with as many tries as all rounds have.
+    /// Nearly always there is none.
     #[inline(always)]
     pub(crate) fn finish_with_retries(&mut self, options: &Options) -> Result<bool, CallFault>
         requires free { self.old.worker.held ≡ None }
         ensures tree { self.new.tree ≡ self.old.tree }
-        ensures says { FinishesIn self.old.tree options.now (options.now.rounds + 1)
-            self.old.worker self.new.worker result }
+        ensures says { Finishes self.old.tree options.now self.old.worker self.new.worker result }
     {
-        let told = self.finish(options.tries);
-        if !is_unfinished(&told) || options.rounds == 0 {
-            return told;
-        }
-        self.retry_finish(&without_one(options))
-    }
-
-    /// Finishes the remove that is pending: at most `rounds` and one tries.
-    #[cold]
-    #[inline(never)]
-    fn retry_finish(&mut self, options: &Options) -> Result<bool, CallFault>
-        requires free { self.old.worker.held ≡ None }
-        ensures tree { self.new.tree ≡ self.old.tree }
-        ensures says { FinishesIn self.old.tree options.now (options.now.rounds + 1)
-            self.old.worker self.new.worker result }
-    {
-        for _round in 0..options.rounds {
-            if let Ok(answer) = self.finish(options.tries) {
-                return Ok(answer);
-            }
-        }
-        self.finish(options.tries)
+        self.finish(tries_of_rounds(options))
     }
 }

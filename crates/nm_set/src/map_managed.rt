@@ -108,8 +108,8 @@ impl Member<Values> {
     /// nobody can read it.
     ///
     /// Like `get`, it finishes the remove of an earlier call first, and retries a remove that lost
-    /// each of its tries. One that has flagged its leaf goes on by at most `rounds` and one calls
-    /// of `finish`.
+    /// each of its tries. One that has flagged its leaf goes on by a call of `finish` with the tries
+    /// of `rounds` and one rounds.
     ///
     /// Errors: those of `Member::remove`. After `Unfinished` the key is pending, and the next
     /// managed call finishes it first.

@@ -9,20 +9,21 @@ use nm_edge::Key;
 use nm_tree::{CallFault, Condition, PutOutcome};
 
 impl Member<Values> {
-    /// Gives `key` the value, if the condition holds; returns what it did, or why it changed nothing:
-    /// `Tree::put` of `nm_tree`. Proved (`map`, in `says`): what the result says of the map was so at a
-    /// moment of the call. A key that has its value replaced is never absent.
+    /// Gives `key` the value, if the condition holds; returns what it did, or why it changed
+    /// nothing: `Tree::put` of `nm_tree`. Proved (`map`, in `says`): what the result says of the
+    /// map was so at a moment of the call. A key that has its value replaced is never absent.
     ///
-    /// Like `get`, it finishes the remove of an earlier call first, and retries a put that lost each of
-    /// its tries, at most `rounds` times. It frees no node (`frees`). A value that it replaced comes
-    /// back by `reclaim`, once nobody can read it. Nothing is pending after a result, `Busy`, `Full` and
-    /// `NoMemory`.
+    /// Like `get`, it finishes the remove of an earlier call first, and retries a put that lost
+    /// each of its tries, at most `rounds` times. It frees no node (`frees`). A value that it
+    /// replaced comes back by `reclaim`, once nobody can read it. Nothing is pending after a
+    /// result, `Busy`, `Full` and `NoMemory`.
     ///
-    /// Errors: `Pinned`, `Pending`: as of `get`. `Busy`: each put lost each of its tries, or the options
-    /// allow none. Proved (`busy`): other workers have meanwhile interfered at least that often. `Full`: no slot was free for a new node. Proved: the call tried each slot, and got
-    /// none. Call `reclaim`, take the values that it writes, and put again. `NoMemory`: the memory for a
-    /// try was refused. Proved: the worker's own queue then has less room than a try needs. Proved
-    /// (`alone`): no other error, as for `insert`, if no other worker has a remove pending.
+    /// Errors: `Pinned`, `Pending`: as of `get`. `Busy`: each put lost each of its tries, or the
+    /// options allow none. Proved (`busy`): other workers have meanwhile interfered at least that
+    /// often. `Full`: no slot was free for a new node. Proved: the call tried each slot, and got
+    /// none. Call `reclaim`, take the values that it writes, and put again. `NoMemory`: the memory
+    /// for a try was refused. Proved: the worker's own queue then has less room than a try needs.
+    /// Proved (`alone`): no other error, as for `insert`, if no other worker has a remove pending.
     pub fn put(
         &mut self,
         key: Key,
@@ -43,8 +44,8 @@ impl Member<Values> {
         self.put_with_retries(key, value, condition, options)
     }
 
-    /// Gives `key` the value, if the condition holds, as `put` does, with one call of `Tree::put` of
-    /// `nm_tree`.
+    /// Gives `key` the value, if the condition holds, as `put` does, with one call of `Tree::put`
+    /// of `nm_tree`.
     ///
     /// Errors: `Pinned`: the caller has pinned the worker; and those of the tree.
     pub fn try_put(

@@ -133,9 +133,9 @@ impl<V: Contents> Member<V> {
         requires free { self.old.worker.held ≡ None }
         requires none { self.old.worker.pending ≡ None }
         ensures tree { self.new.tree ≡ self.old.tree }
-        ensures says { Pops (among end) (comes_before end)
+        ensures says { Pops (among end) (comes_before end) options.now
             ((options.now.rounds + 1) * pop_round_bound options.now self.old.tree.layout)
-            options.now.tries (options.now.rounds + 1) self.old.worker self.new.worker result }
+            (options.now.rounds + 1) self.old.worker self.new.worker result }
         ensures takes { in_map ≡ true → PopsValue self.old.worker.pass self.new.worker.pass taken.new
             result }
         ensures frees { in_map ≡ true → FreesNone self.old.worker self.new.worker }
@@ -161,8 +161,9 @@ impl<V: Contents> Member<V> {
         requires free { self.old.worker.held ≡ None }
         requires none { self.old.worker.pending ≡ None }
         ensures tree { self.new.tree ≡ self.old.tree }
-        ensures says { Pops (among end) (comes_before end) (pop_round_bound options.now self.old.tree.layout)
-            options.now.tries 1 self.old.worker self.new.worker result }
+        ensures says { Pops (among end) (comes_before end) options.now
+            (pop_round_bound options.now self.old.tree.layout) 1 self.old.worker self.new.worker
+            result }
         ensures takes { in_map ≡ true → PopsValue self.old.worker.pass self.new.worker.pass taken.new
             result }
         ensures frees { in_map ≡ true → FreesNone self.old.worker self.new.worker }

@@ -3,7 +3,7 @@ use Rattle.std.specs.Prelude.{Err}
 use Rattle.nm_calls.specs.declared.fault.CallFault.{CallFault}
 use Rattle.nm_steps.specs.Steps.{TreeView}
 use Rattle.nm_set.specs.MapRounds.{GetsIn}
-use Rattle.nm_set.specs.Rounds.{FinishesIn}
+use Rattle.nm_set.specs.Rounds.{Finishes}
 use Rattle.nm_set.proofs.Managing.{finish_err}
 use Rattle.nm_set.proofs.MapManaging.{gets_then, pending_get}
 use Rattle.nm_set.proofs.map_managed.Member+Values.finish_and_get.Goals as goal
@@ -15,8 +15,8 @@ returns-in_default-clause-says c =
     let w = c.args.self.now.worker in
     let z = c.finish_with_retries.new.self.worker in
     let f = c.in_default.ensures.says in
-    pending_get b h c.args.key w z (subst (λ (g : CallFault). FinishesIn b h (h.rounds + 1) w z (Err g))
-    (finish_err b h (h.rounds + 1) w z c.in_default.field-0 f) f)
+    pending_get b h c.args.key w z (subst (λ (g : CallFault). Finishes b h w z (Err g))
+    (finish_err b h w z c.in_default.field-0 f) f)
 
 pub returns-clause-says : goal.returns-clause-says
 returns-clause-says c =

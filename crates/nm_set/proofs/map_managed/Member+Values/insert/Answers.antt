@@ -4,7 +4,7 @@ use Rattle.nm_model.specs.declared.event.Op.TheVariants.{Insert}
 use Rattle.nm_steps.specs.Steps.{TreeView}
 use Rattle.nm_steps.specs.Values.{HasValues}
 use Rattle.nm_calls.specs.declared.fault.CallFault.{CallFault}
-use Rattle.nm_set.specs.Rounds.{AnswersIn, FinishesIn}
+use Rattle.nm_set.specs.Rounds.{AnswersIn, Finishes}
 use Rattle.nm_set.proofs.Managing.{finish_err, pending_manages}
 use Rattle.nm_set.proofs.MapManaging.{inserts_then, moves_earlier}
 use Rattle.nm_set.proofs.map_managed.Member+Values.insert.Goals as goal
@@ -57,6 +57,6 @@ returns-in_default-clause-says c =
     inr (
       free,
       pending_manages b h Insert c.args.key w z
-          (subst (λ (g : CallFault). FinishesIn b h (h.rounds + 1) w z (Err g))
-          (finish_err b h (h.rounds + 1) w z c.in_default.field-0 f) f),
+          (subst (λ (g : CallFault). Finishes b h w z (Err g))
+          (finish_err b h w z c.in_default.field-0 f) f),
     )

@@ -3,7 +3,7 @@ use Rattle.std.specs.Prelude.{Err, None}
 use Rattle.nm_calls.specs.declared.fault.CallFault.{CallFault}
 use Rattle.nm_steps.specs.Steps.{TreeView}
 use Rattle.nm_set.specs.MapPuts.{PutsIn}
-use Rattle.nm_set.specs.Rounds.{FinishesIn}
+use Rattle.nm_set.specs.Rounds.{Finishes}
 use Rattle.nm_set.proofs.Managing.{finish_err}
 use Rattle.nm_set.proofs.MapPutting.{pending_put, puts_then}
 use Rattle.nm_set.proofs.map_putting.Member+Values.put.Goals as goal
@@ -19,8 +19,8 @@ returns-in_default-clause-says c =
     inr (
       free,
       pending_put b h c.args.condition c.args.key c.args.value w z
-          (subst (λ (g : CallFault). FinishesIn b h (h.rounds + 1) w z (Err g))
-          (finish_err b h (h.rounds + 1) w z c.in_default.field-0 f) f),
+          (subst (λ (g : CallFault). Finishes b h w z (Err g))
+          (finish_err b h w z c.in_default.field-0 f) f),
     )
 
 pub returns-clause-says : goal.returns-clause-says

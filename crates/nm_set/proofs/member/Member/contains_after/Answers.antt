@@ -6,7 +6,7 @@ use Rattle.nm_calls.specs.declared.fault.CallFault.{CallFault}
 use Rattle.nm_calls.specs.declared.fault.CallFault.TheVariants.{Pending}
 use Rattle.nm_tree.specs.Workers.{WorkerView}
 use Rattle.nm_set.specs.Managed.{Manages}
-use Rattle.nm_set.specs.Rounds.{AnswersIn, FinishesIn}
+use Rattle.nm_set.specs.Rounds.{AnswersIn, Finishes}
 use Rattle.nm_set.proofs.Managing.{finish_err, finished, has_failed, looks_at_once, manages, never_full, never_unfinished, pending_has, pending_manages, prepares_look}
 use Rattle.nm_set.proofs.member.Member.contains_after.Goals as goal
 
@@ -45,8 +45,8 @@ returns-in_default-clause-says g c = λ w free l.
     let x = c.args.self.now.worker in
     let z = c.finish_with_retries.new.self.worker in
     let f = c.in_default.ensures.says in
-    let unfinished = subst (λ (g : CallFault). FinishesIn b h (h.rounds + 1) x z (Err g))
-    (finish_err b h (h.rounds + 1) x z c.in_default.field-0 f) f in
+    let unfinished = subst (λ (g : CallFault). Finishes b h x z (Err g))
+    (finish_err b h x z c.in_default.field-0 f) f in
     subst (λ (v : WorkerView). Manages b h Has k v z (Err Pending))
     (pending_has b.layout h.tries k w x c.args.fault (c.if-not-is_pending.ensures.yes refl) l)
     (pending_manages b h Has k x z unfinished)
@@ -66,6 +66,6 @@ returns-clause-says g c = λ w free l.
     subst (λ (v : WorkerView). Manages b h Has k v z r)
     (pending_has b.layout h.tries k w y c.args.fault (c.if-not-is_pending.ensures.yes refl) l)
     (manages b h Has k (h.rounds + 1) (h.rounds + 1) y x z r (omega arith)
-    (finished b h (h.rounds + 1) y x c.in-Ok._done f) (prepares_look b h (h.rounds + 1) y x c.in-Ok._done f) a
+    (finished b h y x c.in-Ok._done f) (prepares_look b h y x c.in-Ok._done f) a
     (never_full Has k _ _ x z r (λ is. (let no = is in cc)) a)
-    (λ runs. never_unfinished Has k _ _ x z r (λ is. (let no = is in cc)) a))
+    (never_unfinished Has k _ _ x z r (λ is. (let no = is in cc)) a))

@@ -15,8 +15,8 @@ returns-clause-says g c =
     let z = c.pop_with_retries.new.self.worker in
     let r = c.pop_with_retries.result in
     let free : w.held ≡ None = search rules in
-    let P : TreeView → Type 0 = λ b. Pops (among c.args.end) (comes_before c.args.end)
-    ((h.rounds + 1) * pop_round_bound h b.layout) h.tries (h.rounds + 1) x z r in
+    let P : TreeView → Type 0 = λ b. Pops (among c.args.end) (comes_before c.args.end) h
+    ((h.rounds + 1) * pop_round_bound h b.layout) (h.rounds + 1) x z r in
     inr (
       free,
       pops_after (among c.args.end) (comes_before c.args.end) c.args.self.now.tree h w x z c.in-Ok._done r

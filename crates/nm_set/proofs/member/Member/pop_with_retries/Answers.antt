@@ -24,7 +24,7 @@ pub loop-round-init : goal.loop-round-init
 loop-round-init g c = record {
   tree = refl;
   lost = no_round_yet (among c.args.end) (comes_before c.args.end)
-      c.args.options.now.tries (pop_round_bound c.args.options.now c.args.self.now.tree.layout) c.args.self.now.worker
+      c.args.options.now (pop_round_bound c.args.options.now c.args.self.now.tree.layout) c.args.self.now.worker
       c.requires.none c.requires.free;
   frees = λ map. refl;
 }
@@ -36,14 +36,14 @@ loop-round-preserved g c =
     let Among = among c.args.end in
     let Before = comes_before c.args.end in
     let most = pop_round_bound h c.args.self.now.tree.layout in
-    let P : TreeView → Type 0 = λ b. Pops Among Before (pop_round_bound h b.layout) h.tries 1 at.self.worker
+    let P : TreeView → Type 0 = λ b. Pops Among Before h (pop_round_bound h b.layout) 1 at.self.worker
     c.pop_once-told.new.self.worker c.pop_once-told.result in
-    let R : Result (Option ℕ) CallFault → Type 0 = λ r. Pops Among Before most h.tries 1 at.self.worker
+    let R : Result (Option ℕ) CallFault → Type 0 = λ r. Pops Among Before h most 1 at.self.worker
     c.pop_once-told.new.self.worker r in
     let last = subst R (c.if-not-is_busy.ensures.yes refl) (subst P at.invariant.tree c.pop_once-told.ensures.says) in
     record {
       tree = c.pop_once-told.ensures.tree ∙ at.invariant.tree;
-      lost = one_round_more Among Before h.tries most at._round c.args.self.now.worker at.self.worker
+      lost = one_round_more Among Before h most at._round c.args.self.now.worker at.self.worker
           c.pop_once-told.new.self.worker at.invariant.lost last;
       frees = λ map. c.pop_once-told.ensures.frees map ∙ at.invariant.frees map;
     }
@@ -56,8 +56,8 @@ returns-then-not-is_busy-clause-says g c =
     let Before = comes_before c.args.end in
     let z = c.pop_once-told.new.self.worker in
     let r = c.pop_once-told.result in
-    let P : TreeView → Type 0 = λ b. Pops Among Before (pop_round_bound h b.layout) h.tries 1 at.self.worker z r in
-    last_round Among Before h.tries (pop_round_bound h c.args.self.now.tree.layout) at._round (h.rounds + 1)
+    let P : TreeView → Type 0 = λ b. Pops Among Before h (pop_round_bound h b.layout) 1 at.self.worker z r in
+    last_round Among Before h (pop_round_bound h c.args.self.now.tree.layout) at._round (h.rounds + 1)
     c.args.self.now.worker at.self.worker z r (omega (arith, c.loop-round-test.true))
     (λ is. absurd (c.if-not-is_busy.ensures.no refl is)) at.invariant.lost
     (subst P at.invariant.tree c.pop_once-told.ensures.says)
@@ -72,8 +72,8 @@ returns-clause-says g c =
     let Before = comes_before c.args.end in
     let z = c.pop_once.new.self.worker in
     let r = c.pop_once.result in
-    let P : TreeView → Type 0 = λ b. Pops Among Before (pop_round_bound h b.layout) h.tries 1 at.self.worker z r in
-    last_round Among Before h.tries (pop_round_bound h c.args.self.now.tree.layout) at._round (h.rounds + 1)
+    let P : TreeView → Type 0 = λ b. Pops Among Before h (pop_round_bound h b.layout) 1 at.self.worker z r in
+    last_round Among Before h (pop_round_bound h c.args.self.now.tree.layout) at._round (h.rounds + 1)
     c.args.self.now.worker at.self.worker z r (omega (arith, within)) (λ is. omega (arith, past, within))
     at.invariant.lost (subst P at.invariant.tree c.pop_once.ensures.says)
 

@@ -6,7 +6,7 @@ use Rattle.nm_steps.specs.Values.{HasValues}
 use Rattle.nm_calls.specs.Maps.{HasTaken}
 use Rattle.nm_calls.specs.declared.fault.CallFault.{CallFault}
 use Rattle.nm_tree.specs.Answers.{IfTaken}
-use Rattle.nm_set.specs.Rounds.{AnswersIn, FinishesIn}
+use Rattle.nm_set.specs.Rounds.{AnswersIn, Finishes}
 use Rattle.nm_set.proofs.Managing.{finish_err, finished, pending_manages, removes_at_last, removes_plain}
 use Rattle.nm_set.proofs.MapManaging.{removes_then, took_before, took_now}
 use Rattle.nm_set.proofs.member.Member.remove_managed.Goals as goal
@@ -58,9 +58,9 @@ returns-clause-says g c =
     let flagged = subst P (c.if-not-is_unfinished.ensures.yes refl)
     (subst (λ (d : TreeView). AnswersIn d h Delete k (h.rounds + 1) y x c.ask_value_with_retries-told.result)
     came c.ask_value_with_retries-told.ensures.says) in
-    let last = subst (λ (d : TreeView). FinishesIn d h (h.rounds + 1) x z r)
+    let last = subst (λ (d : TreeView). Finishes d h x z r)
     (c.ask_value_with_retries-told.ensures.tree ∙ came) c.finish_with_retries-2.ensures.says in
-    let none = (finished b h (h.rounds + 1) w y c.in-Ok._done c.in-Ok.ensures.says).none in
+    let none = (finished b h w y c.in-Ok._done c.in-Ok.ensures.says).none in
     inr (
       free,
       removes_then b h k w y c.in-Ok._done c.in-Ok.ensures.says z r
@@ -94,6 +94,6 @@ returns-in_default-clause-says g c =
     inr (
       free,
       pending_manages b h Delete c.args.key w z
-          (subst (λ (g : CallFault). FinishesIn b h (h.rounds + 1) w z (Err g))
-          (finish_err b h (h.rounds + 1) w z c.in_default.field-0 f) f),
+          (subst (λ (g : CallFault). Finishes b h w z (Err g))
+          (finish_err b h w z c.in_default.field-0 f) f),
     )

@@ -3,7 +3,7 @@ use Rattle.std.specs.Prelude.{Result}
 use Rattle.nm_model.specs.declared.event.Op.TheVariants.{Delete}
 use Rattle.nm_steps.specs.Steps.{TreeView}
 use Rattle.nm_calls.specs.declared.fault.CallFault.{CallFault}
-use Rattle.nm_set.specs.Rounds.{AnswersIn, FinishesIn}
+use Rattle.nm_set.specs.Rounds.{AnswersIn, Finishes}
 use Rattle.nm_set.proofs.Managing.{removes_at_last, removes_plain}
 use Rattle.nm_set.proofs.member.Member.retry_remove.Goals as goal
 
@@ -23,5 +23,5 @@ returns-clause-says g c = λ w idle none first.
     let flagged = subst (λ (q : Result Bool CallFault). AnswersIn b h Delete k (h.rounds + 1) w x q)
     (c.if-not-is_unfinished.ensures.yes refl) (c.retry-told.ensures.says w first) in
     removes_at_last b h k w x z idle none flagged r
-    (subst (λ (d : TreeView). FinishesIn d h (h.rounds + 1) x z r) c.retry-told.ensures.tree
+    (subst (λ (d : TreeView). Finishes d h x z r) c.retry-told.ensures.tree
     c.finish_with_retries.ensures.says)
