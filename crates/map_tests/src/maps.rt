@@ -2,8 +2,8 @@
 //! own.
 use nm_edge::Key;
 use nm_set::{
-    CallFault, CloseReason, Condition, EndError, Map, MapEntry, MapMember, MemberFault, NotPinned,
-    ObserveFault, Options, PinFault, PinnedGetFault, PutOutcome, ResignReason, Stamp,
+    CallFault, CloseReason, Condition, EndError, Map, MapEntry, MapMember, NotPinned, Options,
+    PinFault, PinnedGetFault, PutOutcome, ResignReason,
 };
 use std::process::Abort;
 use std::test::Fail;
@@ -340,39 +340,6 @@ fn keys_of_a_map_come_with_their_values(rt: HostRuntime) -> Result<(), Fail> {
     Ok(())
 }
 
-/// A worker that was returned is taken again, and is found by its number. A stamp can be observed.
-#[test]
-fn a_worker_of_a_map_comes_back(rt: HostRuntime) -> Result<(), Fail> {
-    let map = Map::new(rt.alloc(), 64, 2)?;
-    let mut first = map.member(0)?;
-    assert_eq!(rt;
-        (map.member(0).err(), map.member(2).err()),
-        (Some(MemberFault::Attached), Some(MemberFault::Number))
-    );
-    assert_eq!(rt; first.try_insert(key(&rt, 5), 50, TRIES), Ok(true));
-    let won = Stamp {
-        inserted: 1,
-        removed: 0,
-    };
-    assert_eq!(rt; first.publish(), Some(won));
-    let returned = first.close();
-    assert_eq!(rt; (returned.done(), map.is_attached(0)), (won, Ok(false)));
-    let Ok(mut again) = returned.again() else {
-        panic!(rt; "nobody else has had the worker")
-    };
-    assert_eq!(rt;
-        (again.returns(), again.try_get(key(&rt, 5), TRIES)),
-        (1, Ok(Some(50)))
-    );
-    let mut second = map.member(1)?;
-    assert_eq!(rt;
-        (second.observe(0), second.observe(2)),
-        (Ok(Some(won)), Err(ObserveFault::Number))
-    );
-    let _note = again.note();
-    Ok(())
-}
-
 /// Returns why a worker has not resigned, and the member that was to be its heir.
 fn stays(rt: &impl Abort, heir: MapMember, leaver: u32) -> (ResignReason, MapMember) {
     match heir.resign(leaver) {
@@ -399,17 +366,6 @@ fn a_worker_of_a_map_resigns(rt: HostRuntime) -> Result<(), Fail> {
     let _ = heir.advance();
     let mut out = [0; 1];
     assert_eq!(rt; (heir.collect(&mut out).values, out), (1, [50]));
-    Ok(())
-}
-
-/// A map that keeps the worker of a member is closed with it.
-#[test]
-fn a_map_closes_with_a_worker_that_it_keeps(rt: HostRuntime) -> Result<(), Fail> {
-    let mut map = Map::new(rt.alloc(), 64, 1)?;
-    let mut member = map.member(0)?;
-    assert_eq!(rt; member.try_insert(key(&rt, 5), 50, TRIES), Ok(true));
-    assert!(rt; map.keep(member).is_ok());
-    assert_eq!(rt; keys_of(&rt, map), 1);
     Ok(())
 }
 
