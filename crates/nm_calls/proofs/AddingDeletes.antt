@@ -75,7 +75,7 @@ try_adds L k c old new injected.Lost (inr h) =
           (flag_lost_adds r h.1 h.2 try.ended mid try.entries)) help.1),
     )
 
-lost_flags_add : (L : Layout) (k t : ℕ) (old new : List Entry) → LostFlags L k t old new
+pub lost_flags_add : (L : Layout) (k t : ℕ) (old new : List Entry) → LostFlags L k t old new
     → AddsFlags 0 (t * most (reach L)) old new
 lost_flags_add L k zero old new h = (0, adds_in _ old new (omega arith) (adds_none old new h))
 lost_flags_add L k (suc t) old new h =

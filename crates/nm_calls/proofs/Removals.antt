@@ -20,6 +20,8 @@ use Rattle.nm_epoch.specs.Resting.{epochs, search}
 use Rattle.nm_epoch.specs.Tries.{IsPinnedBy}
 use Rattle.nm_epoch.specs.declared.collecting.Entry.{Entry as Waiting}
 use Rattle.nm_calls.specs.declared.deleting.FlaggedLeaf.{FlaggedLeaf}
+use Rattle.nm_calls.specs.declared.deleting.Injected.{Injected}
+use Rattle.nm_calls.specs.declared.deleting.Injected.TheVariants as injected
 use Rattle.nm_calls.specs.declared.deleting.Deletion.{Deletion}
 use Rattle.nm_calls.specs.declared.deleting.Deletion.TheVariants as deletion
 use Rattle.nm_calls.specs.declared.fault.CallFault.{CallFault}
@@ -35,7 +37,7 @@ use Rattle.nm_walks.specs.Marking.{IsToBeFlagged, FlagWon}
 use Rattle.nm_walks.specs.Labelling.{IsPinnedForCall}
 use Rattle.nm_calls.specs.Leaving.{ShowsAnswer}
 use Rattle.nm_walks.specs.Cleanups.{HasCleaned, OnlyCleans, CleanupLost}
-use Rattle.nm_calls.specs.Deletes.{IsRemoving, MayFlag, HasWonItsFlag, leaf_of, OnlyInjects, IsRemoval, RemovalAfter, LosesAfterFlag, LacksRoomOr, FlagsThen, PinsForDelete, DeleteDid}
+use Rattle.nm_calls.specs.Deletes.{IsRemoving, MayFlag, HasWonItsFlag, leaf_of, OnlyInjects, IsRemoval, RemovalAfter, LosesAfterFlag, LacksRoomOr, FlagsThen, PinsForDelete, DeleteDid, ShowsFlag}
 use Rattle.nm_walks.proofs.GoingOn.{pinned_still}
 use Rattle.nm_calls.proofs.KeptLedgers.{ledgers_then}
 use Rattle.nm_walks.proofs.Looks.{enough}
@@ -169,20 +171,27 @@ may_flag_there p q k L r c layout call unflagged low on only ended high found is
   unflagged = only.flagged ∙ unflagged;
 }
 
+-- what the log shows after a try, from an earlier pass on
+pub shows_since : (k : ℕ) (c : List ChainEdge) (o p q : PassView) (i : Injected)
+    → (search p).flagged ≡ (search o).flagged → ShowsFlag k c p q i → ShowsFlag k c o q i
+shows_since k c o p q injected.Absent same h = h
+shows_since k c o p q (injected.Flagged r b) same h = h
+shows_since k c o p q injected.Lost same h = h ∙ same
+
 -- ---- a flag that was won
 
-pub removing_from : (p q : PassView) (k : ℕ) (n : NodeId) → IsPinnedSomewhere p → IsPinnedForCall Delete k p
-    → (epochs p).unlabelled ≡ false → GoesOn p q → OnlyInjects p q
-    → (search q).flagged ≡ Some n → Tells q (IsBorn n.slot n.birth) → IsRemoving q k n
-removing_from p q k n pin call labelled on only flagged born = record {
-  run = on.run;
-  pinned = pinned_still p q on pin;
-  root = on.keeps (KnowsSlot 1) call.root;
-  known = on.keeps (KnowsSlot 2) call.known;
-  call = on.keeps (CallIs Delete k) call.call;
+pub removing_there : (p : PassView) (k : ℕ) (n : NodeId) → IsInRun p → IsPinnedSomewhere p
+    → IsPinnedForCall Delete k p → (epochs p).unlabelled ≡ false → (search p).flagged ≡ Some n
+    → Tells p (IsBorn n.slot n.birth) → IsRemoving p k n
+removing_there p k n run pin call labelled flagged born = record {
+  run = run;
+  pinned = pin;
+  root = call.root;
+  known = call.known;
+  call = call.call;
   flagged = flagged;
   born = born;
-  labelled = only.labelled labelled;
+  labelled = labelled;
 }
 
 pub removal_after : (L : Layout) (k : ℕ) (f : FlaggedLeaf) (c : List ChainEdge) (t : ℕ) (old mid new : List Entry)

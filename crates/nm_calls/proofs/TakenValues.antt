@@ -32,10 +32,12 @@ use Rattle.nm_epoch.specs.Resting.{search}
 use Rattle.nm_walks.specs.declared.seek_record.WalkEnd.{WalkEnd}
 use Rattle.nm_walks.specs.Telling.{GoesOn, Tells}
 use Rattle.nm_walks.proofs.Looks.{enough}
+use Rattle.nm_calls.specs.declared.deleting.Injected.{Injected}
+use Rattle.nm_calls.specs.declared.deleting.Injected.TheVariants as injected
 use Rattle.nm_calls.specs.declared.deleting.Deletion.{Deletion}
 use Rattle.nm_calls.specs.declared.deleting.Deletion.TheVariants as deletion
 use Rattle.nm_calls.specs.declared.fault.CallFault.{CallFault}
-use Rattle.nm_calls.specs.Deletes.{HasWonItsFlag, IfTaken, MayFlag, leaf_of}
+use Rattle.nm_calls.specs.Deletes.{HasWonItsFlag, IfFlagged, IfTaken, MayFlag, leaf_of}
 use Rattle.nm_calls.specs.Maps.{HasReadFlagged, HasTaken, HoldsStores, IsInMap, WasTaken}
 use Rattle.nm_calls.proofs.FlaggedTurns.{are as turns_are, called_then, flag, key_then, leaf_then, named_then, not_left, pinned_then, reached_then, rest, same_pin, so_far, then_is}
 use Rattle.nm_calls.proofs.Forks.{going_continues}
@@ -241,3 +243,10 @@ if_taken o a q k v seen fits none' pinning (Ok (deletion.Done false)) t = tt
 if_taken o a q k v seen fits none' pinning (Err e) t = tt
 if_taken o a q k v seen fits none' pinning (Ok (deletion.Pending n)) t = has_taken o q seen fits none' k v
     (read_since o a q k v pinning t)
+
+-- ---- by the result
+
+pub if_flagged : (P Q : Type 0) → (P → Q) → (i : Injected) → IfFlagged i P → IfFlagged i Q
+if_flagged P Q f (injected.Flagged r b) h = f h
+if_flagged P Q f injected.Absent h = tt
+if_flagged P Q f injected.Lost h = tt

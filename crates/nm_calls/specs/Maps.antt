@@ -235,6 +235,10 @@ pub record HasReadLater (n : ℕ) (p : PassView) (k v : ℕ) : Type 0 where
   pub read : HasReadValue p k v
   pub walk : WalkEnds k (since_pin [] (after_entries n p).view.log) read.slot read.parent read.side k
 
+-- the worker has seen that the slot has this value, by all the stores that it has seen
+abbrev pub HasSeenValue : PassView → ℕ → ℕ → Type 0
+HasSeenValue p slot v = HasSeenStores p.view × (v ≡ value_of p.view.stores slot)
+
 -- after p the worker has read the value of the leaf that its call to delete the key had flagged
 pub record HasReadFlagged (p q : PassView) (k v : ℕ) : Type 0 where
   pub at : PassView

@@ -1,20 +1,21 @@
 //! Deletes: tries to flag a leaf, and tries to remove it.
-ghost use Rattle.std.specs.Prelude.{◌≡◌, ◌≢◌, ◌⊎◌, ◌<◌, ◌≤◌, length, true, false, None, IfOk, IfErr};
+ghost use Rattle.std.specs.Prelude.{◌≡◌, ◌≢◌, ◌⊎◌, ◌<◌, ◌≤◌, ℕ, List, length, true, false, None, Some, IfOk, IfErr};
 ghost use Rattle.nm_edge.specs.Keys.{IsKey};
 ghost use Rattle.nm_model.specs.declared.event.Op.TheVariants.{Delete};
+ghost use Rattle.nm_model.specs.Walks.{Entry};
 ghost use Rattle.nm_order.specs.Facts.Fact.{IsFlagged};
 ghost use Rattle.nm_steps.specs.Rules.{knowledge};
 ghost use Rattle.nm_steps.specs.Steps.{PassView, IsOf, Continues};
-ghost use Rattle.nm_epoch.specs.Resting.{IsResting, search};
+ghost use Rattle.nm_epoch.specs.Resting.{IsResting, epochs, search};
 ghost use Rattle.nm_walks.specs.Bounds.{chain_bound, cut_bound};
 ghost use Rattle.nm_walks.specs.Rooms.{FillsUp, TakesRoom};
 ghost use Rattle.nm_walks.specs.Telling.{Tells, GoesOn, IsPinnedIn};
-ghost use Rattle.nm_walks.specs.Walks.{IsAt};
+ghost use Rattle.nm_walks.specs.Walks.{IsAt, Seeks};
 ghost use Rattle.nm_walks.specs.Labelling.{IsPinnedForCall};
 ghost use Rattle.nm_calls.specs.Leaving.{ShowsAnswer, HasChangedNothing};
 ghost use Rattle.nm_walks.specs.Marking.{OnlyFlags};
 ghost use Rattle.nm_steps.specs.Values.{HasValues};
-ghost use Rattle.nm_calls.specs.Maps.{HasReadFlagged, HasTaken};
+ghost use Rattle.nm_calls.specs.Maps.{HasReadFlagged, HasSeenValue, HasTaken};
 ghost use Rattle.nm_calls.specs.Moments.{AnswerHasMoment, HadNoCall};
 ghost use Rattle.nm_walks.specs.Cleanups.{OnlyCleans, KeepsLedgers, HoldsCuts};
 ghost use Rattle.nm_calls.specs.Deletes.{IsRemoving, Removes, RemovesNothing, IsRemoval, IfRemoved, MayFlag, HasWonItsFlag, HasNotFlagged, IfFlagged, IfInjected, IfDone, IfTaken, IsFlagTry, ShowsFlag, OnlyInjects, IsInjection, ShowsInjection, RemovalAfter, leaf_of, DeleteFinishes, LosesAfterFlag, LacksRoomOr, FlagsThen, LosesEachTry, AfterDelete, AfterFinish, RestsOrRemoves};
@@ -31,7 +32,7 @@ use nm_walks::{Stop, WalkEnd, Workspace, cleanup, flag, look_birth, seek};
 
 /// The result of a try to flag a leaf.
 #[derive(Clone, Copy)]
-pub(crate) enum Injected {
+pub enum Injected {
     /// The leaf has another key.
     Absent,
     /// The leaf at this end is flagged; it has this generation (birth).
@@ -42,17 +43,17 @@ pub(crate) enum Injected {
 
 /// A leaf that the call has flagged.
 #[derive(Clone, Copy)]
-pub(crate) struct FlaggedLeaf {
+pub struct FlaggedLeaf {
     /// The end of the walk that found it.
-    pub(crate) end: WalkEnd,
-    pub(crate) birth: u64,
+    pub end: WalkEnd,
+    pub birth: u64,
     /// The number of tries that are left to remove it.
-    pub(crate) left: u32,
+    pub left: u32,
 }
 
 /// The result of all tries to flag a leaf.
 #[derive(Clone, Copy)]
-pub(crate) enum Injection {
+pub enum Injection {
     /// The leaf has another key.
     Absent,
     /// This leaf is flagged.
@@ -81,7 +82,7 @@ pub enum Deletion {
 
 /// The result of tries to remove a flagged leaf.
 #[derive(Clone, Copy)]
-pub(crate) enum Removal {
+pub enum Removal {
     /// The leaf is cut off.
     Removed,
     /// The room of a try was refused.
@@ -184,6 +185,8 @@ fn flag_at(
     ensures lost { IfErr result (λ e. HasNotFlagged pass.old pass.new end.now e) }
     ensures read { HasValues shared.now
         → IfOk result (λ _. HasReadFlagged pass.old pass.new key value.new) }
+    ensures sees { HasValues shared.now → IfOk result
+        (λ _. HasSeenValue pass.new end.now.seek_record.edge.slot value.new) }
     ensures on { GoesOn pass.old pass.new }
     ensures only { OnlyFlags pass.old pass.new }
 {
@@ -196,6 +199,53 @@ fn flag_at(
             Ok(birth)
         }
         Err(found) => Err(found),
+    }
+}
+
+/// Tries to flag the leaf at which a walk of the call has ended with the key. If the flag is won, it is
+/// counted, and the value of the leaf is written to `value`. If it is lost, the try helps with at most
+/// one cleanup.
+#[inline(always)]
+pub fn flag_or_help(
+    shared: &Shared,
+    pass: &mut Pass,
+    workspace: &mut Workspace,
+    held: &mut HeldQueue,
+    key: u64,
+    end: &WalkEnd,
+    value: &mut u64,
+) -> Injected
+    requires key { IsKey key }
+    requires pinned { IsPinnedIn shared.now pass.old }
+    requires may { MayFlag pass.old key end.now }
+    requires at { IsAt (Tells pass.old) end.now.seek_record workspace.old.chain.items }
+    requires few { length workspace.old.chain.items < chain_bound }
+    requires room { cut_bound ≤ held.old.queue.spare }
+    requires kept { HoldsCuts pass.old held.old }
+    ensures part { (before : List Entry) → Seeks shared.now.layout key before pass.old.view.log
+        workspace.old.chain.items (Some end.now) → end.now.key ≡ key
+        → IsFlagTry shared.now.layout key workspace.new.chain.items before pass.new.view.log result }
+    ensures shows { ShowsFlag key workspace.new.chain.items pass.old pass.new result }
+    ensures read { HasValues shared.now
+        → IfFlagged result (HasReadFlagged pass.old pass.new key value.new) }
+    ensures won { IfFlagged result ((b : ℕ) × HasWonItsFlag pass.old pass.new end.now b) }
+    ensures sees { HasValues shared.now → IfFlagged result
+        (HasSeenValue pass.new end.now.seek_record.edge.slot value.new) }
+    ensures on { GoesOn pass.old pass.new }
+    ensures only { OnlyInjects pass.old pass.new }
+    ensures kept { HoldsCuts pass.new held.new }
+    ensures fills { FillsUp held.old.queue held.new.queue }
+    ensures fit { workspace.new.placement ≡ workspace.old.placement }
+{
+    match flag_at(shared, pass, key, end, value) {
+        Ok(birth) => {
+            held.counts.flags = held.counts.flags.saturating_add(1);
+            Injected::Flagged(*end, birth)
+        }
+        Err(found) => {
+            help(shared, pass, workspace, held, end, found);
+            Injected::Lost
+        }
     }
 }
 
@@ -233,16 +283,7 @@ fn try_flag(
     if end.key != sought {
         return Injected::Absent;
     }
-    match flag_at(shared, pass, sought, &end, value) {
-        Ok(birth) => {
-            held.counts.flags = held.counts.flags.saturating_add(1);
-            Injected::Flagged(end, birth)
-        }
-        Err(found) => {
-            help(shared, pass, workspace, held, &end, found);
-            Injected::Lost
-        }
-    }
+    flag_or_help(shared, pass, workspace, held, sought, &end, value)
 }
 
 /// Tries at most `tries` times to flag the leaf with the key, and writes the value of the flagged leaf
@@ -341,6 +382,71 @@ fn leaf_at(flagged: &FlaggedLeaf) -> NodeId
     }
 }
 
+/// Ends a delete, after its tries to flag a leaf: it removes the leaf that was flagged, and answers; or
+/// it unpins.
+#[inline(always)]
+pub fn end_delete(
+    shared: &Shared,
+    pass: &mut Pass,
+    workspace: &mut Workspace,
+    held: &mut HeldQueue,
+    key: Key,
+    injection: &Injection,
+) -> Result<Deletion, CallFault>
+    requires pinned { IsPinnedIn shared.now pass.old }
+    requires call { IsPinnedForCall Delete key pass.old }
+    requires labelled { (epochs pass.old).unlabelled ≡ false }
+    requires unlinked { (search pass.old).linked ≡ false }
+    requires unswapped { (search pass.old).swapped ≡ false }
+    requires shows { ShowsInjection key workspace.old.chain.items pass.old injection.now }
+    requires refused { injection.now ≡ Injection.Refused → held.old.queue.spare < cut_bound }
+    requires kept { HoldsCuts pass.old held.old }
+    ensures on { Continues pass.old pass.new }
+    ensures part { (tries : ℕ) (before : List Entry) → IsInjection shared.now.layout key tries
+        workspace.old.chain.items before pass.old.view.log injection.now
+        → DeleteFinishes shared.now.layout tries key before pass.new.view.log result }
+    ensures lacks { (tries : ℕ) (before : List Entry) → IsInjection shared.now.layout key tries
+        workspace.old.chain.items before pass.old.view.log injection.now
+        → LacksRoomOr (λ n. FlagsThen shared.now.layout tries key n before pass.new.view.log
+        Removal.Spent) held.new.queue.spare result }
+    ensures moment { (o : PassView) → HadNoCall o pass.old
+        → IfDone result (AnswerHasMoment o pass.new Delete key) }
+    ensures read { (o : PassView) (v : ℕ) → IfInjected injection.now (HasReadFlagged o pass.old key v)
+        → IfTaken result (HasReadFlagged o pass.new key v) }
+    ensures stands { RestsOrRemoves key pass.new result }
+    ensures private { (knowledge pass.new.view).drafts ≡ (knowledge pass.old.view).drafts }
+    ensures kept { HoldsCuts pass.new held.new }
+    ensures blocks { TakesRoom held.old.queue held.new.queue }
+    ensures ledgers { KeepsLedgers pass.old pass.new }
+    ensures fit { workspace.new.placement ≡ workspace.old.placement }
+{
+    match injection {
+        Injection::Absent => {
+            answer(shared, pass, false);
+            Ok(Deletion::Done(false))
+        }
+        Injection::Refused => {
+            leave(shared, pass);
+            Err(CallFault::NoMemory)
+        }
+        Injection::Spent => {
+            leave(shared, pass);
+            Err(CallFault::Busy)
+        }
+        Injection::Flagged(flagged) => {
+            let leaf = leaf_at(flagged);
+            match remove_after(shared, pass, workspace, held, key, flagged) {
+                Removal::Removed => {
+                    answer(shared, pass, true);
+                    Ok(Deletion::Done(true))
+                }
+                Removal::Refused => Ok(Deletion::Pending(leaf)),
+                Removal::Spent => Ok(Deletion::Pending(leaf)),
+            }
+        }
+    }
+}
+
 /// Makes the tries of a delete, from its pin to its answer. The room of the first one must have
 /// been made before the pin.
 fn delete_pinned(
@@ -373,31 +479,8 @@ fn delete_pinned(
     ensures ledgers { KeepsLedgers pass.old pass.new }
     ensures fit { workspace.new.placement ≡ workspace.old.placement }
 {
-    match inject(shared, pass, workspace, held, key, value, tries) {
-        Injection::Absent => {
-            answer(shared, pass, false);
-            Ok(Deletion::Done(false))
-        }
-        Injection::Refused => {
-            leave(shared, pass);
-            Err(CallFault::NoMemory)
-        }
-        Injection::Spent => {
-            leave(shared, pass);
-            Err(CallFault::Busy)
-        }
-        Injection::Flagged(flagged) => {
-            let leaf = leaf_at(&flagged);
-            match remove_after(shared, pass, workspace, held, key, &flagged) {
-                Removal::Removed => {
-                    answer(shared, pass, true);
-                    Ok(Deletion::Done(true))
-                }
-                Removal::Refused => Ok(Deletion::Pending(leaf)),
-                Removal::Spent => Ok(Deletion::Pending(leaf)),
-            }
-        }
-    }
+    let injection = inject(shared, pass, workspace, held, key, value, tries);
+    end_delete(shared, pass, workspace, held, key, &injection)
 }
 
 /// Deletes `key`; returns whether it was present, or `Pending` if the leaf with the key is flagged and

@@ -19,7 +19,10 @@ mod scanning;
 mod stretches;
 mod values;
 
-pub use deleting::{Deletion, Unfinished, delete, finish};
+pub use deleting::{
+    Deletion, FlaggedLeaf, Injected, Injection, Removal, Unfinished, delete, end_delete, finish,
+    flag_or_help,
+};
 pub use fault::CallFault;
 pub use handing_back::collect_values;
 pub use helping::{help, make_room, make_room_for};

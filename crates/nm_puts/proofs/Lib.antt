@@ -9,3 +9,5 @@ pub mod TriedPuts
 pub mod EndedPuts
 pub mod AddingPuts
 pub mod PutsOfSwaps
+pub mod ExpectedValues
+pub mod FoundOthers

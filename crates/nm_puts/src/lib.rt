@@ -6,10 +6,12 @@ mod laws;
 mod leaves;
 mod leaving;
 mod putting;
+mod removing;
 mod swapping;
 
 pub use laws::replaced_values_have_puts;
 pub use putting::{Attempt, Condition, PutOutcome, put};
+pub use removing::{DeleteOutcome, delete_if};
 
 #[cfg(test)]
 mod tests;

@@ -5,8 +5,8 @@ ghost use Rattle.nm_epoch.specs.Resting.{IsResting};
 ghost use Rattle.nm_walks.specs.Cleanups.{HoldsCuts};
 ghost use Rattle.nm_calls.specs.Fresh.{HasDoneNothing};
 
-use crate::{Condition, PutOutcome, put};
-use nm_calls::{CallFault, get};
+use crate::{Condition, DeleteOutcome, PutOutcome, delete_if, put};
+use nm_calls::{CallFault, Deletion, get};
 use nm_edge::{Fit, Key, Layout, Placement};
 use nm_epoch::HeldQueue;
 use nm_steps::{Pass, Shared};
@@ -86,6 +86,41 @@ fn puts(
     )
 }
 
+/// Deletes once, in two tries, if the key has the value. Returns whether it was removed. Error: it has
+/// this other value.
+fn deletes_if(
+    rt: &impl Abort,
+    shared: &Shared,
+    worker: &mut Worker,
+    number: u64,
+    expected: u64,
+) -> Result<bool, u64>
+    requires values { HasValues shared.now }
+    requires own { IsOf shared.now worker.old.pass }
+    requires rests { IsResting worker.old.pass }
+    requires kept { HoldsCuts worker.old.pass worker.old.held }
+    ensures own { IsOf shared.now worker.new.pass }
+    ensures rests { IsResting worker.new.pass }
+    ensures kept { HoldsCuts worker.new.pass worker.new.held }
+{
+    let Some(key) = Key::new(number) else {
+        panic!(rt; "a key of the map")
+    };
+    match delete_if(
+        shared,
+        &mut worker.pass,
+        &mut worker.workspace,
+        &mut worker.held,
+        key,
+        expected,
+        2,
+    ) {
+        Ok(DeleteOutcome::Deletion(Deletion::Done(removed))) => Ok(removed),
+        Ok(DeleteOutcome::Other(found)) => Err(found),
+        _ => panic!(rt; "two tries are enough"),
+    }
+}
+
 /// Returns the value that the map has under a key.
 fn value(rt: &impl Abort, shared: &Shared, worker: &mut Worker, number: u64) -> Option<u64>
     requires values { HasValues shared.now }
@@ -144,6 +179,24 @@ fn a_put_with_a_condition_may_change_nothing(rt: HostRuntime) -> Result<(), Fail
     let there = puts(&rt, &shared, &mut one, 5, 52, Condition::IfThere);
     assert_eq!(rt; there, Ok(PutOutcome::Replaced(51)));
     assert_eq!(rt; value(&rt, &shared, &mut one, 5), Some(52));
+    assert_eq!(rt; one.held.queue.len(), 2);
+    Ok(())
+}
+
+/// A delete that expects a value removes the key with this value alone.
+#[test]
+fn a_delete_removes_the_expected_value_alone(rt: HostRuntime) -> Result<(), Fail> {
+    let (shared, passes) = Shared::with_values(rt.alloc(), Layout::new(13, 1)?)?;
+    let pass = only(&shared, passes);
+    let mut one = starting(&rt, &shared, pass);
+    assert_eq!(rt; deletes_if(&rt, &shared, &mut one, 5, 50), Ok(false));
+    let first = puts(&rt, &shared, &mut one, 5, 50, Condition::Always);
+    assert_eq!(rt; first, Ok(PutOutcome::Inserted));
+    assert_eq!(rt; deletes_if(&rt, &shared, &mut one, 5, 51), Err(50));
+    assert_eq!(rt; value(&rt, &shared, &mut one, 5), Some(50));
+    assert_eq!(rt; one.held.queue.len(), 0);
+    assert_eq!(rt; deletes_if(&rt, &shared, &mut one, 5, 50), Ok(true));
+    assert_eq!(rt; value(&rt, &shared, &mut one, 5), None);
     assert_eq!(rt; one.held.queue.len(), 2);
     Ok(())
 }

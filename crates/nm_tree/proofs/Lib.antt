@@ -49,3 +49,5 @@ pub mod UnfreedPuts
 pub mod FullPuts
 pub mod RunSums
 pub mod AddedUp
+pub mod DeletesTold
+pub mod RemovesIf

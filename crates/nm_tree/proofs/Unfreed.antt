@@ -324,7 +324,7 @@ module _ (L : Layout) (k : ℕ) where
   flag_lost c old new (inr (r, b, e, mid, h, help)) = then' old mid new (flag_tried r c b (Lost e) old mid h)
       (helps r c e mid new help)
 
-  flags_lost : (n : ℕ) (old new : List Entry) → LostFlags L k n old new → Unfreed old new
+  pub flags_lost : (n : ℕ) (old new : List Entry) → LostFlags L k n old new → Unfreed old new
   flags_lost zero old new h = unfreed_none old new h
   flags_lost (suc n) old new h = then' old h.1 new (flags_lost n old h.1 h.2) (flag_lost h.0 h.1 new h.3)
 

@@ -4,6 +4,7 @@ pub mod Looked
 pub mod InTurns
 pub mod Calls
 pub mod Putting
+pub mod Removing
 pub mod Scanning
 pub mod Popping
 pub mod Resigning

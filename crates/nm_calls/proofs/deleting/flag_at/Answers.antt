@@ -66,3 +66,10 @@ returns-in-Ok-clause-read c = λ values.
     read_flagged o m c.args.key v c.look_birth-birth.result r c.requires.key c.requires.may
     (returns-in-Ok-clause-on c) (returns-in-Ok-clause-won c) saw.0
     (subst (λ (n : ℕ). v ≡ value_of m.view.stores n) c.slot-leaf.ensures saw.1)
+
+pub returns-in-Ok-clause-sees : goal.returns-in-Ok-clause-sees
+returns-in-Ok-clause-sees c = λ values.
+    let m = c.value_of_slot.new.pass in
+    let v = c.value_of_slot.result in
+    let saw = c.value_of_slot.ensures.sees values in
+    (saw.0, subst (λ (n : ℕ). v ≡ value_of m.view.stores n) c.slot-leaf.ensures saw.1)
