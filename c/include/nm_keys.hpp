@@ -1105,6 +1105,11 @@ public:
     bool compare_exchange(const K &key, Found &expected, Value &&value) {
         return of_.compare_exchange(detail::checked_key(key), expected, std::forward<Value>(value));
     }
+    // Removes a key if it has the expected value; returns whether it did.
+    template <typename Found>
+    bool compare_remove(const K &key, Found &expected) {
+        return of_.compare_remove(detail::checked_key(key), expected);
+    }
     // Gives a key the value that a function makes of the one that it has, which it returns.
     template <typename F>
     auto update(const K &key, F f) {

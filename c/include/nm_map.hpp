@@ -563,6 +563,23 @@ public:
         return outcome == NM_REPLACED;
     }
 
+    // Removes a key if it has the expected value; returns whether it did. After false, `expected` is what
+    // the map had under the key at a moment of the call; if nothing is expected, it removes nothing. It
+    // compares like `compare_exchange`. The object is freed later, as after `remove`, and NM_UNFINISHED
+    // says the same as of `remove`.
+    bool compare_remove(Key key, Found &expected) {
+        auto &by = worker();
+        std::uint64_t word = 0;
+        if (!expected) {
+            bool is_found = by.finds_value(key, word);
+            expected = detail::found<T>(is_found, word);
+            return false;
+        }
+        nm_outcome outcome = by.compare_removed(key, word_of(expected), word);
+        if (outcome != NM_YES) expected = detail::found<T>(outcome == NM_OTHER, word);
+        return outcome == NM_YES;
+    }
+
     // Gives a key the value that a function makes of the one that it has, or of nothing if it is
     // absent; returns the new value. The function gets a `Found`, and is called again as often as
     // another call changes the key in between, without a bound. It may make calls by other workers:
@@ -1101,6 +1118,15 @@ private:
         }));
         nm_outcome outcome = ask([&](nm_handle *it) { return call(it, place_->options()); });
         nm_map_count_remove(place_->counts(), number_, outcome);
+        return outcome;
+    }
+
+    // Removes a key if it has the expected word, and writes the one that it found if that is another one.
+    nm_outcome compare_removed(std::uint64_t key, std::uint64_t expected, std::uint64_t &found) {
+        nm_outcome outcome = removed([&](nm_handle *it, const nm_options *options) {
+            return nm_map_remove_if(it, key, expected, options, &found);
+        });
+        detail::answered_by_map(outcome, key);
         return outcome;
     }
 

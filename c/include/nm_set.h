@@ -581,6 +581,15 @@ nm_outcome nm_map_compare_replace(nm_handle *worker, uint64_t key, uint64_t expe
 nm_outcome nm_map_remove(nm_handle *worker, uint64_t key, const nm_options *options,
                          uint64_t *value);
 
+/* Removes a key, if it has the expected value. Returns NM_YES if the key is removed, NM_ABSENT, or
+ * NM_OTHER if the key has another value, and then writes this value to found. The value of a key that
+ * is removed is reclaimed by nm_map_reclaim too. It returns the errors of nm_map_remove. After
+ * NM_UNFINISHED the key had the expected value, and it is pending. After any other outcome than
+ * NM_OTHER, found is not written. If a value may be reclaimed and come again, pin another worker, as
+ * for nm_map_compare_replace. */
+nm_outcome nm_map_remove_if(nm_handle *worker, uint64_t key, uint64_t expected,
+                            const nm_options *options, uint64_t *found);
+
 /* Removes the least key of the map, or the greatest; or the least key that is below a bound, or the
  * greatest that is not below one. They return like nm_worker_pop_first and its like, and with NM_YES
  * they write the value that the key had to value. nm_map_reclaim returns the value too. After

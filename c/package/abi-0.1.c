@@ -127,6 +127,7 @@ void point_to_each(void) {
     { nm_outcome (*exported)(nm_handle *worker, uint64_t key, uint64_t value, const nm_options *options, uint64_t *old) = nm_map_put; (void)exported; }
     { nm_outcome (*exported)(nm_handle *worker, uint64_t key, uint64_t value, const nm_options *options, uint64_t *old) = nm_map_replace; (void)exported; }
     { nm_outcome (*exported)(nm_handle *worker, uint64_t key, uint64_t expected, uint64_t value, const nm_options *options, uint64_t *found) = nm_map_compare_replace; (void)exported; }
+    { nm_outcome (*exported)(nm_handle *worker, uint64_t key, uint64_t expected, const nm_options *options, uint64_t *found) = nm_map_remove_if; (void)exported; }
     { nm_outcome (*exported)(nm_handle *report, uint64_t index, uint64_t *value) = nm_map_report_value; (void)exported; }
     { nm_outcome (*exported)(nm_handle *report, uint32_t worker, uint64_t *value) = nm_map_report_returned; (void)exported; }
     { nm_outcome (*exported)(nm_handle *worker, uint64_t from, uint64_t below, nm_entry *entries, size_t entries_count, uint64_t *count, uint64_t *next, uint32_t tries) = nm_map_scan_entries; (void)exported; }

@@ -1,7 +1,8 @@
 /* Tests the calls that replace a value in one step: those of nm_set.h, and those of nm_map.h, which
  * wait for nodes. One thread meets each outcome. Each replaced value comes back once, and none while
  * a worker is pinned that may have read it. A reader always finds a key that another thread puts
- * again and again, and threads that raise a counter lose no step. */
+ * again and again, and threads that raise a counter lose no step. A lock is released by its owner
+ * alone. */
 #include "map_parts.h"
 
 #include <pthread.h>
@@ -9,7 +10,7 @@
 #include <stdbool.h>
 #include <stdio.h>
 
-enum { NOT_WRITTEN = 77, PUTS = 100000, THREADS = 4, STEPS = 20000 };
+enum { NOT_WRITTEN = 77, PUTS = 100000, THREADS = 4, STEPS = 20000, LOCKS = 5000 };
 
 static const nm_options *const usual = &nm_default_options;
 static const nm_options none = {0, 0, 64}, often = {64, 64, 8};
@@ -68,6 +69,25 @@ static void each_outcome(void) {
           nm_map_put(&worker, UINT64_MAX - 3, 1, usual, &old) == NM_INSERTED);
     CHECK(nm_map_put(&worker, 0, 2, usual, &old) == NM_REPLACED && old == UINT64_MAX);
     end(&map, &worker, 8, 50 + 51 + 52 + 53 + 53 + UINT64_MAX + 1 + 2);
+}
+
+/* A remove that expects a value removes the key with this value alone. */
+static void each_conditional_remove(void) {
+    nm_handle map, worker;
+    uint64_t found = NOT_WRITTEN;
+    make(&map, &worker, 64, 1);
+    CHECK(nm_map_remove_if(&worker, 5, 0, usual, &found) == NM_ABSENT && found == NOT_WRITTEN);
+    CHECK(nm_map_insert(&worker, 5, 50, usual) == NM_YES);
+    CHECK(nm_map_remove_if(&worker, 5, 51, usual, &found) == NM_OTHER && found == 50);
+    has(&worker, 5, 50);
+    found = NOT_WRITTEN;
+    CHECK(nm_map_remove_if(&worker, 5, 50, &none, &found) == NM_BUSY && found == NOT_WRITTEN);
+    CHECK(nm_map_remove_if(&worker, 5, 50, usual, &found) == NM_YES && found == NOT_WRITTEN);
+    CHECK(nm_map_get(&worker, 5, usual, &found) == NM_NO && waiting(&worker) == 2);
+    CHECK(nm_map_remove_if(&worker, UINT64_MAX - 2, 0, usual, &found) == NM_KEY);
+    CHECK(nm_map_insert(&worker, 0, UINT64_MAX, usual) == NM_YES &&
+          nm_map_remove_if(&worker, 0, UINT64_MAX, usual, &found) == NM_YES);
+    end(&map, &worker, 2, 50 + UINT64_MAX);
 }
 
 /* Calls that have no try. */
@@ -318,6 +338,43 @@ static void a_counter_loses_no_step(void) {
     CHECK(nm_drop(&shared_map) == NM_DONE);
 }
 
+/* How often the lock was held, which is changed by its owner alone. */
+static atomic_uint held;
+
+/* Takes the lock, which the key 5 is, by an insert of a token, and releases it by a remove of this
+ * token. While another thread has the lock, such a remove changes nothing. */
+static void *lock_on(void *first) {
+    nm_handle worker = NM_CLOSED_HANDLE;
+    uint64_t token = *(uint64_t *)first, found = 0;
+    CHECK(nm_map_wait_attach(&shared_map, &worker, 1000) == NM_DONE);
+    for (uint64_t end = token + LOCKS; token < end; token++) {
+        while (nm_map_wait_insert(&shared_map, &worker, 5, token, usual, NULL, count_back, NULL,
+                                  20000) != NM_YES)
+            CHECK(nm_map_remove_if(&worker, 5, token, usual, &found) != NM_YES);
+        atomic_store(&held, atomic_load(&held) + 1);
+        CHECK(nm_map_remove_if(&worker, 5, token, usual, &found) == NM_YES);
+    }
+    CHECK(nm_drop(&worker) == NM_DONE);
+    return NULL;
+}
+
+static void a_lock_is_released_by_its_owner(void) {
+    pthread_t threads[THREADS];
+    uint64_t first[THREADS];
+    shared_map = (nm_handle)NM_CLOSED_HANDLE;
+    CHECK(nm_map_new(&shared_map, 4096, THREADS) == NM_DONE);
+    for (int value = 0; value <= THREADS * STEPS; value++) times[value] = 0;
+    for (int at = 0; at < THREADS; at++) {
+        first[at] = (uint64_t)at * LOCKS;
+        CHECK(pthread_create(&threads[at], NULL, lock_on, &first[at]) == 0);
+    }
+    for (int at = 0; at < THREADS; at++) CHECK(pthread_join(threads[at], NULL) == 0);
+    CHECK(held == THREADS * LOCKS);
+    CHECK(nm_map_drain(&shared_map, count_back, NULL, 0) == NM_DONE);
+    for (int token = 0; token < THREADS * LOCKS; token++) CHECK(times[token] == 1);
+    CHECK(nm_drop(&shared_map) == NM_DONE);
+}
+
 /* Checks that each call that waits returns the wanted error, and writes nothing. */
 static void each_wait_tells(nm_handle *worker, uint64_t key, nm_outcome wanted) {
     uint64_t old = NOT_WRITTEN;
@@ -347,6 +404,7 @@ static void wrong_calls_are_refused(void) {
 
 int main(void) {
     each_outcome();
+    each_conditional_remove();
     no_tries();
     each_wait();
     a_pin_holds_a_replaced_value_back();
@@ -356,6 +414,7 @@ int main(void) {
     counts_are_exact();
     wrong_calls_are_refused();
     a_counter_loses_no_step();
+    a_lock_is_released_by_its_owner();
     a_key_is_never_absent();
     puts("each value came back once");
     return 0;

@@ -46,6 +46,19 @@ void values_are_compared() {
     CHECK(worker.get(5u) == 4 && worker.get(6u) == 11);
 }
 
+// A key is removed if it has the expected value.
+void values_are_compared_before_a_remove() {
+    nm::Map<int> map{64, 1};
+    auto worker = map.attach();
+    std::optional<int> expected = 1;
+    CHECK(!worker.compare_remove(5u, expected) && !expected);
+    CHECK(worker.insert(5u, 2) && !worker.compare_remove(5u, expected) && expected == 2);
+    expected = 1;
+    CHECK(!worker.compare_remove(5u, expected) && expected == 2 && worker.get(5u) == 2);
+    CHECK(worker.compare_remove(5u, expected) && expected == 2 && !worker.get(5u));
+    CHECK(map.size() == 0 && map.waiting() == 2);
+}
+
 // The function of an update may make calls by another worker, even for the same key. Then it is
 // called again.
 void an_update_looks_again() {
@@ -101,10 +114,12 @@ void old_objects_exist_under_a_guard() {
         Canary *none = nullptr;
         CHECK(calls.compare_exchange(6u, none, std::make_unique<Canary>(4)) && none == nullptr);
         CHECK(!calls.compare_exchange(6u, none, std::make_unique<Canary>(5)) && none->is_of(4));
+        CHECK(!calls.compare_remove(5u, none) && none->is_of(3));
+        CHECK(calls.compare_remove(5u, expected = none) && none->is_of(3) && !calls.get(5u));
         CHECK(worker.reclaim().values == 0 && first->is_of(1) && Canary::alive() == 4);
         guard.unpin();
         CHECK(thrown([&] { (void)calls.exchange(5u, std::make_unique<Canary>(6)); }) == NM_NOT_PINNED);
-        CHECK(worker.reclaim().values == 2 && Canary::alive() == 2);
+        CHECK(worker.reclaim().values == 3 && Canary::alive() == 1);
     }
     CHECK(Canary::alive() == 0);
 }
@@ -120,6 +135,8 @@ void objects_are_updated() {
     CHECK(*old == "ab" && *calls.get(-0.5) == "c");
     CHECK(calls.compare_exchange(-0.5, old, "d") == false && *old == "c");
     CHECK(calls.compare_exchange(-0.5, old, "d") && worker.replace(-0.5, "e"));
+    CHECK(!calls.compare_remove(-0.5, old) && *old == "e" && calls.compare_remove(-0.5, old));
+    CHECK(worker.insert_or_assign(-0.5, "e"));
     CHECK(!worker.insert_or_assign(-0.5, "f") && worker.insert_or_assign(1.5, "g"));
 }
 
@@ -244,6 +261,7 @@ void counters_lose_no_step() {
 int main() {
     values_are_replaced();
     values_are_compared();
+    values_are_compared_before_a_remove();
     an_update_looks_again();
     objects_are_replaced();
     old_objects_exist_under_a_guard();

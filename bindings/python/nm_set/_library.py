@@ -170,6 +170,7 @@ FUNCTIONS: dict[str, list[Any]] = {
     "nm_map_replace": [_H, c_uint64, c_uint64, _OPTIONS, _U64],
     "nm_map_compare_replace": [_H, c_uint64, c_uint64, c_uint64, _OPTIONS, _U64],
     "nm_map_remove": [_H, c_uint64, _OPTIONS, _U64],
+    "nm_map_remove_if": [_H, c_uint64, c_uint64, _OPTIONS, _U64],
     "nm_map_pop_first_below": [_H, c_uint64, _OPTIONS, _U64, _U64],
     "nm_map_pop_last_from": [_H, c_uint64, _OPTIONS, _U64, _U64],
     "nm_map_reclaim": [_H, _U64, c_size_t, _U64, _U32],

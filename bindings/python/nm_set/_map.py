@@ -382,11 +382,35 @@ class Map(Views[int, V]):
             numbers = number, was.value, token
             return int(c.quick.nm_map_compare_replace(worker.handle, *numbers, self._words, old))
 
+        def is_replaced() -> bool:
+            return self._give(value, replace, lambda worker: False)[0] == c.REPLACED
+
+        return self._compare(number, expected, was, is_replaced)
+
+    def compare_remove(self, key: SupportsIndex, expected: object) -> bool:
+        """Removes a key if it has the expected object or one that equals it. Returns whether it did:
+        not if the map does not have the key. It compares, and raises `Contention`, like
+        `compare_replace`."""
+        number, was = _checked(key), c_uint64()
+
+        def remove(worker: _Worker) -> bool:
+            numbers, found = (number, was.value), c_uint64()
+            outcome = c.quick.nm_map_remove_if(worker.handle, *numbers, self._words, found)
+            return self._taken(outcome, was.value) is not MISSING
+
+        return self._compare(number, expected, was, lambda: self._with_worker(remove))
+
+    def _compare(
+        self, number: int, expected: object, was: c_uint64, change: Callable[[], bool]
+    ) -> bool:
+        """Makes a change of a key that has the expected object or an equal one, whose token it writes
+        to `was`. Returns whether the change was made. If the key was changed in between, it compares
+        again."""
         for _ in range(self._rounds + 1):
             found = self._with_worker(lambda worker: self._found(worker, number, was))
             if found is MISSING or (found is not expected and found != expected):
                 return False
-            if self._give(value, replace, lambda worker: False)[0] == c.REPLACED:
+            if change():
                 return True
         raise Contention("other threads changed the key in each round: call again")
 
@@ -478,8 +502,12 @@ class Map(Views[int, V]):
         whose remove is unfinished too, because this call will remove it and no other call will."""
         token = c_uint64()
         outcome = c.quick.nm_map_remove(worker.handle, key, self._words, token)
+        return self._taken(outcome, token.value)
+
+    def _taken(self, outcome: int, token: int) -> Any:
+        """Returns the object of a token that a remove with this outcome has taken, or `MISSING`."""
         if outcome in (c.YES, c.UNFINISHED):
-            return self._left.pop(token.value)
+            return self._left.pop(token)
         if outcome < 0:
             raise self._fault(outcome)
         return MISSING

@@ -234,6 +234,10 @@ class KeyCalls(Views[K, V]):
         `Map.compare_replace`."""
         return bool(self._raw.compare_replace(self._checked(key), expected, value))
 
+    def compare_remove(self, key: K, expected: object) -> bool:
+        """Removes a key if it has the expected object: see `Map.compare_remove`."""
+        return bool(self._raw.compare_remove(self._checked(key), expected))
+
     def setdefault(self, key: K, default: Any = None) -> Any:
         """Returns the object of a key, after an insert of the default if the key was absent: see
         `Map.setdefault`."""

@@ -56,6 +56,16 @@ class Answers(unittest.TestCase):
             self.assertFalse(found.compare_replace(5, [1], "four"))
             self.assertEqual((found[5], len(found)), ("three", 1))
 
+    def test_an_expected_object_is_removed(self) -> None:
+        with Map[Any](64, workers=1) as found:
+            self.assertFalse(found.compare_remove(5, None))
+            found[5] = [1]
+            self.assertFalse(found.compare_remove(5, [2]))
+            self.assertEqual((found[5], len(found)), ([1], 1))
+            self.assertTrue(found.compare_remove(5, [1]))
+            self.assertEqual((found.get(5), len(found), found.waiting()), (None, 0, 2))
+            self.assertRaises(OutOfRange, lambda: found.compare_remove(-1, None))
+
     def test_an_object_may_be_its_own_successor(self) -> None:
         with Map[list[int]](64, workers=1) as found:
             found[5] = same = [5]
@@ -78,6 +88,8 @@ class Answers(unittest.TestCase):
             self.assertEqual((below.replace(-5, "huit"), found[-5]), ("sept", "huit"))
             self.assertTrue(below.compare_replace(-5, "huit", "neuf"))
             self.assertEqual((found[-5], len(found)), ("neuf", 1))
+            self.assertFalse(found.compare_remove(-5, "huit"))
+            self.assertTrue(below.compare_remove(-5, "neuf") and len(found) == 0)
 
     def test_an_insert_by_a_set_item_wakes(self) -> None:
         with Map[str](64) as found:

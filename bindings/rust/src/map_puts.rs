@@ -162,6 +162,20 @@ impl<'g, V> GuardedWorker<'_, '_, 'g, V> {
         self.give(key, Change::Compare(expected), value).map(|_| ())
     }
 
+    /// Removes a key if it has the expected value, which is compared as by
+    /// [`compare_replace`](GuardedWorker::compare_replace). Returns whether it did, also if the bound of
+    /// the call is reached before the key is cut off, like [`take`](GuardedWorker::take). After false
+    /// the key is absent or has another value.
+    ///
+    /// Errors: `Key`, `Contention`, `NoMemory`, `Pinned`.
+    pub fn compare_remove(&mut self, key: u64, expected: &V) -> Result<bool, Fault> {
+        let (outcome, is_removed) = self.handle.compare_remove(checked(key)?, expected);
+        if !is_removed {
+            self.check(outcome)?;
+        }
+        Ok(is_removed)
+    }
+
     /// Gives a key the value that a function makes of the one that it has, or of None if the key is
     /// absent; returns the new value. It calls the function again as often as another call changes
     /// the key in between, without a bound. The function may make calls by other workers: no lock is held, and of the

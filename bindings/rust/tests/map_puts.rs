@@ -104,14 +104,20 @@ fn old_values_exist_under_a_guard() {
     assert_eq!(calls.get(5).unwrap().unwrap().number, 5);
     assert!(matches!(calls.compare_replace(6, third, alive.value(6)),
         Err(PutError::Absent(value)) if value.number == 6));
+    assert_eq!(calls.compare_remove(5, third), Ok(false));
+    assert_eq!(calls.compare_remove(6, third), Ok(false));
+    let fifth = calls.get(5).unwrap().unwrap();
+    assert_eq!(calls.compare_remove(5, fifth), Ok(true));
+    assert!(calls.get(5).unwrap().is_none() && fifth.number == 5);
+    assert!(calls.put(5, alive.value(5)).unwrap().is_none());
     assert_eq!(
         calls.replace(6, alive.value(6)).map(|_| ()).map_err(left),
         Err(6)
     );
     assert_eq!((third.number, first.number), (3, 1));
-    assert_eq!((worker.reclaim().unwrap().values, alive.count()), (0, 4));
+    assert_eq!((worker.reclaim().unwrap().values, alive.count()), (0, 5));
     drop(guard);
-    assert_eq!((worker.reclaim().unwrap().values, alive.count()), (3, 1));
+    assert_eq!((worker.reclaim().unwrap().values, alive.count()), (4, 1));
 }
 
 #[test]
@@ -145,6 +151,7 @@ fn values_are_updated() {
     );
     let old = calls.put(7, "8".into()).unwrap().unwrap();
     assert!(calls.compare_replace(7, old, "9".into()).is_err());
+    assert_eq!(calls.compare_remove(7, old), Ok(false));
     assert_eq!(calls.replace(7, "9".into()).unwrap(), "8");
     assert_eq!(other.replace(7, "10".into()), Ok(()));
 }

@@ -1,5 +1,4 @@
--- Deletes that expect a value: what each part of one leaves in the log and of the pass, and what its
--- answer says.
+-- Deletes that expect a value.
 use Rattle.std.specs.Prelude.{◌≡◌, ◌≢◌, ◌<◌, ℕ, List, [], ◌∷◌, ◌++◌, Some, None, Result, Ok, Err}
 use Rattle.nm_edge.specs.Keys.{IsKey}
 use Rattle.nm_edge.specs.Layouts.{Layout}

@@ -1,4 +1,4 @@
-//! Deletes that expect a value: tries to remove a key, if it has this value.
+//! Deletes that expect a value.
 ghost use Rattle.std.specs.Prelude.{◌≡◌, ◌≢◌, ◌≤◌, ◌<◌, ℕ, List, length, Ok, None, Some, IfErr, IfOk};
 ghost use Rattle.nm_edge.specs.Keys.{IsKey};
 ghost use Rattle.nm_model.specs.declared.event.Op.TheVariants.{Delete};

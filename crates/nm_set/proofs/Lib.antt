@@ -18,3 +18,4 @@ pub mod Rests
 pub mod FirstLooks
 pub mod Filled
 pub mod TreesWithValues
+pub mod MapRemoving

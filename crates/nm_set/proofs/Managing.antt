@@ -180,7 +180,7 @@ in_round : (t : ℕ) (L : Layout) (a b x : ℕ) → x ≡ t * (4 * reach L + 512
     → b ≤ a + (x + 7 * L.nodes + 2 * L.workers + 12)
 in_round t L a b x is few = omega (arith, few)
 
-in_tries : (t : ℕ) (L : Layout) (a b x : ℕ) → x ≡ t * (4 * reach L + 512) → b ≤ a + x + 10
+pub in_tries : (t : ℕ) (L : Layout) (a b x : ℕ) → x ≡ t * (4 * reach L + 512) → b ≤ a + x + 10
     → b ≤ a + (x + 7 * L.nodes + 2 * L.workers + 12)
 in_tries t L a b x is few = omega (arith, few)
 

@@ -13,3 +13,4 @@ pub mod Popping
 pub mod Filling
 pub mod Maps
 pub mod MapPuts
+pub mod MapRemoves

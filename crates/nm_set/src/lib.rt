@@ -19,6 +19,7 @@ mod map_calls;
 mod map_managed;
 mod map_popping;
 mod map_putting;
+mod map_removing;
 mod map_scanning;
 mod member;
 mod opening;
@@ -39,8 +40,8 @@ pub use map_managed::Reclaimed;
 pub use member::{Member, ResignError};
 pub use nm_tree::{
     Advance, Behind, CallFault, CloseReason, Collected, Condition, Counts, Entry, Fit, HandedOut,
-    HeldQueue, MapEntry, MapReport, MapValues, NewError, PinFault, PutOutcome, Query, Report,
-    ResignReason, Scanned, Tally,
+    HeldQueue, MapEntry, MapReport, MapValues, NewError, PinFault, PutOutcome, Query,
+    RemoveOutcome, Report, ResignReason, Scanned, Tally,
 };
 pub use posting::{Stamp, letters_are_in_order};
 pub use returning::{ReturnedMapWorker, ReturnedWorker};

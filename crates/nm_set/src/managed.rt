@@ -71,7 +71,7 @@ pub(crate) fn is_full(told: &Result<bool, CallFault>) -> bool
 }
 
 /// Returns whether a remove has flagged its leaf and is not finished.
-pub(crate) fn is_unfinished(told: &Result<bool, CallFault>) -> bool
+pub(crate) fn is_unfinished<T>(told: &Result<T, CallFault>) -> bool
     ensures yes { result ≡ true → told.now ≡ Err call.Unfinished }
     ensures no { result ≡ false → told.now ≢ Err call.Unfinished }
 {

@@ -12,6 +12,7 @@ pub mod Scanning
 pub mod Reports
 pub mod Maps
 pub mod MapPuts
+pub mod MapRemoves
 pub mod MapReports
 pub mod MapEntries
 pub mod MapScanning

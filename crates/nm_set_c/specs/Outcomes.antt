@@ -8,6 +8,8 @@ use Rattle.nm_puts.specs.declared.putting.PutOutcome.{PutOutcome}
 use Rattle.nm_puts.specs.declared.putting.PutOutcome.TheVariants as put
 use Rattle.nm_set.specs.declared.fault.MemberFault.{MemberFault}
 use Rattle.nm_set.specs.declared.fault.MemberFault.TheVariants as taking
+use Rattle.nm_tree.specs.declared.removing.RemoveOutcome.{RemoveOutcome}
+use Rattle.nm_tree.specs.declared.removing.RemoveOutcome.TheVariants as removal
 use Rattle.nm_tree.specs.declared.resigning.ResignReason.{ResignReason}
 use Rattle.nm_tree.specs.declared.resigning.ResignReason.TheVariants as staying
 use Rattle.nm_tree.specs.declared.closing.CloseReason.{CloseReason}
@@ -54,8 +56,8 @@ IsCodeOf P n = (o : Outcome) × (n ≡ code_of o) × P o
 
 -- ---- the results of the calls of a set and its workers, as outcomes
 
--- `of_bool`, `of_fault`, `of_answer`, `of_put`, `of_new`, `of_taking`, `of_staying`, `of_reason`: the
--- outcome for the result of a call of `nm_set`
+-- `of_bool`, `of_fault`, `of_answer`, `of_put`, `of_remove`, `of_new`, `of_taking`, `of_staying`,
+-- `of_reason`: the outcome for the result of a call of `nm_set`
 abbrev pub of_bool : Bool → Outcome
 of_bool true = outcome.Yes
 of_bool false = outcome.No
@@ -78,6 +80,12 @@ of_put (Ok (put.Replaced value)) = outcome.Replaced
 of_put (Ok put.Absent) = outcome.Absent
 of_put (Ok (put.Other value)) = outcome.Other
 of_put (Err f) = of_fault f
+
+abbrev pub of_remove : Result RemoveOutcome CallFault → Outcome
+of_remove (Ok removal.Removed) = outcome.Yes
+of_remove (Ok removal.Absent) = outcome.Absent
+of_remove (Ok (removal.Other value)) = outcome.Other
+of_remove (Err f) = of_fault f
 
 abbrev pub of_new : NewError → Outcome
 of_new making.Nodes = outcome.Nodes

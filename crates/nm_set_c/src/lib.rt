@@ -24,6 +24,7 @@ mod map_entries;
 mod map_epochs;
 mod map_many;
 mod map_puts;
+mod map_removing;
 mod map_reports;
 mod map_scanning;
 mod map_values;

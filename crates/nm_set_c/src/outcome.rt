@@ -1,10 +1,11 @@
 //! What a call returns to C: an answer or an error, as a number.
 ghost use Rattle.std.specs.Prelude.{◌≡◌};
 ghost use Rattle.nm_set.specs.Managed.{of_insert};
-ghost use Rattle.nm_set_c.specs.Outcomes.{code_of, of_bool, of_fault, of_answer, of_put, of_new, of_taking, of_staying, of_reason};
+ghost use Rattle.nm_set_c.specs.Outcomes.{code_of, of_bool, of_fault, of_answer, of_put, of_remove, of_new, of_taking, of_staying, of_reason};
 
 use nm_set::{
-    CallFault, CloseReason, InsertFault, MemberFault, NewError, PutOutcome, ResignReason,
+    CallFault, CloseReason, InsertFault, MemberFault, NewError, PutOutcome, RemoveOutcome,
+    ResignReason,
 };
 
 /// What came of a call. After an error nothing has changed, unless its own line says more.
@@ -153,6 +154,18 @@ impl Outcome {
             Ok(PutOutcome::Replaced(_)) => Outcome::Replaced,
             Ok(PutOutcome::Absent) => Outcome::Absent,
             Ok(PutOutcome::Other(_)) => Outcome::Other,
+            Err(fault) => Outcome::of_fault(*fault),
+        }
+    }
+
+    /// Converts the result of a remove that expects a value, and leaves out the value that was found.
+    pub(crate) fn of_remove(done: &Result<RemoveOutcome, CallFault>) -> Outcome
+        ensures { result ≡ of_remove done.now }
+    {
+        match done {
+            Ok(RemoveOutcome::Removed) => Outcome::Yes,
+            Ok(RemoveOutcome::Absent) => Outcome::Absent,
+            Ok(RemoveOutcome::Other(_)) => Outcome::Other,
             Err(fault) => Outcome::of_fault(*fault),
         }
     }

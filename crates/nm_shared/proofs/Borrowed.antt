@@ -1,5 +1,5 @@
 -- A member that was borrowed, asked once, and given back.
-use Rattle.std.proofs.Common.{◌≡◌, ◌∙◌, ℕ, suc, ◌+◌, ◌<◌, Bool, List, [], ◌∷◌, ◌++◌, length, inl, inr, sym, ap, subst, arith, refl}
+use Rattle.std.proofs.Common.{◌≡◌, ◌∙◌, ℕ, suc, ◌+◌, ◌<◌, Bool, true, false, List, [], ◌∷◌, ◌++◌, length, inl, inr, sym, ap, subst, arith, refl}
 use Rattle.std.specs.Prelude.{Option, Some, None, Result, Ok, Err}
 use Rattle.atomic_table.specs.Seated.{TableId}
 use Rattle.nm_calls.specs.declared.fault.CallFault.{CallFault}
@@ -9,6 +9,7 @@ use Rattle.nm_edge.specs.Layouts.{Layout}
 use Rattle.nm_edge.specs.declared.edge.Side.{Side}
 use Rattle.nm_model.specs.declared.event.Event.TheVariants.{Leave}
 use Rattle.nm_model.specs.declared.event.Op.{Op}
+use Rattle.nm_model.specs.declared.event.Op.TheVariants.{Delete}
 use Rattle.nm_model.specs.declared.reply.Reply.TheVariants.{Departed}
 use Rattle.nm_steps.specs.declared.view.View.{View}
 use Rattle.nm_steps.specs.Steps.{TreeView, PassView, Notice, IsSamePass, HasSeenAllOf}
@@ -20,12 +21,15 @@ use Rattle.nm_epoch.specs.declared.handing.HandedOut.{HandedOut}
 use Rattle.nm_set.specs.Asked.{AskedToPin}
 use Rattle.nm_set.specs.Managed.{SaysManaged}
 use Rattle.nm_set.specs.MapPuts.{SaysManagedPut}
+use Rattle.nm_set.specs.MapRemoves.{SaysRemoveIf}
 use Rattle.nm_set.specs.Maps.{LeavesReclaim, SaysChange, SaysGet}
 use Rattle.nm_set.specs.InTurns.{AskedMany}
 use Rattle.nm_set.specs.NextKeys.{AskedNext, AskedPrev}
 use Rattle.nm_set.specs.Popping.{SaysManagedPopOf}
 use Rattle.nm_set.specs.Scanning.{AskedScan}
 use Rattle.nm_set.specs.Seats.{MemberView, SetView, IsNewMember}
+use Rattle.nm_tree.specs.declared.removing.RemoveOutcome.{RemoveOutcome}
+use Rattle.nm_tree.specs.declared.removing.RemoveOutcome.TheVariants as outcome
 use Rattle.nm_tree.specs.declared.fault.PinFault.{PinFault}
 use Rattle.nm_tree.specs.declared.fault.PinFault.TheVariants as pinning
 use Rattle.nm_tree.specs.Answers.{HasPinned}
@@ -137,6 +141,17 @@ pub put_keeps : (b : TreeView) (h : Options) (when : Condition) (k v : ℕ) (w z
 put_keeps b h when k v w z r (inl (held, is, same)) = kept_itself w z same
 put_keeps b h when k v w z r (inr (free, t)) = record
     { same = t.answers.on.same; past = t.answers.on.past; free = λ none'. t.answers.on.held }
+
+pub remove_if_keeps : (b : TreeView) (h : Options) (k v : ℕ) (w z : WorkerView) (r : Result RemoveOutcome CallFault)
+    → SaysRemoveIf b h k v w z r → Keeps w z
+remove_if_keeps b h k v w z (Ok outcome.Removed) s = change_keeps Delete b h k w z (Ok true) s.says
+remove_if_keeps b h k v w z (Ok outcome.Absent) s = change_keeps Delete b h k w z (Ok false) s.says
+remove_if_keeps b h k v w z (Ok (outcome.Other found)) s = record {
+  same = s.other.finds.on.same;
+  past = s.other.finds.on.past;
+  free = λ none'. s.other.finds.on.held;
+}
+remove_if_keeps b h k v w z (Err f) s = change_keeps Delete b h k w z (Err f) s.says
 
 pub reclaim_keeps : (L : Layout) (old new : List ℕ) (w z : WorkerView) (behind : Option ℕ) (handed : HandedOut)
     → LeavesReclaim L old new w z behind handed → Keeps w z

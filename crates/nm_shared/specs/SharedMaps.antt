@@ -13,6 +13,7 @@ use Rattle.nm_calls.specs.declared.map_scanning.MapEntry.{MapEntry}
 use Rattle.nm_calls.specs.declared.scanning.Scanned.{Scanned}
 use Rattle.nm_puts.specs.declared.putting.Condition.{Condition}
 use Rattle.nm_puts.specs.declared.putting.PutOutcome.{PutOutcome}
+use Rattle.nm_tree.specs.declared.removing.RemoveOutcome.{RemoveOutcome}
 use Rattle.nm_tree.specs.declared.fault.PinFault.{PinFault}
 use Rattle.nm_tree.specs.declared.fault.PinFault.TheVariants as pinning
 use Rattle.nm_tree.specs.Answers.{FreesNone, IfTaken}
@@ -22,6 +23,7 @@ use Rattle.nm_set.specs.declared.managed.Options.{Options}
 use Rattle.nm_set.specs.declared.map_managed.Reclaimed.{Reclaimed}
 use Rattle.nm_set.specs.Asked.{AskedToPin}
 use Rattle.nm_set.specs.MapPuts.{SaysManagedPut}
+use Rattle.nm_set.specs.MapRemoves.{SaysRemoveIf}
 use Rattle.nm_set.specs.Maps.{FindsValue, LeavesReclaim, PopsValue, SaysChange, SaysGet, TookMeanwhile}
 use Rattle.nm_set.specs.NextKeys.{AskedNext, AskedPrev}
 use Rattle.nm_set.specs.Popping.{SaysManagedPopOf}
@@ -110,6 +112,11 @@ SaysSharedInsert s h k v f was now r = Visited (λ w z. InsertsValue s.set.tree 
 abbrev pub SaysSharedPut : SharedView → Options → Condition → ℕ → ℕ → CallerView → CallerView
     → Result PutOutcome CallFault → Type 0
 SaysSharedPut s h when k v was now r = Visited (λ w z. SaysManagedPut s.set.tree h when k v w z r) s was now
+
+abbrev pub SaysSharedRemoveIf : SharedView → Options → ℕ → ℕ → CallerView → CallerView
+    → Result RemoveOutcome CallFault → Type 0
+SaysSharedRemoveIf s h k expected was now r =
+    Visited (λ w z. SaysRemoveIf s.set.tree h k expected w z r) s was now
 
 abbrev pub SaysSharedTake : SharedView → Options → ℕ → ℕ → CallerView → CallerView → Result Bool CallFault → Type 0
 SaysSharedTake s h k v was now r = Visited (λ w z. TakesValue s.set.tree h k v w z r) s was now

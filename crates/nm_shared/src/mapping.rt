@@ -3,14 +3,14 @@ ghost use Rattle.std.specs.Prelude.{◌≡◌, ◌<◌, ◌≤◌, IfSome, IfNon
 ghost use Rattle.nm_edge.specs.Keys.{IsKey};
 ghost use Rattle.nm_edge.specs.declared.edge.Side.TheVariants.{Left, Right};
 ghost use Rattle.nm_shared.specs.SharedMaps.{AsksUnderPin, GetsMany, of_pin};
-ghost use Rattle.nm_shared.specs.SharedMaps.{SaysSharedEntries, SaysSharedGet, SaysSharedGetMany, SaysSharedInsert, SaysSharedNextEntry, SaysSharedPopEntry, SaysSharedPrevEntry, SaysSharedPut, SaysSharedReclaim, SaysSharedTake};
+ghost use Rattle.nm_shared.specs.SharedMaps.{SaysSharedEntries, SaysSharedGet, SaysSharedGetMany, SaysSharedInsert, SaysSharedNextEntry, SaysSharedPopEntry, SaysSharedPrevEntry, SaysSharedPut, SaysSharedReclaim, SaysSharedRemoveIf, SaysSharedTake};
 ghost use Rattle.nm_shared.specs.Sharing.{IsCallerOf, NoneWasFree};
 
 use crate::shared_set::{Caller, SharedSet};
 use nm_edge::Key;
 use nm_set::{
     CallFault, Condition, MapEntry, Member, Options, PinFault, PutOutcome, Query, Reclaimed,
-    Scanned, Values,
+    RemoveOutcome, Scanned, Values,
 };
 
 /// Returns the fault of a call whose worker was not pinned.
@@ -197,6 +197,34 @@ impl SharedSet<Values> {
             Ok((worker, loan)) => {
                 let mut worker = worker;
                 let told = worker.member.remove(key, taken, options);
+                (self.give_back(loan, worker), Some(told))
+            }
+            Err(caller) => (caller, None),
+        }
+    }
+
+    /// Removes `key` if it has the `expected` value; returns what it did, or why it changed nothing:
+    /// `MapMember::remove_if`, in the same way. The value of a key that is removed comes back by
+    /// `reclaim`, once nobody can read it.
+    ///
+    /// Errors: those of `remove`.
+    pub fn remove_if(
+        &self,
+        caller: Caller<Values>,
+        key: Key,
+        expected: u64,
+        options: &Options,
+    ) -> (Caller<Values>, Option<Result<RemoveOutcome, CallFault>>)
+        requires own { IsCallerOf self.now caller }
+        ensures own { IsCallerOf self.now result.0 }
+        ensures says { IfSome result.1
+            (SaysSharedRemoveIf self.now options.now key expected caller result.0) }
+        ensures refused { IfNone result.1 (NoneWasFree self.now caller result.0) }
+    {
+        match self.borrow(caller) {
+            Ok((worker, loan)) => {
+                let mut worker = worker;
+                let told = worker.member.remove_if(key, expected, options);
                 (self.give_back(loan, worker), Some(told))
             }
             Err(caller) => (caller, None),

@@ -1,4 +1,4 @@
--- A delete that expects a value: what it leaves of its worker, and what a caller learns from it.
+-- A delete that expects a value.
 use Rattle.std.specs.Prelude.{◌≡◌, ◌≢◌, ℕ, Bool, true, false, Some, None, Result, Ok, Err}
 use Rattle.nm_edge.specs.Layouts.{Layout}
 use Rattle.nm_steps.specs.Steps.{IsSamePass, HasSeenAllOf}

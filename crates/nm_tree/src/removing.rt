@@ -1,4 +1,4 @@
-//! Deletes that expect a value: a key of a tree with values is removed, if it has this value.
+//! Deletes that expect a value.
 ghost use Rattle.std.specs.Prelude.{◌≡◌};
 ghost use Rattle.nm_calls.specs.Maps.{HasTaken};
 ghost use Rattle.nm_steps.specs.Values.{HasValues};

@@ -94,6 +94,13 @@ extern "C" {
         options: *const CallOptions,
         value: *mut u64,
     ) -> c_int;
+    fn nm_map_remove_if(
+        worker: *mut Word,
+        key: u64,
+        expected: u64,
+        options: *const CallOptions,
+        found: *mut u64,
+    ) -> c_int;
     fn nm_map_unpin(worker: *mut Word) -> c_int;
     fn nm_map_get_pinned(worker: *mut Word, key: u64, value: *mut u64) -> c_int;
     fn nm_map_pop_first_below(
@@ -584,6 +591,15 @@ impl<V> WorkerHandle<'_, V> {
     /// Removes a key.
     pub(crate) fn remove(&mut self, key: u64) -> Outcome {
         self.take(key, &mut 0)
+    }
+
+    /// Removes a key, if this is its value.
+    pub(crate) fn compare_remove(&mut self, key: u64, expected: &V) -> Outcome {
+        let (was, mut found) = (expected as *const V as usize as u64, 0);
+        // SAFETY: the handle exists during the call, and the place is borrowed for it.
+        self.removed(|worker, options| unsafe {
+            nm_map_remove_if(worker, key, was, options, &mut found)
+        })
     }
 
     /// Removes the least key that is below a bound, or the greatest one that is not below it.

@@ -93,6 +93,12 @@ impl<'w, 'a, 'g, V> Guarded<'w, 'a, 'g, V> {
         (outcome, is_taken.then(|| Self::value(word)))
     }
 
+    /// Removes a key, if this is its value; returns also whether this call removes it, finished or not.
+    pub(crate) fn compare_remove(&mut self, key: u64, expected: &V) -> (Outcome, bool) {
+        let outcome = self.worker.compare_remove(key, expected);
+        (outcome, outcome == YES || outcome == UNFINISHED)
+    }
+
     /// Gives a key a value.
     pub(crate) fn give(&mut self, key: u64, change: Change<'_, V>, value: Box<V>) -> Given<'g, V> {
         let (new, mut word) = (&*value as *const V as usize as u64, 0);
