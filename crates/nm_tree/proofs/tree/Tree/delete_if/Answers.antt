@@ -91,8 +91,8 @@ invariant_of-worker-in-Ok-Other c =
     let p = c.worker.inside.pass in
     let q = c.delete_if.new.pass in
     let k = c.args.key in
-    let after = subst (λ (r : DeleteOutcome). IfOther (Ok r) (AfterOther L c.args.tries k c.args.expected p q)) c.in-Ok-Other.field-0-is
-    c.in-Ok-Other.ensures.other in
+    let after = subst (λ (r : DeleteOutcome). IfOther (Ok r) (AfterOther L c.args.tries k c.args.expected p q))
+    c.in-Ok-Other.field-0-is c.in-Ok-Other.ensures.other in
     changed _ c.worker.inside.home q _ _ c.delete_if.new.held c.worker.invariant after.same
     c.delete_if.ensures.kept after.ledgers.others (λ slot. ap (λ ds. get ds slot) after.private)
     (rests_as q c.worker.inside.standing
@@ -274,8 +274,8 @@ returns-in-Ok-Other c =
     let p = c.worker.inside.pass in
     let q = c.delete_if.new.pass in
     let k = c.args.key in
-    let after = subst (λ (r : DeleteOutcome). IfOther (Ok r) (AfterOther L c.args.tries k c.args.expected p q)) c.in-Ok-Other.field-0-is
-    c.in-Ok-Other.ensures.other in
+    let after = subst (λ (r : DeleteOutcome). IfOther (Ok r) (AfterOther L c.args.tries k c.args.expected p q))
+    c.in-Ok-Other.field-0-is c.in-Ok-Other.ensures.other in
     let s = c.worker.inside.standing in
     let w : WorkerView = record {
       pass = p;
