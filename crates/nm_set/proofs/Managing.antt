@@ -776,7 +776,8 @@ pub stays_since : (h : Options) (w x z : WorkerView) → Follows w.pass x.pass �
 stays_since h w x z on (inl lacks) = inl lacks
 stays_since h w x z on (inr (ts, is, many)) =
     let more = on.past.goes_on.more in
-    let same = subst (λ (v : ℕ). min ((h.rounds + 1) * h.tries) (2 ^ 32 - 1) ≤ number_of (changes_of_others v) ts) (number_of_pass w.pass x.pass on.same) many in
+    let same = subst (λ (v : ℕ). min ((h.rounds + 1) * h.tries) (2 ^ 32 - 1) ≤ number_of (changes_of_others v) ts)
+    (number_of_pass w.pass x.pass on.same) many in
     let whole = number-append (changes_of_others w.pass.view.number) more ts in
     inr (
       more ++ ts,
