@@ -134,7 +134,8 @@ module _ (b : TreeView) (h : Options) (k v : ℕ) where
           )) i.answers;
       takes = as_if (λ d. IfTaken d (HasTaken y.pass z.pass k v)) (λ d. IfTaken d (TookMeanwhile w.pass z.pass k v)) r
           (λ d same t. took_now w.pass y.pass z.pass k v d f.on.past t) i.takes;
-      other = if_other (FoundOther k v ((h.rounds + 1) * round) y z) (ManagesOther b h k v w z) r (other_then z) i.other;
+      other = if_other (FoundOther k v ((h.rounds + 1) * round) y z) (ManagesOther b h k v w z) r (other_then z)
+          i.other;
     }
 
     -- it has flagged its leaf, and was finished, or not

@@ -35,7 +35,8 @@ if_other P Q (Ok (outcome.Other found)) f h = f found h
 if_other P Q (Err g) f h = tt
 
 -- an answer of a remove is no other value
-pub as_done : (P : Result Bool CallFault → Type 0) (removed : Bool) → P (Ok removed) → AsDelete (Ok (outcome_of removed)) P
+pub as_done : (P : Result Bool CallFault → Type 0) (removed : Bool) → P (Ok removed)
+    → AsDelete (Ok (outcome_of removed)) P
 as_done P true h = h
 as_done P false h = h
 

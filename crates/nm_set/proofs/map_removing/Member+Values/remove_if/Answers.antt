@@ -64,7 +64,8 @@ returns-in-Ok-finish_with_retries-clause-says c =
     let last = subst (λ (d : TreeView). Finishes d h x z (Ok removed))
     (c.remove_if_with_retries-told.ensures.tree ∙ came) c.in-Ok-finish_with_retries.ensures.says in
     rw c.of.ensures (removes_ended b h k v w z removed
-    (ended_so b h k v w y free c.in-Ok._done c.in-Ok.ensures.says x z c.know_run.ensures.idle flagged (Ok removed) last))
+    (ended_so b h k v w y free c.in-Ok._done c.in-Ok.ensures.says x z c.know_run.ensures.idle flagged (Ok removed)
+    last))
 
 pub returns-in-Err-clause-says : goal.returns-in-Err-clause-says
 returns-in-Err-clause-says c =

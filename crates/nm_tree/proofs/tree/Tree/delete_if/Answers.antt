@@ -48,7 +48,8 @@ invariant_of-worker c =
     let q = c.delete_if.new.pass in
     let k = c.args.key in
     let after = subst (λ (d : Deletion). AfterDelete L c.args.tries k p q (Ok d))
-    c.in-Ok-Deletion-Done.field-0-0-is (subst (λ (r : DeleteOutcome). AsDelete (Ok r) (AfterDelete L c.args.tries k p q)) c.in-Ok-Deletion-Done.field-0-is
+    c.in-Ok-Deletion-Done.field-0-0-is (subst (λ (r : DeleteOutcome). AsDelete (Ok r)
+    (AfterDelete L c.args.tries k p q)) c.in-Ok-Deletion-Done.field-0-is
     c.in-Ok-Deletion-Done.ensures.after) in
     changed _ c.worker.inside.home q _ _ c.delete_if.new.held c.worker.invariant after.same
     c.delete_if.ensures.kept after.ledgers.others (λ slot. ap (λ ds. get ds slot) after.private)
@@ -78,7 +79,8 @@ invariant_of-worker-in-Ok-Deletion-Pending c =
     let q = c.delete_if.new.pass in
     let k = c.args.key in
     let after = subst (λ (d : Deletion). AfterDelete L c.args.tries k p q (Ok d))
-    c.in-Ok-Deletion-Pending.field-0-0-is (subst (λ (r : DeleteOutcome). AsDelete (Ok r) (AfterDelete L c.args.tries k p q)) c.in-Ok-Deletion-Pending.field-0-is
+    c.in-Ok-Deletion-Pending.field-0-0-is (subst (λ (r : DeleteOutcome). AsDelete (Ok r)
+    (AfterDelete L c.args.tries k p q)) c.in-Ok-Deletion-Pending.field-0-is
     c.in-Ok-Deletion-Pending.ensures.after) in
     changed _ c.worker.inside.home q _ _ c.delete_if.new.held c.worker.invariant after.same
     c.delete_if.ensures.kept after.ledgers.others (λ slot. ap (λ ds. get ds slot) after.private)
@@ -107,7 +109,8 @@ returns-in-Ok-Deletion-Done c =
     let q = c.delete_if.new.pass in
     let k = c.args.key in
     let after = subst (λ (d : Deletion). AfterDelete L c.args.tries k p q (Ok d))
-    c.in-Ok-Deletion-Done.field-0-0-is (subst (λ (r : DeleteOutcome). AsDelete (Ok r) (AfterDelete L c.args.tries k p q)) c.in-Ok-Deletion-Done.field-0-is
+    c.in-Ok-Deletion-Done.field-0-0-is (subst (λ (r : DeleteOutcome). AsDelete (Ok r)
+    (AfterDelete L c.args.tries k p q)) c.in-Ok-Deletion-Done.field-0-is
     c.in-Ok-Deletion-Done.ensures.after) in
     let s = c.worker.inside.standing in
     let w : WorkerView = record {
@@ -137,8 +140,11 @@ returns-in-Ok-Deletion-Done c =
     } in
     let own = subst (λ (d : TreeView). IsOf d p) (sym c.self.view_is)
     (subst (λ (x : WorkerView). IsOf c.args.self.now x.pass) (sym c.worker.view_is) c.requires.call.own) in
-    let why = subst (λ (d : Deletion). LacksRoomOr (LosesAfterFlag L c.args.tries k p.view.log q.view.log) c.delete_if.new.held.queue.spare (Ok d))
-    c.in-Ok-Deletion-Done.field-0-0-is (subst (λ (r : DeleteOutcome). AsDelete (Ok r) (LacksRoomOr (LosesAfterFlag L c.args.tries k p.view.log q.view.log) c.delete_if.new.held.queue.spare)) c.in-Ok-Deletion-Done.field-0-is
+    let why = subst (λ (d : Deletion). LacksRoomOr (LosesAfterFlag L c.args.tries k p.view.log q.view.log)
+    c.delete_if.new.held.queue.spare (Ok d))
+    c.in-Ok-Deletion-Done.field-0-0-is (subst (λ (r : DeleteOutcome). AsDelete (Ok r)
+    (LacksRoomOr (LosesAfterFlag L c.args.tries k p.view.log q.view.log) c.delete_if.new.held.queue.spare))
+    c.in-Ok-Deletion-Done.field-0-is
     c.in-Ok-Deletion-Done.ensures.refused) in
     let little : c.delete_if.new.held.queue.spare < cut_bound → LacksRoom z = λ less.
     lacks_after c.worker.inside.home _ _ c.worker.inside.queues.items c.delete_if.new.held
@@ -149,8 +155,10 @@ returns-in-Ok-Deletion-Done c =
     c.know_run.ensures.seen c.know_run-in-Ok-Deletion-Done.ensures.seen c.know_run.ensures.fits rests free.0 rest little
     (Ok (deletion.Done c.in-Ok-Deletion-Done.removed)) free.1 after why in
     let takes = taken_so L c.args.tries k p.view.log q.view.log (HasTaken p q k c.args.expected)
-    (Ok (deletion.Done c.in-Ok-Deletion-Done.removed)) after.did (subst (λ (d : Deletion). IfTaken (Ok d) (HasTaken p q k c.args.expected))
-    c.in-Ok-Deletion-Done.field-0-0-is (subst (λ (r : DeleteOutcome). AsDelete (Ok r) (λ e. IfTaken e (HasTaken p q k c.args.expected))) c.in-Ok-Deletion-Done.field-0-is
+    (Ok (deletion.Done c.in-Ok-Deletion-Done.removed)) after.did
+    (subst (λ (d : Deletion). IfTaken (Ok d) (HasTaken p q k c.args.expected))
+    c.in-Ok-Deletion-Done.field-0-0-is (subst (λ (r : DeleteOutcome). AsDelete (Ok r)
+    (λ e. IfTaken e (HasTaken p q k c.args.expected))) c.in-Ok-Deletion-Done.field-0-is
     c.in-Ok-Deletion-Done.ensures.taken)) in
     record {
       leaves = rw (c.of.ensures, ← c.worker.view_is, ← c.self.view_is) (as_done _ c.in-Ok-Deletion-Done.removed leaves);
@@ -165,7 +173,8 @@ returns-in-Ok-Deletion-Pending c =
     let q = c.delete_if.new.pass in
     let k = c.args.key in
     let after = subst (λ (d : Deletion). AfterDelete L c.args.tries k p q (Ok d))
-    c.in-Ok-Deletion-Pending.field-0-0-is (subst (λ (r : DeleteOutcome). AsDelete (Ok r) (AfterDelete L c.args.tries k p q)) c.in-Ok-Deletion-Pending.field-0-is
+    c.in-Ok-Deletion-Pending.field-0-0-is (subst (λ (r : DeleteOutcome). AsDelete (Ok r)
+    (AfterDelete L c.args.tries k p q)) c.in-Ok-Deletion-Pending.field-0-is
     c.in-Ok-Deletion-Pending.ensures.after) in
     let s = c.worker.inside.standing in
     let w : WorkerView = record {
@@ -195,8 +204,11 @@ returns-in-Ok-Deletion-Pending c =
     } in
     let own = subst (λ (d : TreeView). IsOf d p) (sym c.self.view_is)
     (subst (λ (x : WorkerView). IsOf c.args.self.now x.pass) (sym c.worker.view_is) c.requires.call.own) in
-    let why = subst (λ (d : Deletion). LacksRoomOr (LosesAfterFlag L c.args.tries k p.view.log q.view.log) c.delete_if.new.held.queue.spare (Ok d))
-    c.in-Ok-Deletion-Pending.field-0-0-is (subst (λ (r : DeleteOutcome). AsDelete (Ok r) (LacksRoomOr (LosesAfterFlag L c.args.tries k p.view.log q.view.log) c.delete_if.new.held.queue.spare)) c.in-Ok-Deletion-Pending.field-0-is
+    let why = subst (λ (d : Deletion). LacksRoomOr (LosesAfterFlag L c.args.tries k p.view.log q.view.log)
+    c.delete_if.new.held.queue.spare (Ok d))
+    c.in-Ok-Deletion-Pending.field-0-0-is (subst (λ (r : DeleteOutcome). AsDelete (Ok r)
+    (LacksRoomOr (LosesAfterFlag L c.args.tries k p.view.log q.view.log) c.delete_if.new.held.queue.spare))
+    c.in-Ok-Deletion-Pending.field-0-is
     c.in-Ok-Deletion-Pending.ensures.refused) in
     let little : c.delete_if.new.held.queue.spare < cut_bound → LacksRoom z = λ less.
     lacks_after c.worker.inside.home _ _ c.worker.inside.queues.items c.delete_if.new.held
@@ -204,11 +216,14 @@ returns-in-Ok-Deletion-Pending c =
     let rests = rests_in p s (resting_in s (ap (λ (w : WorkerView). w.held) c.worker.view_is ∙ c.requires.call.free)
     c.in_default.not-Pending) c.worker.invariant.between.stands in
     let leaves = delete_leaves c.self.inside.shared w z k c.args.tries c.delete_if.new.held.queue.spare own
-    c.know_run.ensures.seen c.know_run-in-Ok-Deletion-Pending.ensures.seen c.know_run.ensures.fits rests free.0 rest little
+    c.know_run.ensures.seen c.know_run-in-Ok-Deletion-Pending.ensures.seen c.know_run.ensures.fits rests free.0 rest
+    little
     (Ok (deletion.Pending c.in-Ok-Deletion-Pending.leaf)) refl after why in
     let takes = taken_so L c.args.tries k p.view.log q.view.log (HasTaken p q k c.args.expected)
-    (Ok (deletion.Pending c.in-Ok-Deletion-Pending.leaf)) after.did (subst (λ (d : Deletion). IfTaken (Ok d) (HasTaken p q k c.args.expected))
-    c.in-Ok-Deletion-Pending.field-0-0-is (subst (λ (r : DeleteOutcome). AsDelete (Ok r) (λ e. IfTaken e (HasTaken p q k c.args.expected))) c.in-Ok-Deletion-Pending.field-0-is
+    (Ok (deletion.Pending c.in-Ok-Deletion-Pending.leaf)) after.did
+    (subst (λ (d : Deletion). IfTaken (Ok d) (HasTaken p q k c.args.expected))
+    c.in-Ok-Deletion-Pending.field-0-0-is (subst (λ (r : DeleteOutcome). AsDelete (Ok r)
+    (λ e. IfTaken e (HasTaken p q k c.args.expected))) c.in-Ok-Deletion-Pending.field-0-is
     c.in-Ok-Deletion-Pending.ensures.taken)) in
     record {
       leaves = rw (← c.worker.view_is, ← c.self.view_is) leaves;
