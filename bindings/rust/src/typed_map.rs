@@ -2,8 +2,9 @@
 
 use crate::convert::{show_values, SHOWN};
 use crate::fault::Fault;
-use crate::map::{extend_by, Guard, InsertError, Map, MapWorker, Reclaimed};
+use crate::map::{Guard, InsertError, Map, MapWorker, Reclaimed};
 use crate::map_order::GuardedWorker;
+use crate::map_place::extend_by;
 use crate::map_puts::PutError;
 use crate::options::Options;
 use crate::order::{self, Range, Scanned};
