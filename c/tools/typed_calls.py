@@ -51,6 +51,8 @@ COMPARED = {
         (40, [("map.rs", "MapWorker"), ("map_order.rs", "MapWorker"), ("map_puts.rs", "MapWorker"),
               ("map_order.rs", "GuardedWorker"), ("map_puts.rs", "GuardedWorker"), ("map.rs", "Guard")],
          [("copy_map.rs", "CopyMapWorker")]),
+        (9, [("copy_map.rs", "CopyMap")], [("typed_copy_map.rs", "CopyMapOf")]),
+        (35, [("copy_map.rs", "CopyMapWorker")], [("typed_copy_map.rs", "CopyMapWorkerOf")]),
     ],
 }
 

@@ -1,9 +1,12 @@
-//! Tests of maps with values in place: each answer, also beside a `BTreeMap`; counters lose no step; a
-//! reader always finds a key that others put; no two pops return one key; a full map; and what is
-//! refused.
+//! Tests of maps with values in place: each answer, also beside a `BTreeMap` and with typed keys; counters
+//! lose no step; a reader always finds a key that others put; no two pops return one key; a full map; and
+//! what is refused.
 
-use nm_set::{CopyMap, CopyMapWorker, Fault, InsertError, Options, PutError, Word, MOST_KEY};
+use nm_set::{
+    CopyMap, CopyMapOf, CopyMapWorker, Fault, InsertError, Key, Options, PutError, Word, MOST_KEY,
+};
 use std::collections::BTreeMap;
+use std::fmt::Debug;
 use std::sync::atomic::{AtomicBool, Ordering::SeqCst};
 use std::thread;
 use std::time::{Duration, Instant};
@@ -485,4 +488,123 @@ fn many_threads_take_a_worker_for_a_call() {
         }
     });
     assert_eq!(map.len().unwrap() as u64, 100 * TURNS / 2);
+}
+
+/// The calls that read a map of typed keys answer like a `BTreeMap`, which has two keys or more.
+fn reads_like<K: Key + Ord + Debug>(map: &CopyMapOf<K, u32>, tree: &BTreeMap<K, u32>) {
+    let mut worker = map.attach().unwrap();
+    let wanted: Vec<(K, u32)> = tree.iter().map(|(&key, &value)| (key, value)).collect();
+    let keys: Vec<K> = tree.keys().copied().collect();
+    let (first, last) = (wanted[0], wanted[wanted.len() - 1]);
+    assert_eq!(worker.entries(..).as_ref(), Ok(&wanted));
+    assert_eq!(worker.keys(..).as_ref(), Ok(&keys));
+    assert_eq!(worker.keys(..last.0).unwrap(), keys[..keys.len() - 1]);
+    assert_eq!(worker.count(first.0..=last.0), Ok(wanted.len() as u64));
+    assert!(worker.iter().eq(wanted.iter().copied().map(Ok)));
+    assert!((&mut worker)
+        .into_iter()
+        .rev()
+        .eq(wanted.iter().rev().copied().map(Ok)));
+    let values = tree.values().copied().map(Some).collect();
+    assert_eq!(worker.get_many(&keys), Ok(values));
+    assert_eq!(
+        (worker.first(), worker.last()),
+        (Ok(Some(first)), Ok(Some(last)))
+    );
+    for pair in wanted.windows(2) {
+        let read = worker.scan(pair[0].0, 1).unwrap();
+        assert_eq!((read.entries, read.next), (vec![pair[0]], Some(pair[1].0)));
+        assert_eq!(worker.at_least(pair[1].0), Ok(Some(pair[1])));
+        assert_eq!(worker.at_most(pair[0].0), Ok(Some(pair[0])));
+        assert_eq!(worker.get(pair[0].0), Ok(Some(pair[0].1)));
+        assert_eq!(worker.contains(pair[0].0), Ok(true));
+    }
+    assert_eq!(worker.wait_first(Duration::ZERO), Ok(Some(first)));
+    assert_eq!(worker.wait_first_below(first.0, Duration::ZERO), Ok(None));
+    assert_eq!(
+        (worker.is_equal(tree), map.len()),
+        (Ok(true), Ok(tree.len()))
+    );
+}
+
+/// The calls that change a map of typed keys answer like a `BTreeMap`.
+fn changes_like<K: Key + Ord + Debug>(map: &CopyMapOf<K, u32>, mut tree: BTreeMap<K, u32>) {
+    let mut worker = map.attach().unwrap();
+    for (&key, value) in &mut tree {
+        let old = *value;
+        assert_eq!(worker.insert(key, 9), Err(InsertError::Present(9)));
+        assert_eq!(worker.put(key, 100), Ok(Some(old)));
+        assert_eq!(worker.replace(key, 101), Ok(100));
+        assert_eq!(worker.compare_replace(key, 100, 9), Err(PutError::Other(9)));
+        assert_eq!(worker.compare_replace(key, 101, old + 5), Ok(()));
+        assert_eq!(
+            worker.get_or_insert_with(key, || unreachable!()),
+            Ok(old + 5)
+        );
+        *value = worker.update(key, |old| old.unwrap() + 1).unwrap();
+        assert_eq!(*value, old + 6);
+    }
+    assert_eq!(worker.is_equal(&tree), Ok(true));
+    let (&least, _) = tree.first_key_value().unwrap();
+    assert_eq!(worker.pop_first_below(least), Ok(None));
+    assert_eq!(worker.pop_first(), Ok(tree.pop_first()));
+    assert_eq!(worker.pop_last(), Ok(tree.pop_last()));
+    let (&most, _) = tree.last_key_value().unwrap();
+    assert_eq!(worker.pop_last_from(most), Ok(tree.pop_last()));
+    let (&key, &value) = tree.first_key_value().unwrap();
+    assert_eq!(
+        (worker.remove(key), worker.remove(key)),
+        (Ok(Some(value)), Ok(None))
+    );
+    tree.pop_first();
+    worker.retain(|_, value| value % 2 == 0).unwrap();
+    tree.retain(|_, value| *value % 2 == 0);
+    assert_eq!(worker.is_equal(&tree), Ok(true));
+    assert_eq!(worker.remove_range(key..), Ok(tree.len() as u64));
+    assert_eq!((worker.is_empty(), map.is_empty()), (Ok(true), Ok(true)));
+}
+
+/// A map of typed keys answers like a `BTreeMap` of these keys.
+fn answers_like<K: Key + Ord + Debug>(keys: impl IntoIterator<Item = K>) {
+    let tree: BTreeMap<K, u32> = keys.into_iter().zip(10..).collect();
+    let map: CopyMapOf<K, u32> = tree.clone().into_iter().collect();
+    reads_like(&map, &tree);
+    changes_like(&map, tree);
+}
+
+#[test]
+fn keys_are_of_other_types() {
+    answers_like([-5_i64, 7, i64::MIN, 0, 1 << 40, -1]);
+    answers_like([(5_u16, 'b'), (5, 'a'), (0, 'z'), (9, '\0'), (7, 'q')]);
+    answers_like([*b"one", *b"two", *b"six", *b"ten", *b"   "]);
+    let map = CopyMapOf::<f64, bool>::with_options(64, options(1, 0)).unwrap();
+    let mut worker = map.attach_timeout(Duration::ZERO).unwrap();
+    assert_eq!(
+        worker.extend([(0.5, true), (-0.5, false), (0.5, false)]),
+        Ok(2)
+    );
+    let error = worker.insert(f64::NAN, true).unwrap_err();
+    assert!(matches!(error.fault(), Some(Fault::Unordered(_))));
+    assert!(matches!(worker.get(f64::NAN), Err(Fault::Unordered(_))));
+    assert_eq!(worker.at_most(f64::INFINITY), Ok(Some((0.5, true))));
+    assert_eq!(
+        (worker.number(), worker.pending(), worker.waiting()),
+        (0, Ok(None), 0)
+    );
+    assert_eq!(worker.clear(), Ok(()));
+    assert_eq!((map.waiting(), worker.waiting()), (Ok(4), 4));
+    assert_eq!(worker.reclaim().unwrap().values, 2);
+    assert_eq!(worker.raw().put(1 << 63, true), Ok(None));
+    assert_eq!(worker.first(), Ok(Some((0.0, true))));
+    assert_eq!(
+        format!("{worker:?}"),
+        "CopyMapWorkerOf(CopyMapWorker { number: 0, .. })"
+    );
+    drop(worker);
+    let text = "CopyMapOf { keys: {0.0}, map: CopyMap { keys: 1, capacity: 29, nodes: 64, workers: 1, .. } }";
+    assert_eq!(format!("{map:?}"), text);
+    assert_eq!((map.nodes(), map.capacity(), map.workers()), (64, 29, 1));
+    assert_eq!(map.raw().len(), Ok(1));
+    let full = CopyMapOf::from_entries(7, options(1, 0), [(1_u8, 1), (2, 2)]);
+    assert!(matches!(full, Err(Fault::MapFull(_))));
 }
