@@ -1,13 +1,15 @@
-// map_soak [THREADS [CALLS [KEYS]]]: threads insert, get, remove and pop objects of one nm::Map,
-// for CALLS calls in all, with keys below KEYS. A get reads the object under a guard, and now and
-// then holds the guard for a while. A pop reads the object that it removed under the guard of a
-// second worker, and a pass reads some objects in order. Each object checks that it is destroyed
-// once, and each reader that it reads an object that exists. At the end each object was destroyed.
+// map_soak [THREADS [CALLS [KEYS]]]: threads insert, replace, get, remove and pop objects of one
+// nm::Map, for CALLS calls in all, with keys below KEYS. A get reads the object under a guard, and now
+// and then holds the guard for a while. A pop, an exchange and an update read the object that they took
+// out under the guard of a second worker, and a pass reads some objects in order. Each object checks
+// that it is destroyed once, and each reader that it reads an object that exists. At the end each
+// object was destroyed.
 // Without numbers it is short, for c/check; under the sanitizers and valgrind it finds a read or a
 // free of freed memory.
 #include "canary.hpp"
 #include "nm_map.hpp"
 
+#include <array>
 #include <chrono>
 #include <cstdio>
 #include <cstdlib>
@@ -27,12 +29,22 @@ struct Load {
 
 // What the calls of a thread returned.
 struct Counts {
-    std::uint64_t inserts = 0, inserted = 0, full = 0;
+    std::uint64_t puts = 0, swaps = 0, made = 0, inserted = 0, replaced = 0, full = 0;
     std::uint64_t gets = 0, found = 0, removes = 0, removed = 0;
     std::uint64_t pops = 0, popped = 0, passes = 0, passed = 0;
 
+    // Makes an object of a key.
+    std::unique_ptr<Canary> object(std::uint64_t key) {
+        made++;
+        return std::make_unique<Canary>(key);
+    }
+
+    // Counts a call that gave a key an object; `old` is the one that it replaced, or null.
+    void given(const Canary *old) { (old == nullptr ? inserted : replaced)++; }
+
     Counts &operator+=(const Counts &other) {
-        inserts += other.inserts, inserted += other.inserted;
+        puts += other.puts, swaps += other.swaps, made += other.made;
+        inserted += other.inserted, replaced += other.replaced;
         gets += other.gets, found += other.found;
         removes += other.removes, removed += other.removed;
         pops += other.pops, popped += other.popped;
@@ -41,13 +53,17 @@ struct Counts {
         return *this;
     }
 
-    [[nodiscard]] std::uint64_t calls() const { return inserts + gets + removes + pops + passes; }
+    [[nodiscard]] std::uint64_t calls() const {
+        return puts + swaps + gets + removes + pops + passes;
+    }
     [[nodiscard]] std::uint64_t left() const { return inserted - removed - popped; }
 };
 
+constexpr std::chrono::seconds longest{60};  // for a worker, which is free
+
 // What a thread has of the map.
 struct Workers {
-    explicit Workers(Objects &map) : reader(map.attach()), worker(map.attach()) {}
+    explicit Workers(Objects &map) : reader(map.attach(longest)), worker(map.attach(longest)) {}
 
     Objects::Worker reader, worker;
 };
@@ -65,20 +81,70 @@ void get(Workers &by, std::uint64_t key, Counts &counts) {
     CHECK(found->is_of(key));
 }
 
-// Inserts an object, or by every second call also puts it in place of another one. If other threads
-// hold back all nodes for its time, the object remains.
-void insert(Objects::Worker &worker, std::uint64_t key, Counts &counts) {
-    auto object = std::make_unique<Canary>(key);
-    bool is_put = counts.inserts++ % 2 == 0;
+// Makes a call that gives a key an object. If other threads hold back all nodes for its time, it gives
+// none.
+template <typename Give>
+void unless_full(Counts &counts, Give give) {
     try {
-        bool inserted = is_put ? worker.insert_or_assign(key, std::move(object))
-                               : worker.insert(key, std::move(object));
-        CHECK((is_put || inserted) == (object == nullptr));
-        counts.inserted += inserted;
+        give();
     } catch (const nm::Fault &fault) {
-        CHECK(fault.outcome() == NM_FULL && object->is_of(key));
+        CHECK(fault.outcome() == NM_FULL);
         counts.full++;
     }
+}
+
+// Gives a key an object by one of three calls. The map takes the object, or it remains.
+void put(Objects::Worker &worker, std::uint64_t key, Counts &counts) {
+    auto object = counts.object(key);
+    bool inserted = false, replaced = false;
+    unless_full(counts, [&] {
+        switch (counts.puts++ % 3) {
+        case 0: inserted = worker.insert(key, std::move(object)); break;
+        case 1:
+            inserted = worker.insert_or_assign(key, std::move(object));
+            replaced = !inserted;
+            break;
+        default: replaced = worker.replace(key, std::move(object));
+        }
+    });
+    counts.inserted += inserted, counts.replaced += replaced;
+    CHECK((inserted || replaced) ? object == nullptr : object->is_of(key));
+}
+
+// Gives a key an object, and reads the one that the key had.
+void exchange(nm::GuardedWorker<Canary> calls, std::uint64_t key, Counts &counts) {
+    const Canary *old = calls.exchange(key, counts.object(key));
+    counts.given(old);
+    CHECK(old == nullptr || old->is_of(key));
+}
+
+// Gives a key an object in place of the one that it found, or of none.
+void compare_exchange(nm::GuardedWorker<Canary> calls, std::uint64_t key, Counts &counts) {
+    Canary *expected = calls.get(key);
+    auto object = counts.object(key);
+    bool is_taken = calls.compare_exchange(key, expected, std::move(object));
+    if (is_taken) counts.given(expected);
+    CHECK(is_taken == (object == nullptr) && (expected == nullptr || expected->is_of(key)));
+}
+
+// Gives a key an object that is made while the one that the key has can be read.
+void update(nm::GuardedWorker<Canary> calls, std::uint64_t key, Counts &counts) {
+    const Canary *old = nullptr;
+    const Canary *made = calls.update(key, [&](const Canary *found) {
+        CHECK(found == nullptr || found->is_of(key));
+        old = found;
+        return counts.object(key);
+    });
+    counts.given(old);
+    CHECK(made->is_of(key) && (old == nullptr || old->is_of(key)));
+}
+
+// Gives a key an object by one of three calls, under a guard of the reader.
+void swap(Workers &by, std::uint64_t key, Counts &counts) {
+    auto guard = by.reader.pin();
+    auto calls = by.worker.under(guard);
+    auto give = std::array{exchange, compare_exchange, update}[counts.swaps++ % 3];
+    unless_full(counts, [&] { give(calls, key, counts); });
 }
 
 // Pops the least object below a key, or the greatest from it on, or none if other threads take each
@@ -128,7 +194,8 @@ void work(Objects &map, const Load &load, unsigned seed, Counts &all) {
             counts.removes++, counts.removed += by.worker.remove(key);
             break;
         case 9: case 10: case 11: case 12: case 13: case 14: case 15: get(by, key, counts); break;
-        default: insert(by.worker, key, counts);
+        case 16: case 17: case 18: swap(by, key, counts); break;
+        default: put(by.worker, key, counts);
         }
     }
     all += counts;
@@ -137,7 +204,10 @@ void work(Objects &map, const Load &load, unsigned seed, Counts &all) {
 // Runs the threads, each of which adds to counts of its own; returns their sum.
 Counts run(const Load &load) {
     std::uint64_t nodes = 4 * load.keys + 256 * load.threads;
-    Objects map(nodes, 2 * load.threads + 1);
+    nm::MapOptions options;
+    options.workers = 2 * load.threads + 1;
+    options.timeout_ms = 1;  // a guard holds back the nodes for which its own thread waits
+    Objects map(nodes, options);
     std::vector<Counts> each(load.threads);
     std::vector<std::thread> running;
     for (unsigned number = 0; number < load.threads; number++)
@@ -153,14 +223,15 @@ Counts run(const Load &load) {
 void report(const Load &load, const Counts &all, double seconds) {
     auto number = [](std::uint64_t count) { return static_cast<unsigned long long>(count); };
     std::printf("%u threads made %llu calls in %.1f seconds:\n"
-                "%llu inserts, of which %llu inserted and %llu found no nodes in time\n"
+                "%llu puts and %llu swaps, of which %llu inserted, %llu replaced and %llu found no "
+                "nodes in time\n"
                 "%llu gets, of which %llu found an object\n%llu removes, of which %llu removed\n"
                 "%llu pops, of which %llu removed\n%llu passes, which read %llu objects\n"
                 "%llu objects were made, and %llu destroyed\n",
-                load.threads, number(all.calls()), seconds, number(all.inserts),
-                number(all.inserted), number(all.full), number(all.gets), number(all.found),
-                number(all.removes), number(all.removed), number(all.pops), number(all.popped),
-                number(all.passes), number(all.passed), number(Canary::made),
+                load.threads, number(all.calls()), seconds, number(all.puts), number(all.swaps),
+                number(all.inserted), number(all.replaced), number(all.full), number(all.gets),
+                number(all.found), number(all.removes), number(all.removed), number(all.pops),
+                number(all.popped), number(all.passes), number(all.passed), number(Canary::made),
                 number(Canary::destroyed));
 }
 
@@ -176,6 +247,7 @@ int main(int count, char **words) {
     Counts all = run(load);
     std::chrono::duration<double> took = Clock::now() - begin;
     report(load, all, took.count());
-    CHECK(Canary::made == all.inserts && Canary::alive() == 0);
-    CHECK(all.inserted > 0 && all.found > 0 && all.removed > 0 && all.popped > 0 && all.passed > 0);
+    CHECK(Canary::made == all.made && Canary::alive() == 0);
+    CHECK(all.inserted > 0 && all.replaced > 0 && all.found > 0 && all.removed > 0);
+    CHECK(all.popped > 0 && all.passed > 0);
 }

@@ -1,21 +1,27 @@
 #!/usr/bin/env python3
 """c/tools/typed_calls.py cpp|rust: compares the calls of a set and of a map of keys with those of a set and of a
-map of values. Prints each call that the latter lack, except those that are listed here with a reason. The tests
-of Python compare its classes."""
+map of values; and in Rust those of a map with those of a map with values in place. Prints each call that the
+latter lack, except those that are listed here with a reason. The tests of Python compare its classes."""
 import os
 import re
 import sys
 
 os.chdir(os.path.join(os.path.dirname(os.path.realpath(__file__)), "../.."))
 
-# Calls that a set or a map of values does without.
+# Calls that a type does without.
 WITHOUT = {
-    "cpp": {
+    "SetOf": {
         "try_attach": "it attaches into a worker of keys: keys()",
         "try_worker": "the same",
         "try_contains_many": "it writes into look-ups of keys: contains_many, or keys()",
     },
-    "rust": {},
+    "WorkerOf": {"try_contains_many": "the same"},
+    "CopyMapWorker": {
+        "pin": "a copy of a value needs no guard",
+        "under": "the same",
+        "epoch": "the same",
+        "take": "remove returns the value",
+    },
 }
 CPP = r"^    (?=\S)(?:template .*\n    )?(?:\[\[nodiscard\]\] |static |explicit )*[\w:<>, &]+?(?: |\n    )[&*]?(\w+)\([^;{]*?[{]"
 
@@ -41,6 +47,12 @@ COMPARED = {
         (15, [("map_order.rs", "GuardedWorker"), ("map_puts.rs", "GuardedWorker")],
          [("typed_map.rs", "GuardedWorkerOf")]),
         (3, [("map.rs", "Guard")], [("typed_map.rs", "GuardOf")]),
+        (9, [("map.rs", "Map")], [("copy_map.rs", "CopyMap")]),
+        (40, [("map.rs", "MapWorker"), ("map_order.rs", "MapWorker"), ("map_puts.rs", "MapWorker"),
+              ("map_order.rs", "GuardedWorker"), ("map_puts.rs", "GuardedWorker"), ("map.rs", "Guard")],
+         [("copy_map.rs", "CopyMapWorker")]),
+        (9, [("copy_map.rs", "CopyMap")], [("typed_copy_map.rs", "CopyMapOf")]),
+        (35, [("copy_map.rs", "CopyMapWorker")], [("typed_copy_map.rs", "CopyMapWorkerOf")]),
     ],
 }
 
@@ -76,7 +88,7 @@ def main():
     language, is_wrong = sys.argv[1], False
     for least, keys, values in COMPARED[language]:
         wanted = calls(language, keys)
-        lacks = sorted(wanted - calls(language, values) - WITHOUT[language].keys())
+        lacks = sorted(wanted - calls(language, values) - WITHOUT.get(values[-1][-1], {}).keys())
         if len(wanted) < least:
             lacks.append(f"only {len(wanted)} calls are found")
         for each in lacks:

@@ -10,3 +10,8 @@ pub(crate) fn checked(key: u64) -> Result<u64, Fault> {
     }
     Ok(key)
 }
+
+/// Returns `Key` with the first of these numbers that is no key.
+pub(crate) fn all_checked(keys: &[u64]) -> Result<(), Fault> {
+    keys.iter().try_for_each(|&key| checked(key).map(|_| ()))
+}

@@ -1,28 +1,15 @@
 //! Maps, which own a value of each key.
 
-use crate::fault::{answer, Fault};
-use crate::ffi::map::{collect_after, Change, MapHandle, Pinned, WorkerHandle};
-use crate::ffi::{CallOptions, Outcome};
-use crate::key::checked;
+use crate::fault::Fault;
+use crate::ffi::map::{Boxed, Pinned, WorkerHandle};
+use crate::key::{all_checked, checked};
+use crate::map_place::{extend_by, fill, managed, MapPlace};
 use crate::options::Options;
-use crate::place::millis;
-use std::collections::BTreeMap;
 use std::fmt;
 use std::time::Duration;
 
-/// The outcomes of an attach and of the making of a map that have numbers, and others that mean
-/// something of their own.
-const NODES: Outcome = -6;
-const WORKERS: Outcome = -7;
-const BUSY: Outcome = -9;
-const FULL: Outcome = -10;
-const PENDING: Outcome = -12;
-const NO_WORKER: Outcome = -23;
-
-/// In place of the number of a worker: none.
-const NOBODY: u32 = u32::MAX;
-
-/// A concurrent ordered map from the integers 0 to 2^64 - 4 to values of a type.
+/// A concurrent ordered map from the integers 0 to 2^64 - 4 to values of a type. If the values are
+/// numbers, take a [`CopyMap`](crate::CopyMap), whose calls return copies without a guard.
 ///
 /// Threads share it by reference, and each attaches a [`MapWorker`] of its own. A reader gets a
 /// reference to a value under a [`Guard`], and by a second worker it goes over values in order and
@@ -62,9 +49,7 @@ const NOBODY: u32 = u32::MAX;
 /// worker.insert(5, text.as_str()).unwrap();
 /// ```
 pub struct Map<V> {
-    handle: MapHandle<V>,
-    nodes: u32,
-    workers: u32,
+    place: MapPlace<Boxed<V>>,
 }
 
 /// Why a key was not inserted. Each has the value, which the map does not have.
@@ -102,7 +87,7 @@ pub struct Reclaimed {
 /// Its calls in order return keys. [`under`](MapWorker::under) makes the same calls with references
 /// to the values, under the guard of another worker.
 pub struct MapWorker<'a, V> {
-    pub(crate) handle: WorkerHandle<'a, V>,
+    pub(crate) handle: WorkerHandle<'a, Boxed<V>>,
 }
 
 /// A pin of a worker, which ends when this guard is dropped: see [`MapWorker::pin`].
@@ -145,11 +130,8 @@ impl<V> Map<V> {
     ///
     /// Errors: `Nodes`, `Workers`, `NoMemory`.
     pub fn new(nodes: u32, workers: u32) -> Result<Map<V>, Fault> {
-        let options = Options {
-            workers,
-            ..Options::default()
-        };
-        Map::with_options(nodes, options)
+        let place = MapPlace::new(nodes, workers)?;
+        Ok(Map { place })
     }
 
     /// Makes an empty map by options: see [`Map::new`]. A map is a radix tree: `shape` has no
@@ -157,24 +139,8 @@ impl<V> Map<V> {
     ///
     /// Errors: `Nodes`, `Workers`, `NoMemory`.
     pub fn with_options(nodes: u32, options: Options) -> Result<Map<V>, Fault> {
-        let workers = options.workers;
-        let bounds = CallOptions {
-            tries: options.tries,
-            rounds: options.rounds,
-            collect_after: options
-                .collect_after
-                .unwrap_or_else(|| collect_after(nodes, workers)),
-        };
-        match MapHandle::new(nodes, workers, bounds, options.timeout_ms) {
-            Ok(handle) => Ok(Map {
-                handle,
-                nodes,
-                workers,
-            }),
-            Err(NODES) => Err(Fault::Nodes(nodes.into())),
-            Err(WORKERS) => Err(Fault::Workers(workers)),
-            Err(outcome) => Err(Fault::of(outcome)),
-        }
+        let place = MapPlace::with_options(nodes, options)?;
+        Ok(Map { place })
     }
 
     /// Makes a map of these keys and values, like [`Map::with_options`]. Of several values for one
@@ -196,12 +162,10 @@ impl<V> Map<V> {
         entries: impl IntoIterator<Item = (u64, V)>,
     ) -> Result<Map<V>, Fault> {
         let map = Map::with_options(nodes, options)?;
-        let entries: BTreeMap<u64, V> = entries.into_iter().collect();
-        let made = map.attach()?.extend(entries);
-        match made {
-            Err(InsertError::Fault(fault, _)) => Err(fault),
-            _ => Ok(map),
-        }
+        let mut worker = map.attach()?;
+        fill(entries, |entries| worker.extend(entries))?;
+        drop(worker);
+        Ok(map)
     }
 
     /// Attaches a worker to this thread: one that was dropped, or else the least number. While each
@@ -211,24 +175,16 @@ impl<V> Map<V> {
     ///
     /// Errors: `NoWorker`, `NoMemory`.
     pub fn attach(&self) -> Result<MapWorker<'_, V>, Fault> {
-        self.attached(self.handle.timeout_ms())
+        let handle = self.place.attach()?;
+        Ok(MapWorker { handle })
     }
 
     /// Attaches a worker, after a wait of at most `timeout`.
     ///
     /// Errors: `NoWorker`, `NoMemory`.
     pub fn attach_timeout(&self, timeout: Duration) -> Result<MapWorker<'_, V>, Fault> {
-        self.attached(millis(timeout))
-    }
-
-    fn attached(&self, timeout_ms: u32) -> Result<MapWorker<'_, V>, Fault> {
-        match self.handle.attach(timeout_ms) {
-            Ok(handle) => Ok(MapWorker { handle }),
-            Err(NO_WORKER) => Err(Fault::NoWorker {
-                workers: self.workers,
-            }),
-            Err(outcome) => Err(Fault::of(outcome)),
-        }
+        let handle = self.place.attach_timeout(timeout)?;
+        Ok(MapWorker { handle })
     }
 
     /// Returns the number of keys: it adds up one count for each worker, and waits for nothing. It
@@ -237,8 +193,7 @@ impl<V> Map<V> {
     ///
     /// Errors: `Forked`.
     pub fn len(&self) -> Result<usize, Fault> {
-        let keys = self.handle.keys().map_err(Fault::of)?;
-        Ok(usize::try_from(keys).unwrap_or(usize::MAX))
+        self.place.len()
     }
 
     /// Returns the number of nodes that wait to be freed, with all workers: two for each removed key,
@@ -247,7 +202,7 @@ impl<V> Map<V> {
     ///
     /// Errors: `Forked`.
     pub fn waiting(&self) -> Result<u64, Fault> {
-        self.handle.waiting().map_err(Fault::of)
+        self.place.waiting()
     }
 
     /// Returns whether [`len`](Map::len) is 0.
@@ -259,51 +214,18 @@ impl<V> Map<V> {
 
     /// Returns the number of nodes for which it has room.
     pub fn nodes(&self) -> u32 {
-        self.nodes
+        self.place.nodes()
     }
 
     /// Returns how many keys it can have if no removed node waits: (nodes - 5) / 2.
     pub fn capacity(&self) -> usize {
-        (self.nodes as usize - 5) / 2
+        self.place.capacity()
     }
 
     /// Returns how many workers it has.
     pub fn workers(&self) -> u32 {
-        self.workers
+        self.place.workers()
     }
-}
-
-/// Returns whether the answer is not no, or the fault of an error of a managed call.
-pub(crate) fn managed(outcome: Outcome) -> Result<bool, Fault> {
-    match outcome {
-        BUSY | PENDING => Err(Fault::Contention),
-        _ => answer(outcome),
-    }
-}
-
-/// Returns the fault of a worker's call that has not given a key a value, or None if the outcome is an
-/// answer.
-pub(crate) fn fault_of<V>(worker: &mut WorkerHandle<'_, V>, outcome: Outcome) -> Option<Fault> {
-    match outcome {
-        FULL => Some(Fault::MapFull(worker.fullness().into())),
-        _ => managed(outcome).err(),
-    }
-}
-
-/// Inserts entries by a call for one; returns how many keys were absent.
-pub(crate) fn extend_by<K, V>(
-    entries: impl IntoIterator<Item = (K, V)>,
-    mut insert: impl FnMut(K, V) -> Result<(), InsertError<V>>,
-) -> Result<usize, InsertError<V>> {
-    let mut added = 0;
-    for (key, value) in entries {
-        match insert(key, value) {
-            Ok(()) => added += 1,
-            Err(InsertError::Present(_)) => {}
-            Err(error) => return Err(error),
-        }
-    }
-    Ok(added)
 }
 
 impl<'a, V> MapWorker<'a, V> {
@@ -317,20 +239,9 @@ impl<'a, V> MapWorker<'a, V> {
     /// Errors: `Present`. `Fault` with `Key`, `MapFull` (no nodes became free), `Contention`,
     /// `NoMemory`, `Pinned`.
     pub fn insert(&mut self, key: u64, value: V) -> Result<(), InsertError<V>> {
-        let key = match checked(key) {
-            Ok(key) => key,
-            Err(fault) => return Err(InsertError::Fault(fault, value)),
-        };
-        let (outcome, left) = self
-            .handle
-            .give(key, Change::Insert, Box::new(value), &mut 0);
-        match left {
-            None => Ok(()),
-            Some(value) => Err(match fault_of(&mut self.handle, outcome) {
-                None => InsertError::Present(*value),
-                Some(fault) => InsertError::Fault(fault, *value),
-            }),
-        }
+        self.handle
+            .insert(key, Box::new(value))
+            .map_err(|error| error.map(|value| *value))
     }
 
     /// Inserts these keys with their values, one by one; returns how many were absent. A key that
@@ -355,16 +266,14 @@ impl<'a, V> MapWorker<'a, V> {
     /// this call and no other. It is found until this worker's next call. So remove it again: after
     /// false it is gone.
     pub fn remove(&mut self, key: u64) -> Result<bool, Fault> {
-        let key = checked(key)?;
-        managed(self.handle.remove(key))
+        managed(self.handle.take(checked(key)?).0)
     }
 
     /// Returns whether the map has the key.
     ///
     /// Errors: `Key`, `Contention`, `Pinned`.
     pub fn contains(&mut self, key: u64) -> Result<bool, Fault> {
-        let key = checked(key)?;
-        managed(self.handle.contains(key))
+        self.handle.contains(key)
     }
 
     /// Pins the worker until the guard is dropped: no value that the guard returns is dropped
@@ -383,10 +292,7 @@ impl<'a, V> MapWorker<'a, V> {
     ///
     /// Errors: none is known.
     pub fn reclaim(&mut self) -> Result<Reclaimed, Fault> {
-        let (outcome, values, behind) = self.handle.reclaim();
-        answer(outcome)?;
-        let behind = (behind != NOBODY).then_some(behind);
-        Ok(Reclaimed { values, behind })
+        self.handle.reclaimed()
     }
 
     /// Returns the number of nodes that wait with this worker: two for each removed key, and one for
@@ -397,9 +303,7 @@ impl<'a, V> MapWorker<'a, V> {
 
     /// Returns the key of an unfinished remove, or None. The worker's next call finishes it first.
     pub fn pending(&mut self) -> Result<Option<u64>, Fault> {
-        let mut key = 0;
-        let is_pending = managed(self.handle.pending(&mut key))?;
-        Ok(is_pending.then_some(key))
+        self.handle.pending_key()
     }
 
     /// Returns its number, which is below the number of workers.
@@ -424,9 +328,7 @@ impl<V> Guard<'_, '_, V> {
     ///
     /// Errors: `Key`.
     pub fn get_many(&self, keys: &[u64]) -> Result<Vec<Option<&V>>, Fault> {
-        for &key in keys {
-            checked(key)?;
-        }
+        all_checked(keys)?;
         let (outcome, found) = self.pinned.get_many(keys);
         managed(outcome).map(|_| found)
     }
@@ -442,6 +344,14 @@ impl<V> InsertError<V> {
     pub fn into_value(self) -> V {
         match self {
             InsertError::Present(value) | InsertError::Fault(_, value) => value,
+        }
+    }
+
+    /// Returns the error with what a function makes of the value.
+    pub(crate) fn map<T>(self, make: impl FnOnce(V) -> T) -> InsertError<T> {
+        match self {
+            InsertError::Present(value) => InsertError::Present(make(value)),
+            InsertError::Fault(fault, value) => InsertError::Fault(fault, make(value)),
         }
     }
 
@@ -478,16 +388,7 @@ impl<V> fmt::Debug for Map<V> {
     /// Writes how many keys it has and can have, its nodes and its workers. It shows no key, because
     /// a value may lack `Debug`. It takes no worker.
     fn fmt(&self, f: &mut fmt::Formatter<'_>) -> fmt::Result {
-        let mut shown = f.debug_struct("Map");
-        match self.len() {
-            Ok(keys) => shown.field("keys", &keys),
-            Err(fault) => shown.field("keys", &format_args!("{fault}")),
-        };
-        shown
-            .field("capacity", &self.capacity())
-            .field("nodes", &self.nodes)
-            .field("workers", &self.workers)
-            .finish_non_exhaustive()
+        self.place.show("Map", f)
     }
 }
 

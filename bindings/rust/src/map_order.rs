@@ -6,9 +6,9 @@ use crate::ffi::map::guarded::Guarded;
 use crate::ffi::map::Entry;
 use crate::ffi::{Order, Outcome};
 use crate::key::checked;
-use crate::map::{managed, Guard, Map, MapWorker};
-use crate::options::Options;
-use crate::order::{self, ends_of, retain, Calls, Range, Scanned, Scans};
+use crate::map::{Guard, Map, MapWorker};
+use crate::map_place::{collected, found, managed};
+use crate::order::{self, retain, Calls, Range, Scanned, Scans};
 use crate::place::millis;
 use crate::MOST_KEY;
 use std::collections::BTreeMap;
@@ -18,12 +18,6 @@ use std::time::Duration;
 
 /// The outcome of a remove that is not finished.
 const UNFINISHED: Outcome = -11;
-
-/// The most nodes of a map.
-const MOST_NODES: usize = 268_435_456;
-
-/// How many nodes a map has at least that is made of keys without a number of nodes.
-const LEAST_NODES: usize = 4_096;
 
 /// A worker whose calls return references to values, under the guard of another worker of the same
 /// map: see [`MapWorker::under`]. A reference exists until that guard is dropped, also if the key
@@ -62,13 +56,19 @@ fn key_of_pop((outcome, entry): (Outcome, Entry)) -> Result<Option<u64>, Fault> 
     }
 }
 
-/// Returns what a call has found, or the fault of an error.
-fn found<T>((outcome, found): (Outcome, Option<T>)) -> Result<Option<T>, Fault> {
-    managed(outcome).map(|_| found)
+/// Returns what a remove has taken, also if it is unfinished: this call will remove the key, and no
+/// other call will.
+pub(crate) fn taken<T>((outcome, taken): (Outcome, Option<T>)) -> Result<Option<T>, Fault> {
+    match outcome {
+        UNFINISHED => Ok(taken),
+        _ => found((outcome, taken)),
+    }
 }
 
 /// Returns what a scan has read, and where the next one goes on.
-fn scanned<E>((outcome, entries, next): (Outcome, Vec<E>, u64)) -> Result<Scanned<E>, Fault> {
+pub(crate) fn scanned<E>(
+    (outcome, entries, next): (Outcome, Vec<E>, u64),
+) -> Result<Scanned<E>, Fault> {
     let next = managed(outcome)?.then_some(next);
     Ok(Scanned { entries, next })
 }
@@ -265,11 +265,7 @@ impl<'a, V> MapWorker<'a, V> {
     /// It panics if the start of the range is after its end: see [`Set::range`](crate::Set::range).
     #[track_caller]
     pub fn count(&mut self, bounds: impl RangeBounds<u64>) -> Result<u64, Fault> {
-        let Some(ends) = ends_of(bounds) else {
-            return Ok(0);
-        };
-        let (outcome, count) = self.handle.count(ends);
-        managed(outcome).map(|_| count)
+        self.handle.count_of(bounds)
     }
 }
 
@@ -350,10 +346,7 @@ impl<'w, 'a, 'g, V> GuardedWorker<'w, 'a, 'g, V> {
     ///
     /// Errors: `Key`, `Contention`, `NoMemory`, `Pinned`.
     pub fn take(&mut self, key: u64) -> Result<Option<&'g V>, Fault> {
-        match self.handle.take(checked(key)?) {
-            (UNFINISHED, taken) => Ok(taken),
-            taken => found(taken),
-        }
+        taken(self.handle.take(checked(key)?))
     }
 
     /// Returns an iterator over the keys of a range with their values, in both directions. It takes
@@ -501,13 +494,7 @@ impl<V> FromIterator<(u64, V)> for Map<V> {
     /// It panics if a key is above [`MOST_KEY`](crate::MOST_KEY), or if memory is refused.
     /// [`Map::from_entries`] returns a fault instead.
     fn from_iter<I: IntoIterator<Item = (u64, V)>>(entries: I) -> Map<V> {
-        let entries: Vec<(u64, V)> = entries.into_iter().collect();
-        let nodes = entries
-            .len()
-            .saturating_mul(4)
-            .clamp(LEAST_NODES, MOST_NODES);
-        Map::from_entries(nodes as u32, Options::default(), entries)
-            .unwrap_or_else(|fault| panic!("{fault}"))
+        collected(entries, Map::from_entries)
     }
 }
 

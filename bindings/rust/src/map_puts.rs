@@ -2,12 +2,12 @@
 //! of another one, which return references to values.
 
 use crate::fault::Fault;
-use crate::ffi::map::guarded::Given;
-use crate::ffi::map::{Change, WorkerHandle};
+use crate::ffi::map::{word_of, Change, Given};
 use crate::ffi::Outcome;
 use crate::key::checked;
-use crate::map::{fault_of, MapWorker};
+use crate::map::MapWorker;
 use crate::map_order::GuardedWorker;
+use crate::map_place::found;
 use std::fmt;
 
 /// The outcomes of a call that gives the map a value.
@@ -28,14 +28,22 @@ pub enum PutError<V> {
 }
 
 impl<V> PutError<V> {
-    fn of(worker: &mut WorkerHandle<'_, V>, outcome: Outcome, value: V) -> PutError<V> {
-        match outcome {
-            ABSENT => PutError::Absent(value),
-            OTHER => PutError::Other(value),
-            _ => PutError::Fault(
-                fault_of(worker, outcome).unwrap_or(Fault::Other(outcome)),
-                value,
-            ),
+    /// Returns why a call has not given a key a value: by its fault, or by its outcome.
+    fn of(fault: Option<Fault>, outcome: Outcome, value: V) -> PutError<V> {
+        match (fault, outcome) {
+            (Some(fault), _) => PutError::Fault(fault, value),
+            (None, ABSENT) => PutError::Absent(value),
+            (None, OTHER) => PutError::Other(value),
+            (None, _) => PutError::Fault(Fault::Other(outcome), value),
+        }
+    }
+
+    /// Returns the error with what a function makes of the value.
+    pub(crate) fn map<T>(self, make: impl FnOnce(V) -> T) -> PutError<T> {
+        match self {
+            PutError::Absent(value) => PutError::Absent(make(value)),
+            PutError::Other(value) => PutError::Other(make(value)),
+            PutError::Fault(fault, value) => PutError::Fault(fault, make(value)),
         }
     }
 
@@ -108,15 +116,135 @@ impl<V> MapWorker<'_, V> {
     }
 
     /// Gives a key a value; returns the outcome of a call that did.
-    fn give(&mut self, key: u64, change: Change<'_, V>, value: V) -> Result<Outcome, PutError<V>> {
+    fn give(&mut self, key: u64, change: Change, value: V) -> Result<Outcome, PutError<V>> {
         let key = match checked(key) {
             Ok(key) => key,
             Err(fault) => return Err(PutError::Fault(fault, value)),
         };
         match self.handle.give(key, change, Box::new(value), &mut 0) {
             (outcome, None) => Ok(outcome),
-            (outcome, Some(value)) => Err(PutError::of(&mut self.handle, outcome, *value)),
+            (outcome, Some(value)) => {
+                Err(PutError::of(self.handle.fault_of(outcome), outcome, *value))
+            }
         }
+    }
+}
+
+/// A worker that finds the values of keys, and gives keys values: under a guard, or in place.
+pub(crate) trait Gives {
+    /// What a call gives the map.
+    type Owned;
+    /// What a call returns for the value of a key.
+    type Found: Copy;
+
+    /// Returns the value of a key.
+    fn find(&mut self, key: u64) -> (Outcome, Option<Self::Found>);
+
+    /// Gives a key a value.
+    fn give(
+        &mut self,
+        key: u64,
+        change: Change,
+        value: Self::Owned,
+    ) -> Given<Self::Found, Self::Owned>;
+
+    /// Returns the word of a value that it has found.
+    fn word(found: Self::Found) -> u64;
+
+    /// Returns the fault of a call that has not given a key a value, or None if the key or its value is
+    /// in the way.
+    fn fault_of(&mut self, outcome: Outcome) -> Option<Fault>;
+}
+
+/// Gives a key a value; returns the value that it had, if it had one.
+pub(crate) fn give<G: Gives>(
+    calls: &mut G,
+    key: u64,
+    change: Change,
+    value: G::Owned,
+) -> Result<Option<G::Found>, PutError<G::Owned>> {
+    let key = match checked(key) {
+        Ok(key) => key,
+        Err(fault) => return Err(PutError::Fault(fault, value)),
+    };
+    let given = calls.give(key, change, value);
+    match given.new {
+        Ok(_) => Ok(given.old),
+        Err(value) => {
+            let fault = calls.fault_of(given.outcome);
+            Err(PutError::of(fault, given.outcome, value))
+        }
+    }
+}
+
+/// Gives a key what a function makes of its value; returns the new value.
+pub(crate) fn update<G: Gives>(
+    calls: &mut G,
+    key: u64,
+    mut make: impl FnMut(Option<G::Found>) -> G::Owned,
+) -> Result<G::Found, Fault> {
+    let key = checked(key)?;
+    let mut now = found(calls.find(key))?;
+    loop {
+        let change = now.map_or(Change::Insert, |old| Change::Compare(G::word(old)));
+        let given = calls.give(key, change, make(now));
+        if let Ok(new) = given.new {
+            return Ok(new);
+        }
+        if let Some(fault) = calls.fault_of(given.outcome) {
+            return Err(fault);
+        }
+        now = match given.old {
+            None => found(calls.find(key))?,
+            other => other,
+        };
+    }
+}
+
+/// Returns the value of a key, after an insert of what a function makes if the key is absent.
+pub(crate) fn get_or_insert_with<G: Gives>(
+    calls: &mut G,
+    key: u64,
+    make: impl FnOnce() -> G::Owned,
+) -> Result<G::Found, Fault> {
+    let key = checked(key)?;
+    if let Some(value) = found(calls.find(key))? {
+        return Ok(value);
+    }
+    let mut new = make();
+    loop {
+        let given = calls.give(key, Change::Insert, new);
+        new = match given.new {
+            Ok(value) => return Ok(value),
+            Err(left) => left,
+        };
+        if let Some(fault) = calls.fault_of(given.outcome) {
+            return Err(fault);
+        }
+        if let Some(value) = found(calls.find(key))? {
+            return Ok(value);
+        }
+    }
+}
+
+impl<'g, V> Gives for GuardedWorker<'_, '_, 'g, V> {
+    type Owned = Box<V>;
+    type Found = &'g V;
+
+    fn find(&mut self, key: u64) -> (Outcome, Option<&'g V>) {
+        self.handle.get(key)
+    }
+
+    fn give(&mut self, key: u64, change: Change, value: Box<V>) -> Given<&'g V, Box<V>> {
+        self.handle.give(key, change, value)
+    }
+
+    fn word(found: &'g V) -> u64 {
+        word_of(found)
+    }
+
+    fn fault_of(&mut self, outcome: Outcome) -> Option<Fault> {
+        self.handle.worker().fault_of(outcome)
     }
 }
 
@@ -142,15 +270,15 @@ impl<'g, V> GuardedWorker<'_, '_, 'g, V> {
     /// # }
     /// ```
     pub fn put(&mut self, key: u64, value: V) -> Result<Option<&'g V>, PutError<V>> {
-        self.give(key, Change::Put, value).map(|given| given.old)
+        self.given(key, Change::Put, value)
     }
 
     /// Replaces the value that a key has, in the same way, and returns that value.
     ///
     /// Errors: `Absent`, and those of [`put`](GuardedWorker::put).
     pub fn replace(&mut self, key: u64, value: V) -> Result<&'g V, PutError<V>> {
-        let given = self.give(key, Change::Replace, value)?;
-        Ok(given.old.expect("a replaced value is written"))
+        let old = self.given(key, Change::Replace, value)?;
+        Ok(old.expect("a replaced value is written"))
     }
 
     /// Replaces the value that a key has, in the same way, if it is the expected one: the same
@@ -159,7 +287,8 @@ impl<'g, V> GuardedWorker<'_, '_, 'g, V> {
     /// Errors: `Absent`; `Other`, if the key has another value; and those of
     /// [`put`](GuardedWorker::put).
     pub fn compare_replace(&mut self, key: u64, expected: &V, value: V) -> Result<(), PutError<V>> {
-        self.give(key, Change::Compare(expected), value).map(|_| ())
+        let change = Change::Compare(word_of(expected));
+        self.given(key, change, value).map(|_| ())
     }
 
     /// Removes a key if it has the expected value, which is compared as by
@@ -187,19 +316,7 @@ impl<'g, V> GuardedWorker<'_, '_, 'g, V> {
         key: u64,
         mut make: impl FnMut(Option<&V>) -> V,
     ) -> Result<&'g V, Fault> {
-        let mut found = self.get(key)?;
-        loop {
-            let change = found.map_or(Change::Insert, |old| Change::Compare(old));
-            let given = self.handle.give(key, change, Box::new(make(found)));
-            if let Ok(new) = given.new {
-                return Ok(new);
-            }
-            self.check(given.outcome)?;
-            found = match given.old {
-                None => self.get(key)?,
-                other => other,
-            };
-        }
+        update(self, key, |old| Box::new(make(old)))
     }
 
     /// Returns the value of a key, after an insert of the value that a function makes if the key is
@@ -212,47 +329,11 @@ impl<'g, V> GuardedWorker<'_, '_, 'g, V> {
         key: u64,
         make: impl FnOnce() -> V,
     ) -> Result<&'g V, Fault> {
-        if let Some(found) = self.get(key)? {
-            return Ok(found);
-        }
-        let mut value = Box::new(make());
-        loop {
-            let given = self.handle.give(key, Change::Insert, value);
-            value = match given.new {
-                Ok(new) => return Ok(new),
-                Err(left) => left,
-            };
-            self.check(given.outcome)?;
-            if let Some(found) = self.get(key)? {
-                return Ok(found);
-            }
-        }
+        get_or_insert_with(self, key, || Box::new(make()))
     }
 
-    /// Returns the fault of a call that has not given a key a value, if there is one: the key or its
-    /// value may be in the way.
-    fn check(&mut self, outcome: Outcome) -> Result<(), Fault> {
-        fault_of(self.handle.worker(), outcome).map_or(Ok(()), Err)
-    }
-
-    /// Gives a key a value; returns what became of it if the map owns it.
-    fn give(
-        &mut self,
-        key: u64,
-        change: Change<'_, V>,
-        value: V,
-    ) -> Result<Given<'g, V>, PutError<V>> {
-        let key = match checked(key) {
-            Ok(key) => key,
-            Err(fault) => return Err(PutError::Fault(fault, value)),
-        };
-        match self.handle.give(key, change, Box::new(value)) {
-            given @ Given { new: Ok(_), .. } => Ok(given),
-            Given {
-                outcome,
-                new: Err(value),
-                ..
-            } => Err(PutError::of(self.handle.worker(), outcome, *value)),
-        }
+    /// Gives a key a value; returns the value that it had, if it had one.
+    fn given(&mut self, key: u64, change: Change, value: V) -> Result<Option<&'g V>, PutError<V>> {
+        give(self, key, change, Box::new(value)).map_err(|error| error.map(|value| *value))
     }
 }

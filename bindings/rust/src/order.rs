@@ -135,10 +135,10 @@ pub(crate) fn is_equal<E, O>(
 
 /// Removes the keys of a range; returns how many it removed.
 #[track_caller]
-pub(crate) fn remove_range(
-    calls: impl Calls<Entry = u64>,
-    bounds: impl RangeBounds<u64>,
-) -> Result<u64, Fault> {
+pub(crate) fn remove_range<C: Calls>(calls: C, bounds: impl RangeBounds<u64>) -> Result<u64, Fault>
+where
+    C::Entry: Entry<u64>,
+{
     ends_of(bounds).map_or(Ok(0), |ends| remove_each(calls, ends, |_| true))
 }
 

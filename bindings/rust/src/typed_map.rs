@@ -2,8 +2,9 @@
 
 use crate::convert::{show_values, SHOWN};
 use crate::fault::Fault;
-use crate::map::{extend_by, Guard, InsertError, Map, MapWorker, Reclaimed};
+use crate::map::{Guard, InsertError, Map, MapWorker, Reclaimed};
 use crate::map_order::GuardedWorker;
+use crate::map_place::extend_by;
 use crate::map_puts::PutError;
 use crate::options::Options;
 use crate::order::{self, Range, Scanned};
@@ -58,7 +59,7 @@ pub struct GuardedWorkerOf<'w, 'a, 'g, K: Key, V> {
 }
 
 /// Returns entries with the keys of their values.
-fn keyed<K: Key, V>(
+pub(crate) fn keyed<K: Key, V>(
     entries: impl IntoIterator<Item = (K, V)>,
 ) -> impl Iterator<Item = Result<(u64, V), Fault>> {
     entries
@@ -67,7 +68,7 @@ fn keyed<K: Key, V>(
 }
 
 /// Returns a value with the key of its typed one, or the value with the fault of that.
-fn keyed_value<K: Key, V>(key: K, value: V) -> Result<(u64, V), PutError<V>> {
+pub(crate) fn keyed_value<K: Key, V>(key: K, value: V) -> Result<(u64, V), PutError<V>> {
     match key_of(key) {
         Ok(key) => Ok((key, value)),
         Err(fault) => Err(PutError::Fault(fault, value)),
@@ -75,7 +76,9 @@ fn keyed_value<K: Key, V>(key: K, value: V) -> Result<(u64, V), PutError<V>> {
 }
 
 /// Returns the value of the key that a call found.
-fn typed<K: Key, E: Entry<K>>(found: Result<Option<E>, Fault>) -> Result<Option<E::Typed>, Fault> {
+pub(crate) fn typed<K: Key, E: Entry<K>>(
+    found: Result<Option<E>, Fault>,
+) -> Result<Option<E::Typed>, Fault> {
     Ok(found?.map(E::typed))
 }
 
@@ -584,16 +587,26 @@ impl<K: fmt::Debug> fmt::Debug for Keys<K> {
     }
 }
 
+/// Writes the first keys of a map, or the fault of a call for them, and the map of keys.
+pub(crate) fn show_keys<K: fmt::Debug>(
+    name: &str,
+    keys: Result<Vec<K>, Fault>,
+    map: &dyn fmt::Debug,
+    f: &mut fmt::Formatter<'_>,
+) -> fmt::Result {
+    f.debug_struct(name)
+        .field("keys", &Keys(keys))
+        .field("map", map)
+        .finish()
+}
+
 impl<K: Key + fmt::Debug, V> fmt::Debug for MapOf<K, V> {
     /// Writes the first ten keys, and two dots if there are more. It shows no value, because a
     /// value may lack `Debug`. It never waits for a worker: if each is attached, it writes that.
     fn fmt(&self, f: &mut fmt::Formatter<'_>) -> fmt::Result {
         let worker = self.attach_timeout(Duration::ZERO);
         let keys = worker.and_then(|mut worker| worker.iter().take(SHOWN + 1).collect());
-        f.debug_struct("MapOf")
-            .field("keys", &Keys(keys))
-            .field("map", &self.map)
-            .finish()
+        show_keys("MapOf", keys, &self.map, f)
     }
 }
 

@@ -1,7 +1,7 @@
 //! Tests of maps: each value is dropped once, no guard returns a value that was dropped, and what
 //! is refused leaves the caller its value.
 
-use nm_set::{Fault, InsertError, Map, MapWorker, Options};
+use nm_set::{Fault, GuardedWorker, InsertError, Map, MapWorker, Options, PutError};
 use std::panic::{catch_unwind, AssertUnwindSafe};
 use std::sync::atomic::{AtomicU64, Ordering::SeqCst};
 use std::sync::Arc;
@@ -383,20 +383,87 @@ fn read_some(worker: &mut MapWorker<'_, Value>, seed: &mut u64) {
     }
 }
 
+/// Tests the value that a call has replaced, if it has. A call under a guard may find no node, because the
+/// guards of all threads hold them back.
+fn must_be_of(key: u64, replaced: Result<Option<&Value>, PutError<Value>>) {
+    match replaced {
+        Ok(old) => assert!(old.map_or(true, |old| old.is_of(key))),
+        Err(error) => must_be_full(error.fault()),
+    }
+}
+
+fn must_be_full(fault: Option<Fault>) {
+    assert!(matches!(fault, None | Some(Fault::MapFull(_))), "{fault:?}");
+}
+
+/// Gives a key a value under a guard, or pops a key, and reads what the call has taken out. A pop may find
+/// that other threads take each key that it finds.
+fn swap_some(
+    calls: &mut GuardedWorker<'_, '_, '_, Value>,
+    counts: &Arc<Counts>,
+    key: u64,
+    kind: u64,
+) {
+    match kind % 5 {
+        0 => must_be_of(key, calls.put(key, counts.value(key))),
+        1 => must_be_of(key, calls.replace(key, counts.value(key)).map(Some)),
+        2 => {
+            if let Some(old) = calls.get(key).unwrap() {
+                let compared = calls.compare_replace(key, old, counts.value(key));
+                must_be_of(key, compared.map(|()| Some(old)));
+            }
+        }
+        3 => {
+            let updated = calls.update(key, |old| {
+                assert!(old.map_or(true, |old| old.is_of(key)));
+                counts.value(key)
+            });
+            updated.map_or_else(
+                |fault| must_be_full(Some(fault)),
+                |new| assert!(new.is_of(key)),
+            );
+        }
+        _ => match calls.pop_first_below(key) {
+            Ok(popped) => {
+                assert!(popped.map_or(true, |(below, value)| below < key && value.is_of(below)))
+            }
+            Err(fault) => assert_eq!(fault, Fault::Contention),
+        },
+    }
+}
+
+/// Gives a key a value without a guard.
+fn give(worker: &mut MapWorker<'_, Value>, counts: &Arc<Counts>, key: u64, kind: u64) {
+    let value = counts.value(key);
+    must_be_full(match kind % 3 {
+        0 => worker
+            .insert(key, value)
+            .map_or_else(|error| error.fault(), |()| None),
+        1 => worker
+            .put(key, value)
+            .map_or_else(|error| error.fault(), |_| None),
+        _ => worker
+            .replace(key, value)
+            .map_or_else(|error| error.fault(), |()| None),
+    });
+}
+
 fn work(map: &Map<Value>, counts: &Arc<Counts>, calls: u64, mut seed: u64) {
-    let mut worker = map.attach().unwrap();
+    let attached = || map.attach_timeout(Duration::from_secs(60)).unwrap();
+    let (mut reader, mut worker) = (attached(), attached());
     for call in 1..=calls {
-        let key = drawn(&mut seed) % RANGE;
-        match drawn(&mut seed) % 4 {
-            0 => match worker.insert(key, counts.value(key)) {
-                Ok(()) | Err(InsertError::Present(_)) => {}
-                Err(InsertError::Fault(fault, _)) => panic!("{fault}"),
-            },
-            1 => drop(worker.remove(key).unwrap()),
+        let (key, kind) = (drawn(&mut seed) % RANGE, drawn(&mut seed));
+        match drawn(&mut seed) % 8 {
+            0 | 1 => give(&mut worker, counts, key, kind),
+            2 => {
+                let guard = reader.pin().unwrap();
+                swap_some(&mut worker.under(&guard).unwrap(), counts, key, kind);
+            }
+            3 => drop(worker.remove(key).unwrap()),
             _ => read_some(&mut worker, &mut seed),
         }
         if call % 1_000 == 0 {
-            worker = map.attach().unwrap();
+            worker = attached();
         }
     }
 }
@@ -406,7 +473,7 @@ fn no_reader_gets_a_value_that_was_dropped() {
     let threads = number_of("NM_SET_THREADS", 4);
     let calls = number_of("NM_SET_CALLS", 20_000);
     let counts = Arc::new(Counts::default());
-    let map = Map::new(4_096, 2 * threads as u32).unwrap();
+    let map = Map::with_options(4_096, options(3 * threads as u32, 1)).unwrap();
     std::thread::scope(|scope| {
         for number in 1..=threads {
             let (map, counts) = (&map, &counts);

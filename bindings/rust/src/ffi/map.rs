@@ -1,8 +1,9 @@
 //! The functions of `nm_set.h` and `nm_map.h` for maps, and the values of a map: a [`MapHandle`],
 //! its [`WorkerHandle`]s and their [`Pinned`] ones.
 //!
-//! A map has a pointer as the value of each key: that of a box, which the map owns from an insert
-//! that succeeded until the pointer comes back. What makes the `unsafe` here right:
+//! A map has a word of 64 bits under each key ([`Storage`]). That of a map [`InPlace`] is the value
+//! itself, and needs no care. That of a map of [`Boxed`] values is the pointer of a box, which the map
+//! owns from an insert that succeeded until the pointer comes back. What makes the `unsafe` here right:
 //!
 //! - *Each pointer in the map is of a box of this `V`.* Only [`WorkerHandle::give`] puts one in.
 //! - *Each pointer comes back once*, by [`release`], which drops the box.
@@ -31,12 +32,13 @@ use std::ptr::{addr_of_mut, null_mut, NonNull};
 /// Takes a value that came back: `nm_map_release`.
 type Release = unsafe extern "C" fn(context: *mut c_void, value: u64);
 
-/// The outcome yes, those of a call that gives the map a value, and that of each call in a forked
-/// child.
+/// The outcome yes, those of a call that gives the map a value, that of a remove that is not finished,
+/// and that of each call in a forked child.
 const YES: Outcome = 1;
 const INSERTED: Outcome = 3;
 const REPLACED: Outcome = 4;
 const OTHER: Outcome = 6;
+const UNFINISHED: Outcome = -11;
 const FORKED: Outcome = -30;
 
 /// A key with the word of its value: `nm_entry`.
@@ -44,7 +46,7 @@ const FORKED: Outcome = -30;
 #[derive(Clone, Copy, Default)]
 pub(crate) struct Entry {
     pub key: u64,
-    value: u64,
+    pub value: u64,
 }
 
 /// A look-up beside others: `nm_map_lookup`.
@@ -158,6 +160,32 @@ extern "C" {
         count: *mut u64,
         options: *const CallOptions,
     ) -> c_int;
+    fn nm_map_read_entries(
+        worker: *mut Word,
+        from: u64,
+        below: u64,
+        entries: *mut Entry,
+        room: usize,
+        count: *mut usize,
+        next: *mut u64,
+        options: *const CallOptions,
+    ) -> c_int;
+    fn nm_map_read_entries_back(
+        worker: *mut Word,
+        from: u64,
+        below: u64,
+        entries: *mut Entry,
+        room: usize,
+        count: *mut usize,
+        next: *mut u64,
+        options: *const CallOptions,
+    ) -> c_int;
+    fn nm_map_get_many(
+        worker: *mut Word,
+        lookups: *mut Lookup,
+        count: usize,
+        options: *const CallOptions,
+    ) -> c_int;
     fn nm_map_get_many_pinned(worker: *mut Word, lookups: *mut Lookup, count: usize) -> c_int;
     fn nm_map_counts_new(counts: *mut *mut RawCounts, nodes: u32, workers: u32) -> c_int;
     fn nm_map_counts_free(counts: *mut RawCounts);
@@ -261,15 +289,95 @@ extern "C" {
 
 /// What a call does with the value that it gives a key.
 #[derive(Clone, Copy)]
-pub(crate) enum Change<'e, V> {
+pub(crate) enum Change {
     /// It inserts the key if that is absent.
     Insert,
     /// It inserts the key, or replaces its value.
     Put,
     /// It replaces the value of the key if that is present.
     Replace,
-    /// It replaces this value of the key.
-    Compare(&'e V),
+    /// It replaces the value of the key if that has this word.
+    Compare(u64),
+}
+
+/// What became of a value that was given to a key.
+pub(crate) struct Given<F, O> {
+    pub outcome: Outcome,
+    /// The value that the key had, if it was replaced or is another one.
+    pub old: Option<F>,
+    /// The new value if the map owns it, or else what it was given.
+    pub new: Result<F, O>,
+}
+
+impl<F, O> Given<F, O> {
+    /// Returns what became of a value, by what [`WorkerHandle::give`] has returned and written, and the
+    /// word of the new value. A function returns the value of a word that the call has written or
+    /// given.
+    fn of(
+        outcome: Outcome,
+        left: Option<O>,
+        new: u64,
+        old: u64,
+        value: impl Fn(u64) -> F,
+    ) -> Given<F, O> {
+        Given {
+            outcome,
+            old: matches!(outcome, REPLACED | OTHER).then(|| value(old)),
+            new: left.map_or_else(|| Ok(value(new)), Err),
+        }
+    }
+}
+
+/// How a map stores values in words: each in a box, or in place.
+pub(crate) trait Storage {
+    /// What a call gives the map.
+    type Owned;
+
+    /// Returns the word of a value, which the word owns.
+    fn into_word(owned: Self::Owned) -> u64;
+
+    /// Returns the value of a word, which owns it no more.
+    ///
+    /// # Safety
+    ///
+    /// `into_word` has returned the word, which owns a value.
+    unsafe fn from_word(word: u64) -> Self::Owned;
+}
+
+/// Values in boxes. Their words are pointers.
+pub(crate) struct Boxed<V>(PhantomData<V>);
+
+impl<V> Storage for Boxed<V> {
+    type Owned = Box<V>;
+
+    fn into_word(owned: Box<V>) -> u64 {
+        Box::into_raw(owned) as usize as u64
+    }
+
+    unsafe fn from_word(word: u64) -> Box<V> {
+        // SAFETY: by the condition the pointer is of a box, which nothing else owns.
+        unsafe { Box::from_raw(object::<V>(word)) }
+    }
+}
+
+/// Values that are words.
+pub(crate) enum InPlace {}
+
+impl Storage for InPlace {
+    type Owned = u64;
+
+    fn into_word(owned: u64) -> u64 {
+        owned
+    }
+
+    unsafe fn from_word(word: u64) -> u64 {
+        word
+    }
+}
+
+/// Returns the word of a value that a map has in a box.
+pub(crate) fn word_of<V>(value: &V) -> u64 {
+    value as *const V as usize as u64
 }
 
 /// Returns the number of waiting nodes from which the workers of a map collect, if it is not given.
@@ -304,16 +412,11 @@ impl Taken {
 ///
 /// # Safety
 ///
-/// `context` is of a [`Taken`] that nothing else uses meanwhile. The value is a pointer of a
-/// `Box<V>` that the caller hands over.
-unsafe extern "C" fn release<V>(context: *mut c_void, value: u64) {
+/// `context` is of a [`Taken`] that nothing else uses meanwhile. The value is a word of this storage
+/// that the caller hands over.
+unsafe extern "C" fn release<S: Storage>(context: *mut c_void, value: u64) {
     // SAFETY: by the condition.
-    let (taken, value) = unsafe {
-        (
-            &mut *context.cast::<Taken>(),
-            Box::from_raw(object::<V>(value)),
-        )
-    };
+    let (taken, value) = unsafe { (&mut *context.cast::<Taken>(), S::from_word(value)) };
     taken.values += 1;
     match (catch_unwind(AssertUnwindSafe(|| drop(value))), &taken.panic) {
         (Ok(()), _) => {}
@@ -381,34 +484,34 @@ impl Drop for Counts {
 }
 
 /// The handle of a map, which owns a value of each key. Its drop empties the map.
-pub(crate) struct MapHandle<V> {
+pub(crate) struct MapHandle<S: Storage> {
     handle: UnsafeCell<Word>,
     counts: Counts,
     nodes: u32,
     options: CallOptions,
     timeout_ms: u32,
-    // A `V` goes in and out by shared references, so no lifetime in it may grow or shrink.
-    of: PhantomData<fn(V) -> V>,
+    // A value goes in and out by shared references, so no lifetime in it may grow or shrink.
+    of: PhantomData<fn(S) -> S>,
 }
 
 // SAFETY: the library's handle may move between threads. The values are owned, and so move with it.
-unsafe impl<V: Send> Send for MapHandle<V> {}
+unsafe impl<S: Storage> Send for MapHandle<S> where S::Owned: Send {}
 // SAFETY: several threads may attach workers by one handle at the same time. By these a thread gets
 // references to values that other threads inserted (`Sync`), and drops such values (`Send`).
-unsafe impl<V: Send + Sync> Sync for MapHandle<V> {}
+unsafe impl<S: Storage> Sync for MapHandle<S> where S::Owned: Send + Sync {}
 
 // No call of the library unwinds, so that a panic never comes in the middle of one.
-impl<V: RefUnwindSafe> UnwindSafe for MapHandle<V> {}
-impl<V: RefUnwindSafe> RefUnwindSafe for MapHandle<V> {}
+impl<S: Storage> UnwindSafe for MapHandle<S> where S::Owned: RefUnwindSafe {}
+impl<S: Storage> RefUnwindSafe for MapHandle<S> where S::Owned: RefUnwindSafe {}
 
-impl<V> MapHandle<V> {
+impl<S: Storage> MapHandle<S> {
     /// Makes an empty map, or returns the outcome of an error.
     pub(crate) fn new(
         nodes: u32,
         workers: u32,
         options: CallOptions,
         timeout_ms: u32,
-    ) -> Result<MapHandle<V>, Outcome> {
+    ) -> Result<MapHandle<S>, Outcome> {
         let map = MapHandle {
             handle: UnsafeCell::new(Word::closed()),
             counts: Counts::new(nodes, workers)?,
@@ -448,7 +551,7 @@ impl<V> MapHandle<V> {
     }
 
     /// Attaches a worker, one that was returned if there is one, or returns the outcome of an error.
-    pub(crate) fn attach(&self, timeout_ms: u32) -> Result<WorkerHandle<'_, V>, Outcome> {
+    pub(crate) fn attach(&self, timeout_ms: u32) -> Result<WorkerHandle<'_, S>, Outcome> {
         let mut worker = WorkerHandle {
             map: self,
             handle: UnsafeCell::new(Word::closed()),
@@ -468,7 +571,7 @@ impl<V> MapHandle<V> {
     }
 }
 
-impl<V> Drop for MapHandle<V> {
+impl<S: Storage> Drop for MapHandle<S> {
     fn drop(&mut self) {
         // No worker is attached, unless it was forgotten: each has the map borrowed. So only a lack
         // of memory is waited for.
@@ -477,10 +580,10 @@ impl<V> Drop for MapHandle<V> {
             return;
         }
         let mut taken = Taken::default();
-        // SAFETY: the handle is borrowed for these calls. `release` gets boxes of this `V`.
+        // SAFETY: the handle is borrowed for these calls. `release` gets words of this storage.
         taken.by(|context| unsafe {
             nm_map_drop_returned(self.counts.0.as_ptr());
-            nm_map_drain(self.handle.get(), release::<V>, context, LONGEST);
+            nm_map_drain(self.handle.get(), release::<S>, context, LONGEST);
             nm_drop(self.handle.get())
         });
         taken.resume();
@@ -488,8 +591,8 @@ impl<V> Drop for MapHandle<V> {
 }
 
 /// The handle of an attached worker. Its drop returns the worker.
-pub(crate) struct WorkerHandle<'a, V> {
-    map: &'a MapHandle<V>,
+pub(crate) struct WorkerHandle<'a, S: Storage> {
+    map: &'a MapHandle<S>,
     // Calls by a shared reference write it. No two of them run at the same time, because it is not
     // `Sync`.
     handle: UnsafeCell<Word>,
@@ -497,9 +600,9 @@ pub(crate) struct WorkerHandle<'a, V> {
 }
 
 // SAFETY: the library's handle may move between threads. By the map's reference it shares values.
-unsafe impl<V: Send + Sync> Send for WorkerHandle<'_, V> {}
+unsafe impl<S: Storage> Send for WorkerHandle<'_, S> where S::Owned: Send + Sync {}
 
-impl<V> WorkerHandle<'_, V> {
+impl<S: Storage> WorkerHandle<'_, S> {
     /// Makes a call of C with the handle and the options, which exist during the call. In a forked
     /// child it makes none.
     fn by(&self, call: impl FnOnce(*mut Word, *const CallOptions) -> c_int) -> Outcome {
@@ -509,22 +612,21 @@ impl<V> WorkerHandle<'_, V> {
         call(self.handle.get(), &self.map.options)
     }
 
-    /// Gives a key a box. Returns the outcome, and the box unless the map owns it now. Writes the word
-    /// of the value that the key had, if it was replaced or is another one.
+    /// Gives a key a value. Returns the outcome, and the value unless the map owns it now. Writes the
+    /// word of the value that the key had, if it was replaced or is another one.
     pub(crate) fn give(
         &mut self,
         key: u64,
-        change: Change<'_, V>,
-        value: Box<V>,
+        change: Change,
+        value: S::Owned,
         old: &mut u64,
-    ) -> (Outcome, Option<Box<V>>) {
-        let pointer = Box::into_raw(value);
+    ) -> (Outcome, Option<S::Owned>) {
+        let new = S::into_word(value);
         let mut taken = Taken::default();
         let (map, ms) = (self.map.handle.get(), self.map.timeout_ms);
-        let counts = self.map.counts.0.as_ptr();
-        let (new, drop) = (pointer as usize as u64, release::<V> as Release);
+        let (counts, drop) = (self.map.counts.0.as_ptr(), release::<S> as Release);
         // SAFETY: both handles and the counts exist, and `self` and the place are borrowed. `release`
-        // gets boxes of this `V`.
+        // gets words of this storage.
         let outcome = taken.by(|to| {
             self.by(|it, options| unsafe {
                 match change {
@@ -537,19 +639,16 @@ impl<V> WorkerHandle<'_, V> {
                     Change::Replace => {
                         nm_map_wait_replace(map, it, key, new, options, counts, drop, to, old, ms)
                     }
-                    Change::Compare(was) => {
-                        let was = was as *const V as usize as u64;
-                        nm_map_wait_compare_replace(
-                            map, it, key, was, new, options, counts, drop, to, old, ms,
-                        )
-                    }
+                    Change::Compare(was) => nm_map_wait_compare_replace(
+                        map, it, key, was, new, options, counts, drop, to, old, ms,
+                    ),
                 }
             })
         });
         self.map.counts.insert(self.number, outcome);
         let is_owned = matches!(outcome, YES | INSERTED | REPLACED);
-        // SAFETY: after any other outcome the map does not have the pointer.
-        let left = (!is_owned).then(|| unsafe { Box::from_raw(pointer) });
+        // SAFETY: after any other outcome the map does not have the word.
+        let left = (!is_owned).then(|| unsafe { S::from_word(new) });
         taken.resume();
         (outcome, left)
     }
@@ -568,12 +667,12 @@ impl<V> WorkerHandle<'_, V> {
     /// Frees what came back if enough nodes wait, and removes a key by a call of C.
     fn removed(&mut self, remove: impl FnOnce(*mut Word, *const CallOptions) -> c_int) -> Outcome {
         let mut taken = Taken::default();
-        // SAFETY: the handle exists, and `self` is borrowed. `release` gets boxes of this `V`. What
+        // SAFETY: the handle exists, and `self` is borrowed. `release` gets words of this storage. What
         // is removed is not dropped here: its pointer comes back later.
         let outcome = taken.by(|context| {
             self.by(|worker, options| {
                 let counts = self.map.counts.0.as_ptr();
-                unsafe { nm_map_tend(worker, options, counts, release::<V>, context) };
+                unsafe { nm_map_tend(worker, options, counts, release::<S>, context) };
                 remove(worker, options)
             })
         });
@@ -582,15 +681,15 @@ impl<V> WorkerHandle<'_, V> {
         outcome
     }
 
-    /// Removes a key, and writes the word of its value.
-    fn take(&mut self, key: u64, value: &mut u64) -> Outcome {
+    /// Removes a key. Returns the outcome, and the word of its value, also if the remove is not
+    /// finished.
+    pub(crate) fn take(&mut self, key: u64) -> (Outcome, Option<u64>) {
+        let mut value = 0;
         // SAFETY: the handle exists during the call, and the place is borrowed for it.
-        self.removed(|worker, options| unsafe { nm_map_remove(worker, key, options, value) })
-    }
-
-    /// Removes a key.
-    pub(crate) fn remove(&mut self, key: u64) -> Outcome {
-        self.take(key, &mut 0)
+        let outcome = self
+            .removed(|worker, options| unsafe { nm_map_remove(worker, key, options, &mut value) });
+        let is_taken = matches!(outcome, YES | UNFINISHED);
+        (outcome, is_taken.then_some(value))
     }
 
     /// Removes a key, if this is its value.
@@ -616,16 +715,13 @@ impl<V> WorkerHandle<'_, V> {
         (outcome, entry)
     }
 
-    /// Returns whether a key is in the map.
-    pub(crate) fn contains(&mut self, key: u64) -> Outcome {
-        self.get(key, &mut 0)
-    }
-
-    /// Looks up a key, and writes the word of its value.
-    fn get(&mut self, key: u64, value: &mut u64) -> Outcome {
-        // SAFETY: the handle exists, and `self` and the place are borrowed. The pointer is not
-        // used.
-        self.by(|worker, options| unsafe { nm_map_get(worker, key, options, value) })
+    /// Looks up a key. Returns the outcome, and the word of its value if the map has the key.
+    pub(crate) fn get(&mut self, key: u64) -> (Outcome, Option<u64>) {
+        let mut value = 0;
+        // SAFETY: the handle exists, and `self` and the place are borrowed for this call.
+        let outcome =
+            self.by(|worker, options| unsafe { nm_map_get(worker, key, options, &mut value) });
+        (outcome, (outcome == YES).then_some(value))
     }
 
     /// Finds the least key that is not below a key, or the greatest that is not above it.
@@ -673,6 +769,23 @@ impl<V> WorkerHandle<'_, V> {
         )
     }
 
+    /// Reads keys with the words of their values, in the same way.
+    pub(crate) fn read_entries(
+        &mut self,
+        order: Order,
+        range: (u64, u64),
+        room: usize,
+    ) -> (Outcome, Vec<Entry>, u64) {
+        self.read(
+            match order {
+                Order::Ascending => nm_map_read_entries,
+                Order::Descending => nm_map_read_entries_back,
+            },
+            range,
+            room,
+        )
+    }
+
     /// Reads a range by a call of C.
     fn read<T: Copy + Default>(
         &mut self,
@@ -701,6 +814,15 @@ impl<V> WorkerHandle<'_, V> {
         (outcome, block, next)
     }
 
+    /// Looks up several keys. Returns the outcome, and for each key the word of its value if the map
+    /// has it.
+    pub(crate) fn get_many(&mut self, keys: &[u64]) -> (Outcome, Vec<Option<u64>>) {
+        // SAFETY: the handle exists, and `self` and the lookups are borrowed for this call.
+        looked_up(keys, |lookups, count| {
+            self.by(|worker, options| unsafe { nm_map_get_many(worker, lookups, count, options) })
+        })
+    }
+
     /// Counts the keys from `low` to `high`.
     pub(crate) fn count(&mut self, (low, high): (u64, u64)) -> (Outcome, u64) {
         let mut count = 0;
@@ -715,11 +837,11 @@ impl<V> WorkerHandle<'_, V> {
     /// worker that holds back others, or `u32::MAX`.
     pub(crate) fn reclaim(&mut self) -> (Outcome, u64, u32) {
         let (mut taken, mut behind) = (Taken::default(), u32::MAX);
-        // SAFETY: the handle exists, and `self` is borrowed. `release` gets boxes of this `V`.
+        // SAFETY: the handle exists, and `self` is borrowed. `release` gets words of this storage.
         let outcome = taken.by(|context| {
             self.by(|worker, _| unsafe {
                 let counts = self.map.counts.0.as_ptr();
-                nm_map_take_back(worker, counts, release::<V>, context, &mut behind)
+                nm_map_take_back(worker, counts, release::<S>, context, &mut behind)
             })
         });
         let values = taken.values;
@@ -746,10 +868,10 @@ impl<V> WorkerHandle<'_, V> {
     }
 }
 
-impl<V> Drop for WorkerHandle<'_, V> {
+impl<S: Storage> Drop for WorkerHandle<'_, S> {
     fn drop(&mut self) {
         let mut taken = Taken::default();
-        // SAFETY: the handle exists, and no other call has it. `release` gets boxes of this `V`.
+        // SAFETY: the handle exists, and no other call has it. `release` gets words of this storage.
         // The pin is one whose `Pinned` was forgotten; nothing that it returned is used any more.
         taken.by(|context| {
             self.by(|worker, _| unsafe {
@@ -758,7 +880,7 @@ impl<V> Drop for WorkerHandle<'_, V> {
                 nm_map_queue_len(worker, &mut waiting);
                 let counts = self.map.counts.0.as_ptr();
                 if waiting != 0 {
-                    nm_map_take_back(worker, counts, release::<V>, context, null_mut());
+                    nm_map_take_back(worker, counts, release::<S>, context, null_mut());
                 }
                 nm_map_return(counts, worker);
                 nm_drop(worker) // if it was not returned
@@ -768,15 +890,43 @@ impl<V> Drop for WorkerHandle<'_, V> {
     }
 }
 
+/// Looks up keys by a call of C. Returns its outcome, and the words that it found. A look-up that was
+/// not made has not found its key.
+fn looked_up(
+    keys: &[u64],
+    look_up: impl FnOnce(*mut Lookup, usize) -> Outcome,
+) -> (Outcome, Vec<Option<u64>>) {
+    let of = |&key| Lookup {
+        key,
+        found: 0,
+        value: 0,
+    };
+    let mut lookups: Vec<Lookup> = keys.iter().map(of).collect();
+    let outcome = look_up(lookups.as_mut_ptr(), lookups.len());
+    let found = |lookup: &Lookup| (lookup.found == 1).then_some(lookup.value);
+    (outcome, lookups.iter().map(found).collect())
+}
+
+impl WorkerHandle<'_, InPlace> {
+    /// Gives a key a word; returns what became of it, in words.
+    pub(crate) fn give_word(&mut self, key: u64, change: Change, new: u64) -> Given<u64, u64> {
+        let mut old = 0;
+        let (outcome, left) = self.give(key, change, new, &mut old);
+        Given::of(outcome, left, new, old, |word| word)
+    }
+}
+
 /// A worker that is pinned, until this is dropped.
 pub(crate) struct Pinned<'w, 'a, V> {
-    worker: &'w mut WorkerHandle<'a, V>,
+    worker: &'w mut WorkerHandle<'a, Boxed<V>>,
     epoch: u64,
 }
 
 impl<'w, 'a, V> Pinned<'w, 'a, V> {
     /// Pins a worker, or returns the outcome of an error.
-    pub(crate) fn new(worker: &'w mut WorkerHandle<'a, V>) -> Result<Pinned<'w, 'a, V>, Outcome> {
+    pub(crate) fn new(
+        worker: &'w mut WorkerHandle<'a, Boxed<V>>,
+    ) -> Result<Pinned<'w, 'a, V>, Outcome> {
         let mut epoch = 0;
         // SAFETY: the handle exists, and the worker is borrowed.
         let outcome = worker
@@ -807,21 +957,14 @@ impl<'w, 'a, V> Pinned<'w, 'a, V> {
 
     /// Looks up several keys. Returns the outcome, and for each key its value if the map has it.
     pub(crate) fn get_many(&self, keys: &[u64]) -> (Outcome, Vec<Option<&V>>) {
-        let of = |&key| Lookup {
-            key,
-            found: 0,
-            value: 0,
-        };
-        let mut lookups: Vec<Lookup> = keys.iter().map(of).collect();
-        let (first, count) = (lookups.as_mut_ptr(), lookups.len());
         // SAFETY: as in `get`. The lookups are borrowed for this call.
-        let outcome = self
-            .worker
-            .by(|handle, _| unsafe { nm_map_get_many_pinned(handle, first, count) });
-        // SAFETY: as in `get`. A lookup that was not made has not found its key.
-        let found =
-            |lookup: &Lookup| (lookup.found == 1).then(|| unsafe { &*object::<V>(lookup.value) });
-        (outcome, lookups.iter().map(found).collect())
+        let (outcome, words) = looked_up(keys, |lookups, count| {
+            self.worker
+                .by(|handle, _| unsafe { nm_map_get_many_pinned(handle, lookups, count) })
+        });
+        // SAFETY: as in `get`.
+        let value = |word: Option<u64>| word.map(|word| unsafe { &*object::<V>(word) });
+        (outcome, words.into_iter().map(value).collect())
     }
 }
 
@@ -836,7 +979,7 @@ impl<V> Drop for Pinned<'_, '_, V> {
 #[cfg(test)]
 mod tests {
     use super::super::forking;
-    use crate::{Fault, InsertError, Map, PutError};
+    use crate::{CopyMap, Fault, InsertError, Map, PutError};
     use std::sync::atomic::{AtomicU64, Ordering::SeqCst};
     use std::sync::Arc;
 
@@ -891,5 +1034,25 @@ mod tests {
         drop((reader, worker));
         drop(map);
         assert_eq!(dropped.load(SeqCst), 10);
+    }
+
+    #[test]
+    fn a_forked_child_makes_no_call_by_values_in_place() {
+        let map = CopyMap::from([(5, 50)]);
+        let mut worker = map.attach().unwrap();
+        // SAFETY: the child only makes calls that are refused, and ends.
+        let child = unsafe { forking::child() };
+        if child == 0 {
+            let is_right = worker.get(5) == Err(Fault::Forked)
+                && worker.get_many(&[5]) == Err(Fault::Forked)
+                && worker.put(5, 51) == Err(PutError::Fault(Fault::Forked, 51))
+                && worker.update(5, |_| 51) == Err(Fault::Forked)
+                && worker.remove(5) == Err(Fault::Forked)
+                && worker.range(..).next() == Some(Err(Fault::Forked))
+                && map.len() == Err(Fault::Forked);
+            forking::end(is_right);
+        }
+        forking::must_be_right(child);
+        assert_eq!(worker.remove(5), Ok(Some(50)));
     }
 }

@@ -1,58 +1,22 @@
 //! Calls by a worker that return references, under the pin of another worker of the same map.
 
-use super::{object, Change, Entry, Pinned, Read, WorkerHandle, INSERTED, OTHER, REPLACED, YES};
-use crate::ffi::{CallOptions, Order, Outcome, Word};
-use std::ffi::c_int;
+use super::{object, word_of, Boxed, Change, Entry, Given, Pinned, WorkerHandle, YES};
+use crate::ffi::{Order, Outcome};
 use std::marker::PhantomData;
-
-/// The outcome of a remove that is not finished.
-const UNFINISHED: Outcome = -11;
-
-extern "C" {
-    fn nm_map_read_entries(
-        worker: *mut Word,
-        from: u64,
-        below: u64,
-        entries: *mut Entry,
-        room: usize,
-        count: *mut usize,
-        next: *mut u64,
-        options: *const CallOptions,
-    ) -> c_int;
-    fn nm_map_read_entries_back(
-        worker: *mut Word,
-        from: u64,
-        below: u64,
-        entries: *mut Entry,
-        room: usize,
-        count: *mut usize,
-        next: *mut u64,
-        options: *const CallOptions,
-    ) -> c_int;
-}
 
 /// A key with its value.
 pub(crate) type Found<'g, V> = (u64, &'g V);
 
-/// What became of a value that was given to a key.
-pub(crate) struct Given<'g, V> {
-    pub outcome: Outcome,
-    /// The value that the key had, if it was replaced or is another one.
-    pub old: Option<&'g V>,
-    /// The new value, which the map owns, or its box.
-    pub new: Result<&'g V, Box<V>>,
-}
-
 /// A worker that makes calls while another one is pinned, whose [`Pinned`] is borrowed for `'g`.
 pub(crate) struct Guarded<'w, 'a, 'g, V> {
-    worker: &'w mut WorkerHandle<'a, V>,
+    worker: &'w mut WorkerHandle<'a, Boxed<V>>,
     under: PhantomData<&'g V>,
 }
 
 impl<'w, 'a, 'g, V> Guarded<'w, 'a, 'g, V> {
     /// Returns a guarded worker, or None if the two workers are of different maps.
     pub(crate) fn new(
-        worker: &'w mut WorkerHandle<'a, V>,
+        worker: &'w mut WorkerHandle<'a, Boxed<V>>,
         pinned: &'g Pinned<'_, '_, V>,
     ) -> Option<Guarded<'w, 'a, 'g, V>> {
         std::ptr::eq(worker.map, pinned.worker.map).then_some(Guarded {
@@ -62,7 +26,7 @@ impl<'w, 'a, 'g, V> Guarded<'w, 'a, 'g, V> {
     }
 
     /// Returns the worker, for what it says of itself.
-    pub(crate) fn worker(&mut self) -> &mut WorkerHandle<'a, V> {
+    pub(crate) fn worker(&mut self) -> &mut WorkerHandle<'a, Boxed<V>> {
         self.worker
     }
 
@@ -80,17 +44,14 @@ impl<'w, 'a, 'g, V> Guarded<'w, 'a, 'g, V> {
 
     /// Looks up a key.
     pub(crate) fn get(&mut self, key: u64) -> (Outcome, Option<&'g V>) {
-        let mut word = 0;
-        let outcome = self.worker.get(key, &mut word);
-        (outcome, (outcome == YES).then(|| Self::value(word)))
+        let (outcome, word) = self.worker.get(key);
+        (outcome, word.map(Self::value))
     }
 
     /// Removes a key, and returns its value, also if the remove is not finished.
     pub(crate) fn take(&mut self, key: u64) -> (Outcome, Option<&'g V>) {
-        let mut word = 0;
-        let outcome = self.worker.take(key, &mut word);
-        let is_taken = outcome == YES || outcome == UNFINISHED;
-        (outcome, is_taken.then(|| Self::value(word)))
+        let (outcome, word) = self.worker.take(key);
+        (outcome, word.map(Self::value))
     }
 
     /// Removes a key, if this is its value; returns also whether this call removes it, finished or not.
@@ -100,18 +61,10 @@ impl<'w, 'a, 'g, V> Guarded<'w, 'a, 'g, V> {
     }
 
     /// Gives a key a value.
-    pub(crate) fn give(&mut self, key: u64, change: Change<'_, V>, value: Box<V>) -> Given<'g, V> {
-        let (new, mut word) = (&*value as *const V as usize as u64, 0);
-        let (outcome, left) = self.worker.give(key, change, value, &mut word);
-        debug_assert_eq!(left.is_none(), matches!(outcome, YES | INSERTED | REPLACED));
-        Given {
-            outcome,
-            old: matches!(outcome, REPLACED | OTHER).then(|| Self::value(word)),
-            new: match left {
-                Some(value) => Err(value),
-                None => Ok(Self::value(new)),
-            },
-        }
+    pub(crate) fn give(&mut self, key: u64, change: Change, value: Box<V>) -> Given<&'g V, Box<V>> {
+        let (new, mut old) = (word_of(&*value), 0);
+        let (outcome, left) = self.worker.give(key, change, value, &mut old);
+        Given::of(outcome, left, new, old, Self::value)
     }
 
     /// Finds the nearest key: see [`WorkerHandle::nearest`].
@@ -134,11 +87,7 @@ impl<'w, 'a, 'g, V> Guarded<'w, 'a, 'g, V> {
         range: (u64, u64),
         room: usize,
     ) -> (Outcome, Vec<Found<'g, V>>, u64) {
-        let read: Read<Entry> = match order {
-            Order::Ascending => nm_map_read_entries,
-            Order::Descending => nm_map_read_entries_back,
-        };
-        let (outcome, entries, next) = self.worker.read(read, range, room);
+        let (outcome, entries, next) = self.worker.read_entries(order, range, room);
         let found = |entry: Entry| (entry.key, Self::value(entry.value));
         (outcome, entries.into_iter().map(found).collect(), next)
     }
