@@ -18,6 +18,7 @@ from collections.abc import Callable, Iterable, Iterator
 from collections.abc import Mapping as AbstractMapping
 from contextlib import suppress
 from ctypes import create_string_buffer
+from reprlib import recursive_repr
 from types import TracebackType
 from typing import TYPE_CHECKING, Any, Optional, SupportsIndex, TypeVar, Union, overload
 
@@ -472,6 +473,7 @@ class Map(MapCalls, Views[int, V]):
         """How many workers it has."""
         return self._workers
 
+    @recursive_repr()
     def __repr__(self) -> str:
         """Shows the first ten keys with their objects, and how many there are."""
         return text_of(self, self._can_be_read())

@@ -114,6 +114,13 @@ class Answers(unittest.TestCase):
         found.close()
         self.assertEqual(repr(found), "Map(closed)")
 
+    def test_a_map_may_have_itself(self) -> None:
+        with Map[Any](64) as found, nm_set.MapOf(nm_set.signed(), {-5: found}, nodes=64) as typed:
+            found[5] = typed
+            self.assertEqual(repr(found), "Map({5: MapOf({-5: ...})})")
+            self.assertEqual(repr(typed.sub_map()), "SubMap({-5: Map({5: MapOf({-5: ...})})})")
+            found.clear()
+
 
 def nearest(wanted: dict[int, int], keys: list[int]) -> Any:
     """Returns the first of these keys with its object, or None."""
