@@ -299,8 +299,8 @@ class Map(MapCalls, Views[int, V]):
 
         Raises `Unfinished` if the bound of the call is reached after it has begun to remove a key.
         No other call removes that key, which is found until the next call by the same worker. Its
-        object is not returned, and the map refers to it, and `len` counts its key, until the map is
-        closed."""
+        object is not returned. By ctypes the map then refers to it, and `len` counts its key, until
+        the map is closed."""
         bound = NO_BOUND if below is None else bound_of(below)
         return self._popped(False, bound)
 

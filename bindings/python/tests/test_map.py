@@ -4,6 +4,7 @@ object."""
 from __future__ import annotations
 
 import copy
+import ctypes
 import gc
 import os
 import pickle
@@ -244,6 +245,57 @@ class InOrder(unittest.TestCase):
             with mock.patch.object(found, "_pop_from", side_effect=found._fault(c.UNFINISHED, 5)):
                 with self.assertRaisesRegex(nm_set.Unfinished, "the key 5 will be removed"):
                     found.pop_first()
+
+
+@unittest.skipUnless(nm_set.is_native, "by ctypes there is no such module")
+class InC(unittest.TestCase):
+    """Calls of the library that end in a way in which they hardly ever end under the interpreter's
+    lock."""
+
+    def replace(self, name: str, outcome: int) -> None:
+        """Lets the calls of a function of the library return another outcome than YES."""
+        from nm_set import _map, _native
+
+        function, parameters = getattr(c.quick, name), c.FUNCTIONS[name]
+
+        def call(*arguments: Any) -> int:
+            made = int(function(*arguments))
+            return outcome if made == c.YES else made
+
+        kept = ctypes.CFUNCTYPE(ctypes.c_int, *parameters)(call)
+        address = ctypes.cast(kept, ctypes.c_void_p).value
+        others = _map.MISSING, _map.number_of
+        _native.bind_map(lambda it: address if it == name else c.address(it), *others)
+        self.addCleanup(lambda: (_native.bind_map(c.address, *others), kept))
+
+    def test_an_unfinished_remove_returns_its_object(self) -> None:
+        self.replace("nm_map_remove", c.UNFINISHED)
+        with Map[Value](64, workers=1) as found:
+            found[5] = Value(5)
+            value = found.pop(5)
+            reference = weakref.ref(value)
+            self.assertEqual((value.key, len(found), found.waiting()), (5, 0, 2))
+            self.assertEqual((found.collect(), ended([reference])), (1, 0))
+            del value
+            self.assertEqual((ended([reference]), found.free()), (1, 64 - 5))
+
+    def test_the_object_of_an_unfinished_pop_ends(self) -> None:
+        for name in ("nm_map_pop_first_below", "nm_map_pop_last_from"):
+            self.replace(name, c.UNFINISHED)
+            with Map[Value](64, workers=1) as found:
+                found[5] = Value(5)
+                reference = weakref.ref(found[5])
+                pop = found.pop_first if "first" in name else found.pop_last
+                self.assertRaisesRegex(nm_set.Unfinished, "the key 5 will be removed", pop)
+                self.assertEqual((len(found), found.collect(), ended([reference])), (0, 1, 1))
+
+    def test_a_fault_of_the_library_gives_the_object_back(self) -> None:
+        self.replace("nm_map_insert", c.NO_MEMORY)
+        with Map[Value](64, workers=1) as found:
+            value = Value(5)
+            before = sys.getrefcount(value)
+            self.assertRaises(nm_set.NoMemory, lambda: found.insert(5, value))
+            self.assertEqual((sys.getrefcount(value), len(found)), (before, 0))
 
 
 class Refusals(unittest.TestCase):
