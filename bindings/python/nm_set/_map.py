@@ -1,9 +1,9 @@
 """The map: objects of Python under the integers 0 to 2^64 - 4.
 
 `Map` is made of the calls of `MapCalls`, which are in C if they are built (`_native_map.c`), and
-otherwise by ctypes (`_map_calls.py`). Each of them makes one call of the library, or a few. Here are
-the calls that are made of several of them, and all that waits: for nodes, for a key, and for the end
-of other calls.
+otherwise by ctypes (`_map_calls.py`). Each of them makes one call of the library, or a few. Here
+are the calls that are made of several of them, and all that waits: for nodes, for a key, and for
+the end of other calls.
 """
 
 from __future__ import annotations
@@ -221,9 +221,11 @@ class Map(MapCalls, Views[int, V]):
 
     # ---- a call that gives the map an object ----
 
-    def _give(self, kind: int, number: int, value: Any, expected: object = None) -> tuple[int, Any]:
-        """Gives the map an object, after a wait for nodes if none are free. Returns the outcome, and
-        the object that was replaced or `MISSING`."""
+    def _give(
+        self, kind: int, number: int, value: Any, expected: object = None
+    ) -> tuple[int, Any]:
+        """Gives the map an object, after a wait for nodes if none are free. Returns the outcome,
+        and the object that was replaced or `MISSING`."""
         given = self._change(kind, number, value, expected)
         if given[0] == c.FULL:
             return self._give_later(kind, number, value, expected)
@@ -237,9 +239,12 @@ class Map(MapCalls, Views[int, V]):
             raise self._fault(given[0])
         return given
 
-    def _give_later(self, kind: int, number: int, value: Any, expected: object) -> tuple[int, Any]:
-        """Repeats a call that found no nodes, after collections. It ends when the keys leave too few
-        nodes before and after a repetition, even if none waits. What it collects ends with it."""
+    def _give_later(
+        self, kind: int, number: int, value: Any, expected: object
+    ) -> tuple[int, Any]:
+        """Repeats a call that found no nodes, after collections. It ends when the keys leave too
+        few nodes before and after a repetition, even if none waits. What it collects ends with it.
+        """
         wait, was_brimful = Wait(self._seconds), self._is_brimful(kind, number)
         ended: list[Any] = []
         while True:

@@ -86,7 +86,9 @@ class MapCalls:
         """Returns the exception of an outcome below 0, with the key that the call has found."""
         raise NotImplementedError
 
-    def _give(self, kind: int, number: int, value: Any, expected: object = None) -> tuple[int, Any]:
+    def _give(
+        self, kind: int, number: int, value: Any, expected: object = None
+    ) -> tuple[int, Any]:
         """Gives the map an object, after a wait for nodes if none are free."""
         raise NotImplementedError
 
@@ -423,8 +425,8 @@ class MapCalls:
         return c.DONE
 
     def _forget(self) -> None:
-        """In a forked child: gives up the handles, which belong to the parent, and keeps the objects
-        for ever, so that no object of the parent ends there."""
+        """In a forked child: gives up the handles, which belong to the parent, and keeps the
+        objects for ever, so that no object of the parent ends there."""
         self._is_forked = True
         for worker in [*self._idle]:
             worker.handle.at = None

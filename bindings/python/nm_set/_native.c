@@ -1,6 +1,6 @@
-/* The calls for the keys of a set in C: the calls that _calls.py makes by ctypes, with the same names
- * and meanings; and what gives up a pool or a worker when its owner ends. _native_map.c has the calls
- * of a map.
+/* The calls for the keys of a set in C: the calls that _calls.py makes by ctypes, with the same
+ * names and meanings; and what gives up a pool or a worker when its owner ends. _native_map.c has
+ * the calls of a map.
  *
  * _library.py finds the library, and gives the addresses of its functions to `bind`. A call for one
  * key is first made without a wait, in which other threads of Python wait. A call for several keys,

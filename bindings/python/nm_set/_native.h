@@ -9,7 +9,7 @@
 #include "nm_map.h"
 
 #ifdef Py_GIL_DISABLED
-#error "The calls in C need the lock of the interpreter. Without it the module makes them by ctypes."
+#error "The calls in C need the interpreter's lock. Without it the module makes them by ctypes."
 #endif
 
 #define MOST_KEY (UINT64_MAX - 3)

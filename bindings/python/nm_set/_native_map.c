@@ -2,8 +2,8 @@
  * meanings.
  *
  * The library keeps a number under each key. Here it is the number of a cell, which has the map's
- * reference to the object. A cell is emptied when the library has reclaimed its number. Each call of
- * the library that changes the map, or reclaims, is made under the lock of the interpreter. So a
+ * reference to the object. A cell is emptied when the library has reclaimed its number. Each call
+ * of the library that changes the map, or reclaims, is made under the lock of the interpreter. So a
  * call that gets a number takes its reference to the object before another thread can empty the
  * cell. It does so before it makes an object of Python, because that may collect garbage, which may
  * run any code.
@@ -70,7 +70,7 @@ typedef struct {
 } Worker;
 
 /* A map. `keys` is how many there are, `used` how many cells were ever used, and `free` the first
- * free one of these. Python reads and writes the last four. */
+ * free one of these. Python reads `keys` and the last four, and writes `waits` and `is_open`. */
 typedef struct {
     PyObject_HEAD
     nm_handle handle;
@@ -152,6 +152,7 @@ static PyObject *object_of(Map *self, uint64_t number) {
 
 /* ---- a worker for a call ---- */
 
+/* Attaches a worker. Returns NULL after an exception. */
 static Worker *attached(Map *self) {
     Worker *worker = &self->workers[self->attached];
     nm_outcome outcome = attach_of(&self->handle, &worker->handle, 0);
@@ -163,6 +164,7 @@ static Worker *attached(Map *self) {
     return worker;
 }
 
+/* Sleeps while other threads run. */
 static void slept(long nanoseconds) {
     struct timespec time = {0, nanoseconds};
     Py_BEGIN_ALLOW_THREADS
@@ -266,8 +268,8 @@ static int number_of(PyObject *object, uint64_t *number) {
     return is_key;
 }
 
-/* Finds the object of a key, and takes a reference to it. Returns 1, or 0 if the key is absent, or -1
- * after an exception. */
+/* Finds the object of a key, and takes a reference to it. Returns 1, or 0 if the key is absent, or
+ * -1 after an exception. */
 static int found(Map *self, PyObject *key, PyObject **object) {
     uint64_t number, cell;
     int is_key = number_of(key, &number);
@@ -329,7 +331,7 @@ static PyObject *map_get(PyObject *self, PyObject *const *args, Py_ssize_t count
     Py_ssize_t named = names ? PyTuple_Size(names) : 0;
     if (count < 1 || count + named > 2 ||
         (named && PyUnicode_CompareWithASCIIString(PyTuple_GetItem(names, 0), "default") != 0)) {
-        PyErr_SetString(PyExc_TypeError, "get() takes a key, and a default for a key that is absent");
+        PyErr_SetString(PyExc_TypeError, "get() takes a key, and a default for an absent key");
         return NULL;
     }
     return found_or(self, args[0], count + named == 2 ? args[1] : Py_None);
@@ -348,7 +350,8 @@ typedef struct {
 } Change;
 
 /* Replaces an object if it is the expected one. A cell may have been emptied, and taken for another
- * object, after its object was read. So this compares the object of the cell that the key has now. */
+ * object, after its object was read. So this compares the object of the cell that the key has now.
+ */
 static nm_outcome replace_if(Map *self, Worker *worker, Change *change) {
     uint64_t now_there;
     nm_outcome outcome = get_of(&worker->handle, change->key, &self->options, &now_there);
@@ -362,6 +365,7 @@ static nm_outcome replace_if(Map *self, Worker *worker, Change *change) {
                               &self->options, &change->old);
 }
 
+/* Makes the call of the library, and returns its outcome. */
 static nm_outcome make(Map *self, Worker *worker, Change *change) {
     nm_handle *by = &worker->handle;
     switch (change->kind) {
@@ -372,8 +376,8 @@ static nm_outcome make(Map *self, Worker *worker, Change *change) {
     }
 }
 
-/* Makes the call once, and writes its outcome. Writes the replaced object if that is wanted, and
- * else NULL. Returns -1 after an exception, else 0. */
+/* Makes the call once, and writes its outcome. Writes the replaced object, if there is one and it
+ * is wanted. Returns -1 after an exception, else 0. */
 static int change_once(Map *self, Change *change, nm_outcome *outcome, PyObject **old) {
     Worker *worker = take(self);
     if (!worker) {
@@ -402,6 +406,7 @@ static int wake(Map *self) {
     return woken ? 0 : -1;
 }
 
+/* Repeats a put that found no nodes. Returns -1 after an exception, else 0. */
 static int put_later(Map *self, Change *change) {
     PyObject *given = PyObject_CallMethod((PyObject *)self, "_give_later", "iKOO", (int)PUT,
                                           (unsigned long long)change->key, change->value, Py_None);
@@ -598,7 +603,8 @@ static int scan_of(PyObject *args, Scan *scan) {
     return 0;
 }
 
-/* Returns what a scan has read, whose reference it takes, and where the next one goes on, or None. */
+/* Returns what a scan has read, whose reference it takes, and where the next one goes on, or None.
+ */
 static PyObject *scanned(const Scan *scan, PyObject *read) {
     if (!read) {
         return NULL;
@@ -630,10 +636,10 @@ static PyObject *map_scan(PyObject *object, PyObject *args) {
 static PyObject *objects_list(PyObject **objects, const nm_entry *entries, size_t count) {
     PyObject *list = PyList_New((Py_ssize_t)count);
     for (size_t at = 0; at < count; at++) {
-        PyObject *item = !list ? NULL : entries ? entry_of(entries[at].key, objects[at]) : objects[at];
+        PyObject *item = objects[at];
         if (!list) {
-            Py_DECREF(objects[at]);
-        } else if (!item) {
+            Py_DECREF(item);
+        } else if (entries && !(item = entry_of(entries[at].key, item))) {
             Py_CLEAR(list);
         } else {
             PyList_SetItem(list, (Py_ssize_t)at, item);
@@ -944,7 +950,8 @@ static PyMethodDef map_methods[] = {
     {"_scan_items", map_scan_items, METH_VARARGS, NULL},
     {"_take", map_take, METH_NOARGS, NULL},
     {"_waiting", map_waiting, METH_NOARGS, NULL},
-    {"get", (PyCFunction)(void (*)(void))map_get, METH_FASTCALL | METH_KEYWORDS, NULL},
+    {"get", (PyCFunction)(void (*)(void))map_get, METH_FASTCALL | METH_KEYWORDS,
+     "get($self, key, default=None)\n--\n\nReturns the object of a key, or the default."},
     {NULL, NULL, 0, NULL},
 };
 
