@@ -96,6 +96,8 @@ class MapCalls:
         self, nodes: int, workers: int, tries: int, rounds: int, after: int, timeout_ms: int
     ) -> None:
         """Makes the empty map."""
+        if self._is_open:
+            raise TypeError("a map is made once")
         self._words = c.OptionsWords(tries, rounds, after)
         self._tokens = itertools.count()
         self._read: dict[int, Any] = {}

@@ -786,14 +786,14 @@ static PyObject *map_take(PyObject *object, PyObject *unused) {
     return worker ? PyLong_FromSsize_t(worker - ((Map *)object)->workers) : NULL;
 }
 
-/* Returns the worker of a place, or NULL after an exception. */
+/* Returns the worker of a place, or NULL after an exception, such as if all workers are idle. */
 static Worker *worker_at(Map *self, PyObject *place) {
     unsigned long at = PyLong_AsUnsignedLong(place);
-    if (at < self->attached) {
+    if (at < self->attached && self->idle < self->attached) {
         return &self->workers[at];
     }
     if (!PyErr_Occurred()) {
-        PyErr_SetString(PyExc_IndexError, "there is no such worker");
+        PyErr_SetString(PyExc_IndexError, "no such worker was taken");
     }
     return NULL;
 }

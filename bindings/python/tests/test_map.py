@@ -78,6 +78,11 @@ class Answers(unittest.TestCase):
             for call in (lambda: found[6], lambda: found.pop(6), lambda: found.__delitem__(6)):
                 self.assertRaises(KeyError, call)
             self.assertRaises(KeyError, lambda: found["5"])
+            self.assertEqual((found.get(6, default="x"), found.get(5, default="x")), ("x", "five"))
+            for words, names in (
+                ((), {}), ((5, 6, 7), {}), ((5,), {"other": 6}), ((5, 6), {"default": 7}),
+            ):
+                self.assertRaises(TypeError, found.get, *words, **names)
             self.assertTrue(5.0 in found and "5" not in found and -1 not in found)
             self.assertEqual(found.pop("5", None), None)
             del found[5]
@@ -299,6 +304,13 @@ class InC(unittest.TestCase):
 
 
 class Refusals(unittest.TestCase):
+    def test_a_map_is_made_once(self) -> None:
+        with Map[int](64) as found:
+            found[5] = 5
+            self.assertRaises(TypeError, lambda: found.__init__(64))  # type: ignore[misc]
+            self.assertEqual(dict(found), {5: 5})
+        self.assertRaises(Closed, lambda: Map.__new__(Map)[5])
+
     def test_wrong_numbers_are_refused(self) -> None:
         for nodes, workers in ((6, 1), (2**40, 1), (64, 0), (64, 65)):
             self.assertRaises(OutOfRange, lambda: Map[int](nodes, workers=workers))
@@ -581,7 +593,8 @@ class Ends(unittest.TestCase):
                 self.assertIs(found.get(key, value), found.get(-1, value))
             found.get_many([5, 500, 2_000], value)
             self.assertEqual(len(list(found.items()) + found.scan(0, 99)[0] + [found.last()]), 250)
-            self.assertEqual((found.pop_first(), found.pop(1), len(found)), ((0, value), value, 148))
+            self.assertEqual((found.pop_first(), found.pop(1)), ((0, value), value))
+            self.assertEqual(len(found), 148)
             self.assertRaises(TypeError, lambda: found.insert("5", value))  # type: ignore[arg-type]
             while found.waiting():
                 found.collect()
