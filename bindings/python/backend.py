@@ -144,7 +144,7 @@ def _tag(files: list[Path]) -> str:
 def _run(what: str, made: Path, *words: str) -> Optional[Path]:
     """Makes a shared object by the compiler, or returns None after it has printed why it cannot."""
     compiler = os.environ.get("CC") or sysconfig.get_config_var("CC") or "cc"
-    command = [*shlex.split(compiler), "-O2", "-fPIC", "-shared", "-pthread", *words]
+    command = [*shlex.split(compiler), "-O2", "-fPIC", "-shared", "-pthread", *_header(), *words]
     try:
         told = subprocess.run(
             [*command, "-o", str(made)], capture_output=True, text=True, check=False
@@ -167,7 +167,7 @@ def _library_words() -> list[str]:
         print(f"nm_set: the library was not compiled: no {missing or LIST}", file=sys.stderr)
         return []
     _compare_texts()
-    return ["-std=gnu11", f"-I{_top() / 'c'}", *sources, "-Wl,-z,relro", "-Wl,-z,now"]
+    return ["-std=gnu11", *sources, "-Wl,-z,relro", "-Wl,-z,now"]
 
 
 def _compile_library(folder: Path, library: list[str]) -> Optional[Path]:
@@ -184,7 +184,7 @@ def _compile_extension(folder: Path, library: list[str]) -> Optional[Path]:
     limited = "".join(f"{number:02x}" for number in LIMITED)
     words = [f"-DPy_LIMITED_API=0x{limited}0000"] if _is_limited() else []
     words += [f"-I{sysconfig.get_path(name)}" for name in ("include", "platinclude")]
-    words += [*_header(), str(HERE / "nm_set" / "_native.c"), *library]
+    words += [*map(str, sorted((HERE / "nm_set").glob("_native*.c"))), *library]
     return _run("the calls are those by ctypes, because C was", folder / _native_name(), *words)
 
 
@@ -272,7 +272,7 @@ def build_editable(
 def _sources() -> dict[str, bytes]:
     """The files of the sdist: those of this folder, and in `native` those of the library."""
     names = ["backend.py", "pyproject.toml", "README.md"]
-    for folder, kinds in (("nm_set", ("*.py", "*.c", "py.typed")), ("tests", ("*.py",))):
+    for folder, kinds in (("nm_set", ("*.py", "*.c", "*.h", "py.typed")), ("tests", ("*.py",))):
         names += [str(it.relative_to(HERE)) for kind in kinds for it in (HERE / folder).glob(kind)]
     files = {name: (HERE / name).read_bytes() for name in names}
     for place in [LIST, *_listed("source"), *_listed("header")]:

@@ -315,7 +315,8 @@ nm_outcome nm_pool_attach_number(nm_pool *pool, uint32_t number, uint32_t *worke
 
 /* Returns an attached worker to the pool, and writes NM_NONE in place of its number. This ends its
  * pin, and finishes its remove if the bounds of the options allow. It waits for a call by another
- * thread: NM_IN_USE, and the worker is attached as before. NM_CLOSED: it is not attached. */
+ * thread: NM_IN_USE, and the worker is attached as before. NM_CLOSED: it is not attached. If the
+ * number is NM_NONE, the pool is not read, and may have been freed. */
 nm_outcome nm_pool_detach(nm_pool *pool, uint32_t *worker, uint32_t timeout_ms);
 
 /* Ends the set by its last worker, after nm_pool_free and the detach of all other workers. Returns

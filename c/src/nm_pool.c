@@ -1721,6 +1721,7 @@ nm_outcome nm_pool_attach_number(nm_pool *pool, uint32_t number, uint32_t *worke
 nm_outcome nm_pool_detach(nm_pool *pool, uint32_t *worker, uint32_t timeout_ms) {
     nm_pool_wait wait = {0, 0, 0, 0};
     UNCANCELLED;
+    if (*worker == NM_NONE) return NM_CLOSED;
     if (is_forked(pool)) return NM_FORKED;
     struct seat *seat = lent_seat(pool, *worker);
     if (seat == NULL) return NM_CLOSED;

@@ -135,6 +135,7 @@ static void one_thread_has_all_workers(void) {
     answers_are_right(pool, third); /* the detach has ended the pin */
     CHECK(nm_pool_detach(pool, &third, 0) == NM_DONE);
     CHECK(nm_pool_detach(pool, &second, 0) == NM_DONE && ended(pool) == 0);
+    CHECK(nm_pool_detach(pool, &second, 0) == NM_CLOSED); /* it does not read the pool that was freed */
 }
 
 /* A remove that is unfinished is finished by a borrower, and by a detach, and counts once. */

@@ -57,7 +57,8 @@ def least_within(
     return None if outcome == c.NO else taken.value
 
 
-def _number(key: SupportsIndex) -> int:
+def checked_key(key: SupportsIndex) -> int:
+    """Returns the number of a key. Raises `OutOfRange` if it is none."""
     number = operator.index(key)
     if not 0 <= number <= MOST_KEY:
         raise key_fault(number)
@@ -84,16 +85,16 @@ class Calls:
         return outcome != c.NO
 
     def contains(self, key: SupportsIndex) -> bool:
-        return self._answered(self._outcome("nm_pool_contains", _number(key)))
+        return self._answered(self._outcome("nm_pool_contains", checked_key(key)))
 
     def add(self, key: SupportsIndex) -> bool:
-        return self._answered(self._outcome("nm_pool_insert", _number(key)))
+        return self._answered(self._outcome("nm_pool_insert", checked_key(key)))
 
     def remove(self, key: SupportsIndex) -> bool:
-        return self._answered(self._outcome("nm_pool_remove", _number(key)))
+        return self._answered(self._outcome("nm_pool_remove", checked_key(key)))
 
     def _nearest(self, name: str, key: SupportsIndex) -> Optional[int]:
-        number, found = _number(key), c_uint64()
+        number, found = checked_key(key), c_uint64()
         return found.value if self._answered(self._outcome(name, number, found)) else None
 
     def at_least(self, key: SupportsIndex) -> Optional[int]:

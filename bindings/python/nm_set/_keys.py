@@ -17,7 +17,7 @@ from typing import Any, NoReturn, Optional, SupportsIndex, TypeVar, overload
 
 from . import _library as c
 from ._backend import Calls, answers, first_wrong
-from ._calls import least_within
+from ._calls import checked_key, least_within
 from ._faults import MOST_KEY, SHOWN, Closed, fault, key_fault, shortened
 
 _T = TypeVar("_T")
@@ -79,14 +79,7 @@ def _answers_of(out: Any, count: int) -> memoryview:
 
 
 def _copied(keys: Iterable[SupportsIndex]) -> memoryview:
-    def each() -> Iterator[int]:
-        for key in keys:
-            number = operator.index(key)
-            if not 0 <= number <= MOST_KEY:
-                raise key_fault(number)
-            yield number
-
-    return memoryview(array("Q", each()))
+    return memoryview(array("Q", map(checked_key, keys)))
 
 
 def bound_of(number: SupportsIndex) -> int:

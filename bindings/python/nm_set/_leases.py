@@ -89,12 +89,9 @@ def free_with(owner: Owner, pool: ctypes.c_void_p, report: c.Handle) -> None:
 
 
 def drop_with(owner: Owner, handle: c.Handle) -> None:
-    """Gives up what a handle owns when its owner ends. While the handle is closed, this does
-    nothing."""
-    if is_native:
-        _in_c(owner, handle)
-    else:
-        _by_ctypes(owner, (c.exports.nm_drop, ctypes.byref(handle)))
+    """Gives up what a handle owns when its owner ends, by ctypes. While the handle is closed, this
+    does nothing."""
+    _by_ctypes(owner, (c.exports.nm_drop, ctypes.byref(handle)))
 
 
 def detach_with(owner: Owner, pool: ctypes.c_void_p, worker: ctypes.c_uint32) -> None:

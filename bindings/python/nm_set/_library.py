@@ -176,6 +176,8 @@ FUNCTIONS: dict[str, list[Any]] = {
     "nm_map_reclaim": [_H, _U64, c_size_t, _U64, _U32],
     "nm_map_hold": [_H, _OPTIONS, _U64],
     "nm_map_unpin": [_H],
+    "nm_map_get": [_H, c_uint64, _OPTIONS, _U64],
+    "nm_map_get_many": [_H, _LOOKUPS, c_size_t, _OPTIONS],
     "nm_map_get_pinned": [_H, c_uint64, _U64],
     "nm_map_get_many_pinned": [_H, _LOOKUPS, c_size_t],
     "nm_map_at_least": [_H, c_uint64, _OPTIONS, _U64, _U64],
@@ -214,10 +216,11 @@ _RESULTS: dict[str, Any] = {
     "nm_map_full_words": c_char_p,
 }
 
-# In place of the number of a worker: any worker, and none. In place of the number of nodes: the set
-# grows.
+# In place of the number of a worker: any worker, and none; and none of a map. In place of the number
+# of nodes: the set grows.
 ANY: Final = 2**32 - 1
 NONE: Final = 2**32 - 2
+NOBODY: Final = 2**32 - 1
 GROWS: Final = 2**64 - 1
 
 # The outcomes that this module knows.

@@ -1,19 +1,16 @@
-/* The calls for keys in C: the calls that _calls.py makes by ctypes, with the same names and
- * meanings; and what gives up a pool or a worker when its owner ends.
+/* The calls for the keys of a set in C: the calls that _calls.py makes by ctypes, with the same
+ * names and meanings; and what gives up a pool or a worker when its owner ends. _native_map.c has
+ * the calls of a map.
  *
  * _library.py finds the library, and gives the addresses of its functions to `bind`. A call for one
  * key is first made without a wait, in which other threads of Python wait. A call for several keys,
  * and a call that waits, let them go on. No step of Python runs in the middle of a call here, and
  * so no signal handler does, except between two parts of a wait.
  */
-#define PY_SSIZE_T_CLEAN
-#include <Python.h>
-#include <stdint.h>
+#include "_native.h"
+
 #include <time.h>
 
-#include "nm_pool.h"
-
-#define MOST_KEY (UINT64_MAX - 3)
 #define SEVERAL 64   /* the number of keys that one call of the library looks up */
 #define SOME 4096    /* the most keys of one call of a method named `.._some` */
 #define SCANNED 1024 /* the most keys of one scan */
@@ -63,11 +60,7 @@ static nm_pool *pool_of(Calls *self) { return *(nm_pool **)self->pool.buf; }
 
 static uint32_t worker_of(Calls *self) { return *(uint32_t *)self->worker.buf; }
 
-/* Raises the exception that a function of _faults.py makes of an argument. It releases the argument
- * and returns NULL. */
-static PyObject *raise_of(PyObject *make, PyObject *argument) {
-    PyObject *made = argument ? PyObject_CallFunctionObjArgs(make, argument, NULL) : NULL;
-    Py_XDECREF(argument);
+PyObject *raise_made(PyObject *made) {
     if (made) {
         PyErr_SetObject((PyObject *)Py_TYPE(made), made);
         Py_DECREF(made);
@@ -77,17 +70,11 @@ static PyObject *raise_of(PyObject *make, PyObject *argument) {
 
 /* Raises the exception of a call that failed, and returns NULL. */
 static PyObject *raise_fault(Calls *self, nm_outcome outcome) {
-    PyObject *made = PyObject_CallFunction(fault_of, "iOI", (int)outcome, self->cell,
-                                           (unsigned)worker_of(self));
-    if (made) {
-        PyErr_SetObject((PyObject *)Py_TYPE(made), made);
-        Py_DECREF(made);
-    }
-    return NULL;
+    return raise_made(PyObject_CallFunction(fault_of, "iOI", (int)outcome, self->cell,
+                                            (unsigned)worker_of(self)));
 }
 
-/* Writes the key that an object equals. Returns -1 after an exception, else 0. */
-static int key_of(PyObject *object, uint64_t *key) {
+int key_of(PyObject *object, uint64_t *key) {
     PyObject *number = PyNumber_Index(object);
     if (!number) {
         return -1;
@@ -101,12 +88,12 @@ static int key_of(PyObject *object, uint64_t *key) {
         PyErr_Clear();
         *key = UINT64_MAX;
     }
-    if (*key > MOST_KEY) {
-        raise_of(key_fault_of, number);
-        return -1;
+    int is_key = *key <= MOST_KEY;
+    if (!is_key) {
+        raise_made(PyObject_CallFunctionObjArgs(key_fault_of, number, NULL));
     }
     Py_DECREF(number);
-    return 0;
+    return is_key ? 0 : -1;
 }
 
 /* ---- a call, and how it waits ---- */
@@ -150,8 +137,7 @@ static int is_to_wait(nm_outcome outcome) {
     return outcome == NM_FULL || outcome == NM_IN_USE || outcome == NM_NO_WORKER;
 }
 
-/* Returns the time in nanoseconds. */
-static uint64_t now(void) {
+uint64_t now(void) {
     struct timespec time = {0, 0};
     clock_gettime(CLOCK_MONOTONIC, &time);
     return (uint64_t)time.tv_sec * 1000000000u + (uint64_t)time.tv_nsec;
@@ -282,11 +268,10 @@ static PyObject *calls_keys(PyObject *object, PyObject *unused) {
 
 /* ---- several keys ---- */
 
-/* Returns a list of the keys that a scan has written, or NULL after an exception. */
-static PyObject *list_of(const Call *call) {
-    PyObject *list = PyList_New((Py_ssize_t)call->written);
-    for (size_t at = 0; list && at < call->written; at++) {
-        PyObject *key = PyLong_FromUnsignedLongLong(call->keys[at]);
+PyObject *list_of(const uint64_t *keys, size_t count) {
+    PyObject *list = PyList_New((Py_ssize_t)count);
+    for (size_t at = 0; list && at < count; at++) {
+        PyObject *key = PyLong_FromUnsignedLongLong(keys[at]);
         if (!key || PyList_SetItem(list, (Py_ssize_t)at, key) < 0) {
             Py_DECREF(list);
             return NULL;
@@ -317,7 +302,7 @@ static PyObject *calls_scan(PyObject *object, PyObject *args) {
     if (outcome < 0) {
         return raise_fault(self, outcome);
     }
-    PyObject *list = list_of(&call);
+    PyObject *list = list_of(call.keys, call.written);
     if (!list) {
         return NULL;
     }
@@ -339,7 +324,7 @@ static PyObject *calls_pop_some(PyObject *object, PyObject *args) {
     if (made_apart(self, &call, &outcome) < 0) {
         return NULL;
     }
-    return outcome < 0 ? raise_fault(self, outcome) : list_of(&call);
+    return outcome < 0 ? raise_fault(self, outcome) : list_of(call.keys, call.written);
 }
 
 static PyObject *calls_count(PyObject *object, PyObject *args) {
@@ -731,6 +716,7 @@ static PyObject *bind(PyObject *module, PyObject *args) {
 static PyMethodDef functions[] = {
     {"answers", answers, METH_O, NULL},
     {"bind", bind, METH_VARARGS, NULL},
+    {"bind_map", bind_map, METH_VARARGS, NULL},
     {"first_wrong", first_wrong, METH_VARARGS, NULL},
     {"give_up", give_up, METH_O, NULL},
     {NULL, NULL, 0, NULL},
@@ -749,15 +735,20 @@ static int is_first_interpreter(void) {
     return 0;
 }
 
+/* Adds a type to the module. Returns -1 after an exception, else 0. */
+static int add_type(PyObject *module, const char *name, PyType_Spec *spec) {
+    PyObject *type = PyType_FromSpec(spec);
+    int result = type ? PyObject_SetAttrString(module, name, type) : -1;
+    Py_XDECREF(type);
+    return result;
+}
+
 /* Fills the module, for each interpreter that imports it. */
 static int fill(PyObject *module) {
-    if (!is_first_interpreter()) {
-        return -1;
-    }
-    PyObject *calls = PyType_FromSpec(&calls_spec);
-    int is_filled = calls && PyObject_SetAttrString(module, "Calls", calls) == 0;
-    Py_XDECREF(calls);
-    return is_filled ? 0 : -1;
+    return is_first_interpreter() && add_type(module, "Calls", &calls_spec) == 0 &&
+                   add_type(module, "MapCalls", &map_spec) == 0
+               ? 0
+               : -1;
 }
 
 static PyModuleDef_Slot slots[] = {

@@ -14,6 +14,7 @@ from collections.abc import Mapping as AbstractMapping
 from contextlib import suppress
 from dataclasses import dataclass
 from itertools import islice
+from reprlib import recursive_repr
 from types import TracebackType
 from typing import Any, Generic, Optional, SupportsIndex, TypeVar, Union
 
@@ -653,6 +654,7 @@ class MapOf(_Numbers, _Ordered[T], KeyCalls[T, V]):
 
     # ---- of itself ----
 
+    @recursive_repr()
     def __repr__(self) -> str:
         """Shows the first ten keys with their objects, and how many there are."""
         return text_of(self, self._of._can_be_read())

@@ -9,6 +9,7 @@ from collections.abc import Callable, ItemsView, Iterable, Iterator, KeysView, M
 from collections.abc import Mapping as AbstractMapping
 from collections.abc import ValuesView
 from itertools import islice
+from reprlib import recursive_repr
 from typing import Any, Generic, Optional, TypeVar, Union, overload
 
 from ._faults import SHOWN, Contention, OutOfRange, shown_value
@@ -404,6 +405,7 @@ class SubMap(KeyCalls[K, V]):
         """Returns how many keys the view has: it goes over them."""
         return self.count_range()
 
+    @recursive_repr()
     def __repr__(self) -> str:
         """Shows the first ten keys with their objects, and how many there are."""
         return text_of(self, self._raw._can_be_read())

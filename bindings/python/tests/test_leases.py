@@ -3,14 +3,17 @@
 from __future__ import annotations
 
 import gc
+import sys
 import unittest
+import weakref
+from array import array
 from collections.abc import Iterator
-from contextlib import contextmanager
+from contextlib import contextmanager, suppress
 from ctypes import byref, c_uint32, c_void_p
 
 import nm_set
 from nm_set import _library as c
-from nm_set._leases import Owner, detach_with, drop_with, free_with
+from nm_set._leases import Owner, detach_with, free_with
 
 try:
     import _testcapi
@@ -43,6 +46,7 @@ class Pool:
 
 
 @unittest.skipUnless(_testcapi, "this Python cannot refuse memory")
+@unittest.skipIf(sys.version_info < (3, 11), "this Python stops when memory is refused")
 @unittest.skipUnless(nm_set.is_native, "ctypes takes memory for each call")
 class RefusedMemory(unittest.TestCase):
     def test_a_worker_is_returned(self) -> None:
@@ -68,15 +72,38 @@ class RefusedMemory(unittest.TestCase):
             self.assertEqual(pool.end(worker), c.DONE)
             self.assertEqual(c.exports.nm_drop(pool.report), c.DONE)
 
-    def test_a_map_is_given_up(self) -> None:
+    def test_a_map_ends_its_objects(self) -> None:
         with collected():
-            handle, owner = c.Handle(), Owner()
-            drop_with(owner, handle)
-            self.assertEqual(c.exports.nm_map_new(handle, 64, 1), c.DONE)
+            found = nm_set.Map[object](64, workers=1)
+            found[5] = value = Owner()
+            reference = weakref.ref(value)
+            del value
             _testcapi.set_nomemory(0)
-            del owner
+            del found
             _testcapi.remove_mem_hooks()
-            self.assertIsNone(handle.at)
+            self.assertIsNone(reference())
+
+    def test_a_map_loses_no_reference(self) -> None:
+        value, key = Owner(), 10**15
+        before = sys.getrefcount(value)
+        with nm_set.Map[object](64, workers=2) as found:
+            for first in range(40):
+                with suppress(MemoryError):
+                    self.make_calls(found, key, value, first)
+            self.assertEqual(len(found), len(list(found)))
+        self.assertEqual(sys.getrefcount(value), before)
+
+    def make_calls(self, found: nm_set.Map[object], key: int, value: object, first: int) -> None:
+        """Makes calls, while one request for memory is refused."""
+        words = memoryview(array("Q", [key, 5]))
+        _testcapi.set_nomemory(first, first + 1)
+        try:
+            found[key] = found[5] = value
+            found.replace(key, value)
+            found.get(key), found.first(), found._scan_items(0, 2**64 - 1, 8, False)
+            found._get_some(words, None), found.pop(key), found.pop_last(), found.collect()
+        finally:
+            _testcapi.remove_mem_hooks()
 
 
 if __name__ == "__main__":

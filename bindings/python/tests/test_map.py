@@ -4,6 +4,7 @@ object."""
 from __future__ import annotations
 
 import copy
+import ctypes
 import gc
 import os
 import pickle
@@ -77,6 +78,11 @@ class Answers(unittest.TestCase):
             for call in (lambda: found[6], lambda: found.pop(6), lambda: found.__delitem__(6)):
                 self.assertRaises(KeyError, call)
             self.assertRaises(KeyError, lambda: found["5"])
+            self.assertEqual((found.get(6, default="x"), found.get(5, default="x")), ("x", "five"))
+            for words, names in (
+                ((), {}), ((5, 6, 7), {}), ((5,), {"other": 6}), ((5, 6), {"default": 7}),
+            ):
+                self.assertRaises(TypeError, found.get, *words, **names)
             self.assertTrue(5.0 in found and "5" not in found and -1 not in found)
             self.assertEqual(found.pop("5", None), None)
             del found[5]
@@ -113,6 +119,13 @@ class Answers(unittest.TestCase):
         self.assertTrue(repr(found).endswith("9: 'x', ...}, 20 keys)"), repr(found))
         found.close()
         self.assertEqual(repr(found), "Map(closed)")
+
+    def test_a_map_may_have_itself(self) -> None:
+        with Map[Any](64) as found, nm_set.MapOf(nm_set.signed(), {-5: found}, nodes=64) as typed:
+            found[5] = typed
+            self.assertEqual(repr(found), "Map({5: MapOf({-5: ...})})")
+            self.assertEqual(repr(typed.sub_map()), "SubMap({-5: Map({5: MapOf({-5: ...})})})")
+            found.clear()
 
 
 def nearest(wanted: dict[int, int], keys: list[int]) -> Any:
@@ -216,8 +229,9 @@ class InOrder(unittest.TestCase):
             self.assertEqual((key, value.key, found.collect()), (5, 5, 1))
             self.assertEqual(ended([reference]), 0)
             del value
-            self.assertEqual((ended([reference]), len(found._read), len(found._left)), (1, 1, 1))
+            self.assertEqual((ended([reference]), len(found), found.waiting()), (1, 1, 0))
 
+    @unittest.skipIf(nm_set.is_native, "calls in C take an object in one step")
     def test_a_key_that_is_removed_before_its_object_is_read_is_looked_up_again(self) -> None:
         """The token of a scan or of a search comes back before the object is read."""
         with Map[str](4_096, workers=2, options=Options(rounds=1)) as found:
@@ -226,23 +240,77 @@ class InOrder(unittest.TestCase):
             found._read.clear()
             self.assertRaises(Contention, lambda: found.first())
             again = ["other", nm_set._map.MISSING, "x"]
-            with mock.patch.object(found, "_found", side_effect=again):
+            with mock.patch.object(found, "_get", side_effect=again):
                 self.assertEqual(list(found.items()), [(5, "other"), (7, "x")])
             found._read.update(lost)
             self.assertEqual(found.first(), (5, "five"))
 
     def test_an_unfinished_pop_says_which_key_it_removes(self) -> None:
-        def unfinished(handle: Any, bound: int, words: Any, key: Any, token: Any) -> int:
-            key.value = 5
-            return c.UNFINISHED
-
         with Map[str](64, workers=1) as found:
-            with mock.patch.object(c.quick, "nm_map_pop_first_below", unfinished):
+            with mock.patch.object(found, "_pop_from", side_effect=found._fault(c.UNFINISHED, 5)):
                 with self.assertRaisesRegex(nm_set.Unfinished, "the key 5 will be removed"):
                     found.pop_first()
 
 
+@unittest.skipUnless(nm_set.is_native, "by ctypes there is no such module")
+class InC(unittest.TestCase):
+    """Calls of the library that end in a way in which they hardly ever end under the interpreter's
+    lock."""
+
+    def replace(self, name: str, outcome: int) -> None:
+        """Lets the calls of a function of the library return another outcome than YES."""
+        from nm_set import _map, _native
+
+        function, parameters = getattr(c.quick, name), c.FUNCTIONS[name]
+
+        def call(*arguments: Any) -> int:
+            made = int(function(*arguments))
+            return outcome if made == c.YES else made
+
+        kept = ctypes.CFUNCTYPE(ctypes.c_int, *parameters)(call)
+        address = ctypes.cast(kept, ctypes.c_void_p).value
+        others = _map.MISSING, _map.number_of
+        _native.bind_map(lambda it: address if it == name else c.address(it), *others)
+        self.addCleanup(lambda: (_native.bind_map(c.address, *others), kept))
+
+    def test_an_unfinished_remove_returns_its_object(self) -> None:
+        self.replace("nm_map_remove", c.UNFINISHED)
+        with Map[Value](64, workers=1) as found:
+            found[5] = Value(5)
+            value = found.pop(5)
+            reference = weakref.ref(value)
+            self.assertEqual((value.key, len(found), found.waiting()), (5, 0, 2))
+            self.assertEqual((found.collect(), ended([reference])), (1, 0))
+            del value
+            self.assertEqual((ended([reference]), found.free()), (1, 64 - 5))
+
+    def test_the_object_of_an_unfinished_pop_ends(self) -> None:
+        for name in ("nm_map_pop_first_below", "nm_map_pop_last_from"):
+            self.replace(name, c.UNFINISHED)
+            with Map[Value](64, workers=1) as found:
+                found[5] = Value(5)
+                reference = weakref.ref(found[5])
+                pop = found.pop_first if "first" in name else found.pop_last
+                self.assertRaisesRegex(nm_set.Unfinished, "the key 5 will be removed", pop)
+                self.assertEqual((len(found), found.collect(), ended([reference])), (0, 1, 1))
+
+    def test_a_fault_of_the_library_gives_the_object_back(self) -> None:
+        self.replace("nm_map_insert", c.NO_MEMORY)
+        with Map[Value](64, workers=1) as found:
+            value = Value(5)
+            before = sys.getrefcount(value)
+            self.assertRaises(nm_set.NoMemory, lambda: found.insert(5, value))
+            self.assertEqual((sys.getrefcount(value), len(found)), (before, 0))
+
+
 class Refusals(unittest.TestCase):
+    def test_a_map_is_made_once(self) -> None:
+        with Map[int](64) as found:
+            found[5] = 5
+            self.assertRaises(TypeError, lambda: found.__init__(64))  # type: ignore[misc]
+            self.assertEqual(dict(found), {5: 5})
+        self.assertRaises(Closed, lambda: Map.__new__(Map)[5])
+
     def test_wrong_numbers_are_refused(self) -> None:
         for nodes, workers in ((6, 1), (2**40, 1), (64, 0), (64, 65)):
             self.assertRaises(OutOfRange, lambda: Map[int](nodes, workers=workers))
@@ -272,7 +340,7 @@ class Refusals(unittest.TestCase):
         with Map[int](7, workers=2, options=Options(timeout_ms=20)) as found:
             reader = found._take()
             found[5] = 5
-            c.quick.nm_map_hold(reader.handle, found._words, c.c_uint64())
+            found._pin(reader)
             del found[5]
             begin = time.monotonic()
             with self.assertRaises(Full) as raised:
@@ -281,9 +349,8 @@ class Refusals(unittest.TestCase):
             text = "the map is full: its 0 keys take 5 of its 7 nodes, and 2 wait to be freed;"
             text += " worker 0 is in their way, by a pin or in a call"
             self.assertEqual(str(raised.exception), text)
-            c.quick.nm_map_unpin(reader.handle)
+            found._put_back(reader)
             found[6] = 6
-            found._idle.append(reader)
 
     def test_an_object_may_call_the_full_map_at_its_end(self) -> None:
         """It ends by an insert into the full map, whose only worker is then in no call."""
@@ -304,6 +371,7 @@ class Refusals(unittest.TestCase):
             found[7] = "seven"
             self.assertEqual(ends, ["seven", "seven"])
 
+    @unittest.skipIf(nm_set.is_native, "the end of a map in C is one step")
     def test_a_close_that_was_interrupted_goes_on(self) -> None:
         """An exception of a signal handler may come before, or after, each step of a close."""
         drop = c.exports.nm_drop
@@ -320,22 +388,42 @@ class Refusals(unittest.TestCase):
             found._idle.clear()
             with mock.patch.object(c.exports, "nm_drop", lambda it: interrupt(it, is_after)):
                 self.assertRaises(KeyboardInterrupt, found.close)
-            self.assertRaises(Closed, lambda: found.get(5))
-            found.close()
-            self.assertEqual(ended([reference]), 1)
-            found.close()
+            self.goes_on(found, reference)
+
+    def goes_on(self, found: Map[Value], reference: weakref.ref[Value]) -> None:
+        """Closes a map whose close was interrupted."""
+        self.assertRaises(Closed, lambda: found.get(5))
+        found.close()
+        self.assertEqual(ended([reference]), 1)
+        found.close()
+
+    def test_a_close_that_was_interrupted_beside_its_end_goes_on(self) -> None:
+        for is_after in (False, True):
+            found = Map[Value](64, workers=1)
+            found[5] = Value(5)
+            reference, end = weakref.ref(found[5]), found._end
+
+            def interrupt(is_after: bool = is_after, end: Callable[[], int] = end) -> int:
+                if is_after:
+                    end()
+                raise KeyboardInterrupt
+
+            with mock.patch.object(found, "_end", interrupt):
+                self.assertRaises(KeyboardInterrupt, found.close)
+            self.goes_on(found, reference)
 
     def test_a_call_waits_for_a_worker(self) -> None:
         with Map[int](64, workers=1, options=Options(timeout_ms=20)) as found:
             taken = found._take()
             self.assertRaisesRegex(NoWorker, "each of the 1 workers", lambda: found.get(5))
-            found._idle.append(taken)
+            found._put_back(taken)
             self.assertIsNone(found.get(5))
 
+    @unittest.skipIf(nm_set.is_native, "no worker is lost between two steps of C")
     def test_a_lost_worker_is_returned(self) -> None:
         with Map[int](64, workers=1, options=Options(timeout_ms=0)) as found:
             lost = found._take()
-            c.quick.nm_map_hold(lost.handle, found._words, c.c_uint64())
+            found._pin(lost)
             del lost
             self.assertIsNone(found.get(5))
 
@@ -392,11 +480,10 @@ class Ends(unittest.TestCase):
         with Map[Value](4_096, workers=3) as found:
             found[5] = Value(5)
             reference, reader = weakref.ref(found[5]), found._take()
-            c.quick.nm_map_hold(reader.handle, found._words, c.c_uint64())
+            found._pin(reader)
             del found[5]
             self.assertEqual((found.collect(), ended([reference])), (0, 0))
-            c.quick.nm_map_unpin(reader.handle)
-            found._idle.append(reader)
+            found._put_back(reader)
             self.assertEqual((found.collect(), ended([reference])), (1, 1))
 
     def test_a_call_collects_by_itself(self) -> None:
@@ -424,6 +511,98 @@ class Ends(unittest.TestCase):
         self.assertEqual(said, ["seven"] * 10)
         found.close()
 
+    def test_an_object_may_change_the_map_at_its_end(self) -> None:
+        found = Map[Any](4_096, workers=1, options=Options(timeout_ms=0, collect_after=2))
+        depth = 0
+
+        class Putter:
+            def __del__(self) -> None:
+                nonlocal depth
+                depth += 1
+                if depth < 50:
+                    found[5] = Putter()
+                    found.pop(6, None)
+                    found[6] = Putter()
+
+        found[5] = Putter()
+        for _ in range(30):
+            found[5] = None
+            found.collect()
+        found.clear()
+        while found.waiting():
+            found.collect()
+        self.assertGreaterEqual(depth, 50)
+        self.assertEqual((len(found), found.free()), (0, 4_096 - 5))
+        found.close()
+
+    def test_an_object_may_close_the_map_at_its_end(self) -> None:
+        found = Map[Any](4_096, workers=1, options=Options(collect_after=2))
+
+        class Closer:
+            def __del__(self) -> None:
+                found.close()
+
+        found[5], found[6], value = Closer(), Value(6), Value(7)
+        references = [weakref.ref(found[6]), weakref.ref(value)]
+        with suppress(Closed):
+            for _ in range(9):
+                found[5] = value
+        self.assertRaises(Closed, lambda: found.get(5))
+        del value
+        self.assertEqual(ended(references), 2)
+
+    def test_objects_that_a_close_ends_find_the_map_closed(self) -> None:
+        found, said = Map[Any](64), []
+
+        class Caller:
+            def __del__(self) -> None:
+                for call in (lambda: found[5], lambda: len(found), lambda: found.insert(7, 7)):
+                    try:
+                        call()
+                    except Closed:
+                        said.append(True)
+
+        found[5], found[6] = Caller(), Caller()
+        found.close()
+        self.assertEqual(said, [True] * 6)
+
+    def test_garbage_that_refers_to_its_map_ends(self) -> None:
+        found = Map[Any](64)
+        value, waits = Value(5), Value(6)
+        value.found = waits.found = found  # type: ignore[attr-defined]
+        found[5], found[6] = value, waits
+        references = [weakref.ref(value), weakref.ref(waits)]
+        del found[6], value, waits
+        self.assertEqual(ended(references), 0)
+        map_reference = weakref.ref(found)
+        del found
+        self.assertEqual((ended(references), map_reference()), (2, None))
+
+    def test_no_reference_is_lost_and_none_is_left(self) -> None:
+        value = object()
+        before = sys.getrefcount(value)
+        with Map[object](1_024, workers=2) as found:
+            found.update((key, value) for key in range(100))
+            for key in range(100):
+                found[key] = value
+                found.replace(key, value)
+                found.compare_replace(key, value, value)
+                found.compare_replace(key, None, value)
+                found.insert(key, value)
+                found.setdefault(key + 50, value)
+                self.assertIs(found.get(key, value), found.get(-1, value))
+            found.get_many([5, 500, 2_000], value)
+            self.assertEqual(len(list(found.items()) + found.scan(0, 99)[0] + [found.last()]), 250)
+            self.assertEqual((found.pop_first(), found.pop(1)), ((0, value), value))
+            self.assertEqual(len(found), 148)
+            self.assertRaises(TypeError, lambda: found.insert("5", value))  # type: ignore[arg-type]
+            while found.waiting():
+                found.collect()
+            references = 148 if nm_set.is_native else 2 * 148  # by ctypes there are two dicts
+            self.assertEqual(sys.getrefcount(value), before + references)
+            found.clear()
+        self.assertEqual(sys.getrefcount(value), before)
+
     def test_a_map_that_is_not_closed_ends_its_objects(self) -> None:
         found = Map[Value](64)
         found[5] = Value(5)
@@ -434,7 +613,7 @@ class Ends(unittest.TestCase):
     def test_a_close_waits_for_a_call(self) -> None:
         found = Map[int](64, workers=2)
         worker = found._take()
-        timer = threading.Timer(0.05, lambda: found._idle.append(worker))
+        timer = threading.Timer(0.05, lambda: found._put_back(worker))
         begin = time.monotonic()
         timer.start()
         found.close()
@@ -445,7 +624,7 @@ class Ends(unittest.TestCase):
         with mock.patch("nm_set._map._LONGEST", 0.02):
             self.assertRaises(nm_set.InUse, other.close)
         other[5] = 5
-        other._idle.append(kept)
+        other._put_back(kept)
         other.close()
 
     def test_a_forked_child_makes_no_call(self) -> None:
@@ -467,6 +646,25 @@ class Ends(unittest.TestCase):
                 os._exit(is_refused)
             self.assertEqual(os.waitstatus_to_exitcode(os.waitpid(child, 0)[1]), 7)
             self.assertEqual((found[5], found.insert(6, 6)), (5, True))
+
+    def test_a_forked_child_ends_no_object(self) -> None:
+        found, ends = Map[Any](64), []
+
+        class Caller:
+            def __del__(self) -> None:
+                ends.append(True)
+
+        found[5], found[6] = Caller(), Caller()
+        found[5].found = found
+        del found[6]
+        child = os.fork()
+        if child == 0:
+            del found
+            gc.collect()
+            os._exit(len(ends))
+        self.assertEqual(os.waitstatus_to_exitcode(os.waitpid(child, 0)[1]), 0)
+        found.close()
+        self.assertEqual(len(ends), 2)
 
 
 class Threads(unittest.TestCase):
@@ -520,7 +718,7 @@ class Threads(unittest.TestCase):
             self.assertEqual(len(found), len(list(found)))
             self.assertTrue(all(value.key == key for key, value in found.items()))
             found.collect()
-            self.assertEqual(len(found._read), len(found))
+            self.assertEqual(found.waiting(), 0)
 
     def test_each_object_is_popped_once(self) -> None:
         with Map[int](4_096, workers=8, options=Options(timeout_ms=10_000)) as found:
@@ -645,7 +843,8 @@ class Signals(unittest.TestCase):
             signal.signal(signal.SIGALRM, before)
         self.assertEqual(interrupts, 200)
         taken = [found._take(), found._take()]
-        found._idle.extend(taken)
+        for worker in taken:
+            found._put_back(worker)
         self.assertTrue(all(found[key] == key for key in found))
         found.close()
 

@@ -209,9 +209,8 @@ class FullMaps(unittest.TestCase):
         with Map[int](11, workers=2, options=Options(timeout_ms=30)) as found:
             found[1] = found[2] = 0
             found.collect()
-            reader, epoch = found._take(), nm_set._library.c_uint64()
-            hold = nm_set._library.quick.nm_map_hold
-            self.assertEqual(hold(reader.handle, found._words, epoch), nm_set._library.DONE)
+            reader = found._take()
+            found._pin(reader)
             found[1] = found[2] = 1
             begin = time.monotonic()
             with self.assertRaises(Full) as full:
@@ -219,8 +218,7 @@ class FullMaps(unittest.TestCase):
             self.assertGreater(time.monotonic() - begin, 0.029)
             self.assertIn("take 9 of its 11 nodes, and 2 wait to be freed", str(full.exception))
             self.assertRaises(Full, lambda: found.__setitem__(3, 3))
-            nm_set._library.quick.nm_map_unpin(reader.handle)
-            found._idle.append(reader)
+            found._put_back(reader)
             found[3] = 3
             self.assertEqual(dict(found), {1: 1, 2: 1, 3: 3})
 

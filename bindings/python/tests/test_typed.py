@@ -246,12 +246,9 @@ class Typed(unittest.TestCase):
             self.assertRaises(TypeError, kind, [5])
 
     def test_an_unfinished_pop_names_the_value(self) -> None:
-        def unfinished(handle: Any, bound: int, words: Any, key: Any, token: Any) -> int:
-            key.value = floats().to_key(-0.5)
-            return c.UNFINISHED
-
         with MapOf(floats(), 64) as found:
-            with mock.patch.object(c.quick, "nm_map_pop_first_below", unfinished):
+            unfinished = found.raw._fault(c.UNFINISHED, floats().to_key(-0.5))
+            with mock.patch.object(found.raw, "_pop_from", side_effect=unfinished):
                 with self.assertRaisesRegex(nm_set.Unfinished, "the key -0.5 will be removed"):
                     found.pop_first()
 
