@@ -6,11 +6,11 @@ use Rattle.nm_model.specs.declared.event.Event.{Event}
 use Rattle.nm_model.specs.declared.event.Event.TheVariants.{Claim, Look}
 use Rattle.nm_model.specs.declared.event.Field.TheVariants.{Birth}
 use Rattle.nm_model.specs.declared.event.Op.{Op}
-use Rattle.nm_model.specs.declared.event.Op.TheVariants.{Delete}
+use Rattle.nm_model.specs.declared.event.Op.TheVariants.{Delete, Insert}
 use Rattle.nm_model.specs.declared.reply.Reply.{Reply}
 use Rattle.nm_model.specs.declared.reply.Reply.TheVariants.{BirthIs, Taken}
 use Rattle.nm_model.specs.declared.trace.Turn.{Turn}
-use Rattle.nm_model.specs.Headline.{Headline, TellsWhatStands, words_after}
+use Rattle.nm_model.specs.Headline.{Headline, StandsAt, TellsWhatStands, words_after}
 use Rattle.nm_model.specs.Memory.{node}
 use Rattle.nm_model.specs.Step.{last_number}
 use Rattle.nm_theorem.proofs.HeadlineOfRuns.{each_run_has_it}
@@ -18,13 +18,16 @@ use Rattle.nm_progress.specs.Alone.{RunsAlone}
 use Rattle.nm_steps.specs.Steps.{HasSeen, PassView, TreeView}
 use Rattle.nm_calls.specs.declared.fault.CallFault.{CallFault}
 use Rattle.nm_calls.specs.declared.fault.CallFault.TheVariants as fault
+use Rattle.nm_puts.specs.declared.putting.Condition.{Condition}
+use Rattle.nm_puts.specs.declared.putting.PutOutcome.{PutOutcome}
 use Rattle.nm_tree.specs.Answers.{FoundNoSlot, HasMade, LacksRoom}
 use Rattle.nm_tree.specs.Workers.{WorkerView}
 use Rattle.nm_set.specs.declared.managed.Options.{Options}
 use Rattle.nm_set.specs.Asked.{UnlessPinned}
-use Rattle.nm_set.specs.Managed.{ManagesIn}
+use Rattle.nm_set.specs.Managed.{IsLeft, ManagesIn}
+use Rattle.nm_set.specs.MapPuts.{SaysManagedPut}
 use Rattle.nm_set.proofs.Managing.{none_there, stays_alone}
-use Rattle.nm_callers.specs.Enough.{IsAnswer, StaysFree}
+use Rattle.nm_callers.specs.Enough.{IsAnswer, StaysFree, WasInUse}
 
 -- ---- turns
 
@@ -84,7 +87,47 @@ module _ (p q : PassView) (seen : HasSeen q.view) (fits : IsLayout q.view.layout
           free.births s.so_far s.rest s.are s.later (same_birth (node (words_after L s.so_far) free.slot).birth
           s.stands)
 
+  -- a slot that was found taken stood at another place than in the pool
+  placed : (s : ℕ) → 6 ≤ s → s ≤ L.nodes → Stood q.view.number (Claim s) Taken → WasInUse p q s
+  placed s low within at =
+      let one = headline.places at.so_far at.rest at.are s low within in
+      record {
+        so_far = at.so_far;
+        rest = at.rest;
+        are = at.are;
+        later = at.later;
+        used = inl (
+          one.place,
+          λ pool. true≢false (sym (subst (StandsAt L at.so_far s) pool one.here) ∙ at.stands),
+          one.here,
+        );
+      }
+
+  pub in_use : FoundNoSlot p q → (s : ℕ) → 6 ≤ s → s ≤ L.nodes → WasInUse p q s
+  in_use (turns, is, finds) s low within = by (finds s low within)
+    where
+      by : HasMade q.view.number turns (Claim s) Taken
+          ⊎ HasMade q.view.number turns (Look s Birth) (BirthIs last_number) → WasInUse p q s
+      by (inl made) = placed s low within (stood turns is q.view.number (Claim s) Taken made)
+      by (inr made) = let at = stood turns is q.view.number (Look s Birth) (BirthIs last_number) made in
+          record {
+            so_far = at.so_far;
+            rest = at.rest;
+            are = at.are;
+            later = at.later;
+            used = inr (same_birth (node (words_after L at.so_far) s).birth at.stands);
+          }
+
 -- ---- managed calls
+
+-- after a put that was full each slot was in use
+pub put_was_full : (b : TreeView) (h : Options) (when : Condition) (k v : ℕ) (w z : WorkerView)
+    (r : Result PutOutcome CallFault) → HasSeen z.pass.view → IsLayout z.pass.view.layout
+    → SaysManagedPut b h when k v w z r → r ≡ Err fault.Full
+    → (s : ℕ) → 6 ≤ s → s ≤ z.pass.view.layout.nodes → WasInUse w.pass z.pass s
+put_was_full b h when k v w z r seen fits (inl pinned) is = absurd (let no = sym is ∙ pinned.1 in cc)
+put_was_full b h when k v w z r seen fits (inr (free, m)) is =
+    in_use w.pass z.pass seen fits (subst (IsLeft Insert k w z) is m.answers.left).2
 
 module _ (map : Bool) (b : TreeView) (h : Options) (op : Op) (k : ℕ) (w z : WorkerView) (some : 1 ≤ h.tries)
     (runs : RunsAlone w.pass z.pass) (slots : FoundNoSlot w.pass z.pass → ⊥) (room : LacksRoom z → ⊥) where

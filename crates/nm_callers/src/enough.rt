@@ -1,13 +1,13 @@
 //! Managed calls of a set and of a map that are answered, because slots and memory suffice, proved from
 //! the clauses of `nm_set` and the page alone.
-ghost use Rattle.std.specs.Prelude.{◌≡◌, ◌≤◌, None};
+ghost use Rattle.std.specs.Prelude.{◌≡◌, ◌≤◌, ℕ, None, Err};
 ghost use Rattle.nm_progress.specs.Alone.{RunsAlone};
 ghost use Rattle.nm_tree.specs.Answers.{LacksRoom};
 ghost use Rattle.nm_set.specs.Managed.{of_insert};
-ghost use Rattle.nm_callers.specs.Enough.{IsAnswer, StaysFree};
+ghost use Rattle.nm_callers.specs.Enough.{IsAnswer, StaysFree, WasInUse};
 
 use nm_edge::Key;
-use nm_set::{InsertFault, MapMember, Member, Options};
+use nm_set::{Condition, InsertFault, MapMember, Member, Options, PutOutcome};
 use nm_tree::CallFault;
 
 /// Inserts a key into a set, with at least one try. Proved: the call returns an answer if no other
@@ -65,6 +65,26 @@ pub fn put_with_enough(
     let inserted = member.insert(key, value, &mut found, options);
     member.know_run();
     inserted
+}
+
+/// Gives a key of a map a value, whether the map has the key or not. Proved: if the call is `Full`, each
+/// slot was in use at a moment of the call: a worker was about to use it, or it had a node of the tree,
+/// or a node that was cut off waited in it. (Or all its 2^62 births are used.) So a map is never full
+/// because of nodes that were freed.
+pub fn put_unless_full(
+    member: &mut MapMember,
+    key: Key,
+    value: u64,
+    options: &Options,
+) -> Result<PutOutcome, CallFault>
+    ensures tree { member.new.tree ≡ member.old.tree }
+    ensures used { result ≡ Err CallFault.Full → (slot : ℕ) → 6 ≤ slot
+        → slot ≤ member.new.worker.pass.view.layout.nodes
+        → WasInUse member.old.worker.pass member.new.worker.pass slot }
+{
+    let put = member.put(key, value, Condition::Always, options);
+    member.know_run();
+    put
 }
 
 /// Removes a key from a map. Proved: the same as of `remove_with_enough`.

@@ -68,6 +68,7 @@ pub use coming_back::work_and_return;
 pub use counting::counters_end_with_the_sum;
 pub use counting::raise_shared;
 pub use enough::insert_with_enough;
+pub use enough::put_unless_full;
 pub use enough::put_with_enough;
 pub use enough::remove_with_enough;
 pub use enough::take_with_enough;
