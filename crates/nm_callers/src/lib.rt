@@ -146,6 +146,7 @@ pub use sharing::share_tasks;
 pub use sharing::take_tasks;
 pub use taken_twice::Took;
 pub use taken_twice::take_twice;
+pub use taken_twice::take_twice_if;
 pub use taken_values::pin_then_get;
 pub use taken_values::put_then_get_pinned;
 pub use taken_values::put_then_take;

@@ -6,10 +6,10 @@ use Rattle.nm_steps.proofs.Growing.{goes_on_through}
 use Rattle.nm_steps.proofs.Seeing.{stores_through}
 use Rattle.nm_callers.specs.TakenTwice.{AreTwoDeletes, TookByDelete}
 use Rattle.nm_callers.proofs.TwoTakes.{are_two_deletes}
-use Rattle.nm_callers.proofs.taken_twice.take_twice.Goals as goal
+use Rattle.nm_callers.proofs.taken_twice.both_took.Goals as goal
 
-pub returns : goal.returns
-returns g c =
+pub returns-clause-deletes : goal.returns-clause-deletes
+returns-clause-deletes g c =
     let o : PassView = c.args.one.pass in
     let n : PassView = c.args.two.pass in
     let p : PassView = c.take_at_once-first.result.0.worker.pass in
