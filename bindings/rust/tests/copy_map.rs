@@ -333,6 +333,44 @@ fn a_key_is_never_absent() {
     assert_eq!((worker.get(5), map.len()), (Ok(Some(PUTS)), Ok(1)));
 }
 
+/// Repeats a call until other threads do not interfere.
+fn repeated<T>(mut call: impl FnMut() -> Result<T, Fault>) -> T {
+    loop {
+        match call() {
+            Err(Fault::Contention) => thread::yield_now(),
+            made => return made.unwrap(),
+        }
+    }
+}
+
+/// With one try, removes of neighbouring keys by several threads may be unfinished. Each of them counts
+/// as a remove, and the next call of its worker finishes it.
+#[test]
+fn an_unfinished_remove_counts_as_removed() {
+    let bounds = Options {
+        tries: 1,
+        rounds: 0,
+        ..options(THREADS as u32, 20_000)
+    };
+    let map = CopyMap::with_options(4_096, bounds).unwrap();
+    thread::scope(|scope| {
+        for key in 0..THREADS {
+            let map = &map;
+            scope.spawn(move || {
+                let mut worker = map.attach().unwrap();
+                for turn in 0..STEPS {
+                    assert_eq!(repeated(|| worker.update(key, |_| turn)), turn);
+                    assert!(!repeated(|| worker.compare_remove(key, turn + 1)));
+                    assert!(repeated(|| worker.compare_remove(key, turn)));
+                    assert_eq!(repeated(|| worker.get(key)), None);
+                }
+            });
+        }
+    });
+    let mut worker = map.attach().unwrap();
+    assert_eq!((map.len(), repeated(|| worker.first())), (Ok(0), None));
+}
+
 /// Of the threads that expect a value, one removes its key, and then inserts it with the next value.
 #[test]
 fn each_expected_value_is_removed_once() {
