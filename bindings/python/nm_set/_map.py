@@ -211,11 +211,28 @@ class Map(MapCalls, Views[int, V]):
         of the library. If another thread replaces the object after that, this compares again, at
         most `rounds` of `Options` times, and then raises `Contention`."""
         number = checked_key(key)
+
+        def replace(found: object) -> bool:
+            return self._give(REPLACE_IF, number, value, found)[0] == c.REPLACED
+
+        return self._compare(number, expected, replace)
+
+    def compare_remove(self, key: SupportsIndex, expected: object) -> bool:
+        """Removes a key if it has the expected object or one that equals it. Returns whether it did:
+        not if the map does not have the key. It compares, and raises `Contention`, like
+        `compare_replace`."""
+        number = checked_key(key)
+        return self._compare(number, expected, lambda found: self._remove_if(number, found))
+
+    def _compare(self, number: int, expected: object, change: Callable[[object], bool]) -> bool:
+        """Makes a change of a key that has the expected object or an equal one, which it passes to
+        the change. Returns whether the change was made. If the key was changed in between, it
+        compares again."""
         for _ in range(self._rounds + 1):
             found = self._get(number)
             if found is MISSING or (found is not expected and found != expected):
                 return False
-            if self._give(REPLACE_IF, number, value, found)[0] == c.REPLACED:
+            if change(found):
                 return True
         raise Contention("other threads changed the key in each round: call again")
 

@@ -302,11 +302,29 @@ class MapCalls:
         whose remove is unfinished too, because this call will remove it and no other call will."""
         token = c_uint64()
         outcome = c.quick.nm_map_remove(worker.handle, key, self._words, token)
+        return self._taken(outcome, token.value)
+
+    def _taken(self, outcome: int, token: int) -> Any:
+        """Returns the object of a token that a remove with this outcome has taken, or `MISSING`."""
         if outcome in (c.YES, c.UNFINISHED):
-            return self._left.pop(token.value)
+            return self._left.pop(token)
         if outcome < 0:
             raise self._fault(outcome)
         return MISSING
+
+    def _remove_if(self, number: int, expected: object) -> bool:
+        """Removes a key if it has an object; returns whether it did, also if the remove is
+        unfinished."""
+        removed = self._with_worker(lambda worker: self._removed_if(worker, number, expected))
+        return removed is not MISSING
+
+    def _removed_if(self, worker: _Worker, key: int, expected: object) -> Any:
+        """Removes a key if it has the expected object; returns that, or `MISSING`."""
+        was = c_uint64()
+        if self._found(worker, key, was) is not expected:
+            return MISSING
+        outcome = c.quick.nm_map_remove_if(worker.handle, key, was.value, self._words, c_uint64())
+        return self._taken(outcome, was.value)
 
     # ---- in order ----
 

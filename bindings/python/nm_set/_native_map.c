@@ -41,6 +41,7 @@ static nm_outcome (*replace_of)(nm_handle *, uint64_t, uint64_t, const nm_option
 static nm_outcome (*compare_replace_of)(nm_handle *, uint64_t, uint64_t, uint64_t,
                                         const nm_options *, uint64_t *);
 static nm_outcome (*remove_of)(nm_handle *, uint64_t, const nm_options *, uint64_t *);
+static nm_outcome (*remove_if_of)(nm_handle *, uint64_t, uint64_t, const nm_options *, uint64_t *);
 typedef nm_outcome (*entry_call)(nm_handle *, uint64_t, const nm_options *, uint64_t *, uint64_t *);
 static entry_call pop_first_of, pop_last_of, at_least_of, at_most_of;
 typedef nm_outcome (*keys_call)(nm_handle *, uint64_t, uint64_t, uint64_t *, size_t, size_t *,
@@ -349,20 +350,27 @@ typedef struct {
     PyObject *value, *expected;
 } Change;
 
-/* Replaces an object if it is the expected one. A cell may have been emptied, and taken for another
- * object, after its object was read. So this compares the object of the cell that the key has now.
- */
+/* Finds the cell of a key, if it has the expected object. A cell may have been emptied, and taken
+ * for another object, after its object was read. So this compares the object of the cell that the
+ * key has now. Returns NM_YES, NM_ABSENT, NM_OTHER or an error. */
+static nm_outcome cell_of(Map *self, Worker *worker, uint64_t key, const PyObject *expected,
+                          uint64_t *cell) {
+    nm_outcome outcome = get_of(&worker->handle, key, &self->options, cell);
+    if (outcome == NM_YES) {
+        return self->cells[*cell].object == expected ? NM_YES : NM_OTHER;
+    }
+    return outcome == NM_NO ? NM_ABSENT : outcome;
+}
+
+/* Replaces an object if it is the expected one. */
 static nm_outcome replace_if(Map *self, Worker *worker, Change *change) {
-    uint64_t now_there;
-    nm_outcome outcome = get_of(&worker->handle, change->key, &self->options, &now_there);
+    uint64_t cell;
+    nm_outcome outcome = cell_of(self, worker, change->key, change->expected, &cell);
     if (outcome != NM_YES) {
-        return outcome == NM_NO ? NM_ABSENT : outcome;
+        return outcome;
     }
-    if (self->cells[now_there].object != change->expected) {
-        return NM_OTHER;
-    }
-    return compare_replace_of(&worker->handle, change->key, now_there, change->cell,
-                              &self->options, &change->old);
+    return compare_replace_of(&worker->handle, change->key, cell, change->cell, &self->options,
+                              &change->old);
 }
 
 /* Makes the call of the library, and returns its outcome. */
@@ -456,19 +464,27 @@ static void count_removed(Map *self, Worker *worker) {
     worker->waiting += 2;
 }
 
-/* Removes a key, and takes a reference to its object. Returns 1, or 0 if the key is absent, or -1
- * after an exception. */
-static int removed(Map *self, PyObject *key, PyObject **object) {
-    uint64_t number, cell;
-    int is_key = number_of(key, &number);
-    if (is_key <= 0) {
-        return is_key < 0 || !is_open(self) ? -1 : 0;
+/* Removes a key if it has the expected object, whose cell it writes. */
+static nm_outcome remove_if(Map *self, Worker *worker, uint64_t key, const PyObject *expected,
+                            uint64_t *cell) {
+    uint64_t other;
+    nm_outcome outcome = cell_of(self, worker, key, expected, cell);
+    if (outcome != NM_YES) {
+        return outcome;
     }
+    return remove_if_of(&worker->handle, key, *cell, &self->options, &other);
+}
+
+/* Removes a key if it has the expected object, or any if that is NULL, and takes a reference to its
+ * object. Returns 1, or 0 if the key is absent or has another object, or -1 after an exception. */
+static int removed(Map *self, uint64_t key, const PyObject *expected, PyObject **object) {
+    uint64_t cell;
     Worker *worker = take(self);
     if (!worker) {
         return -1;
     }
-    nm_outcome outcome = remove_of(&worker->handle, number, &self->options, &cell);
+    nm_outcome outcome = expected ? remove_if(self, worker, key, expected, &cell)
+                                  : remove_of(&worker->handle, key, &self->options, &cell);
     int is_removed = outcome == NM_YES || outcome == NM_UNFINISHED;
     if (is_removed) {
         count_removed(self, worker);
@@ -482,12 +498,22 @@ static int removed(Map *self, PyObject *key, PyObject **object) {
     return is_removed;
 }
 
+/* Removes the key that an object equals, in the same way. Returns 0 too if the object is no key. */
+static int removed_key(Map *self, PyObject *key, PyObject **object) {
+    uint64_t number;
+    int is_key = number_of(key, &number);
+    if (is_key <= 0) {
+        return is_key < 0 || !is_open(self) ? -1 : 0;
+    }
+    return removed(self, number, NULL, object);
+}
+
 static int map_assign(PyObject *self, PyObject *key, PyObject *value) {
     PyObject *object;
     if (value) {
         return put((Map *)self, key, value);
     }
-    int is_removed = removed((Map *)self, key, &object);
+    int is_removed = removed_key((Map *)self, key, &object);
     if (is_removed > 0) {
         Py_DECREF(object);
         return 0;
@@ -500,11 +526,25 @@ static int map_assign(PyObject *self, PyObject *key, PyObject *value) {
 
 static PyObject *map_pop(PyObject *self, PyObject *key) {
     PyObject *object = missing;
-    int is_removed = removed((Map *)self, key, &object);
+    int is_removed = removed_key((Map *)self, key, &object);
     if (is_removed == 0) {
         Py_INCREF(missing);
     }
     return is_removed < 0 ? NULL : object;
+}
+
+/* Removes a key if it has an object. Returns whether it did. */
+static PyObject *map_remove_if(PyObject *self, PyObject *args) {
+    unsigned long long key;
+    PyObject *expected, *object;
+    if (!PyArg_ParseTuple(args, "KO", &key, &expected)) {
+        return NULL;
+    }
+    int is_removed = removed((Map *)self, key, expected, &object);
+    if (is_removed > 0) {
+        Py_DECREF(object);
+    }
+    return is_removed < 0 ? NULL : PyBool_FromLong(is_removed);
 }
 
 /* Returns a key with its object, whose reference it takes; or NULL after an exception. */
@@ -946,6 +986,7 @@ static PyMethodDef map_methods[] = {
     {"_pop_from", map_pop_from, METH_VARARGS, NULL},
     {"_put_back", map_put_back, METH_O, NULL},
     {"_reclaimed", map_reclaimed, METH_NOARGS, NULL},
+    {"_remove_if", map_remove_if, METH_VARARGS, NULL},
     {"_scan", map_scan, METH_VARARGS, NULL},
     {"_scan_items", map_scan_items, METH_VARARGS, NULL},
     {"_take", map_take, METH_NOARGS, NULL},
@@ -999,6 +1040,7 @@ static const struct {
     {"nm_map_replace", &replace_of},
     {"nm_map_compare_replace", &compare_replace_of},
     {"nm_map_remove", &remove_of},
+    {"nm_map_remove_if", &remove_if_of},
     {"nm_map_pop_first_below", &pop_first_of},
     {"nm_map_pop_last_from", &pop_last_of},
     {"nm_map_at_least", &at_least_of},

@@ -284,6 +284,16 @@ class InC(unittest.TestCase):
             del value
             self.assertEqual((ended([reference]), found.free()), (1, 64 - 5))
 
+    def test_an_unfinished_remove_of_an_expected_object_counts_as_removed(self) -> None:
+        self.replace("nm_map_remove_if", c.UNFINISHED)
+        with Map[Value](64, workers=1) as found:
+            found[5] = Value(5)
+            reference = weakref.ref(found[5])
+            self.assertFalse(found.compare_remove(5, Value(5)))
+            self.assertTrue(found.compare_remove(5, found[5]))
+            self.assertEqual((len(found), found.waiting(), ended([reference])), (0, 2, 0))
+            self.assertEqual((found.collect(), ended([reference]), found.free()), (1, 1, 64 - 5))
+
     def test_the_object_of_an_unfinished_pop_ends(self) -> None:
         for name in ("nm_map_pop_first_below", "nm_map_pop_last_from"):
             self.replace(name, c.UNFINISHED)

@@ -65,6 +65,11 @@ class Answers(unittest.TestCase):
             self.assertTrue(found.compare_remove(5, [1]))
             self.assertEqual((found.get(5), len(found), found.waiting()), (None, 0, 2))
             self.assertRaises(OutOfRange, lambda: found.compare_remove(-1, None))
+            nan = float("nan")
+            found[5] = nan
+            self.assertFalse(found.compare_remove(5, float("nan")))
+            self.assertTrue(found.compare_remove(5, nan))
+            self.assertEqual((found.collect(), found.waiting()), (2, 0))
 
     def test_an_object_may_be_its_own_successor(self) -> None:
         with Map[list[int]](64, workers=1) as found:
@@ -128,6 +133,36 @@ class Ends(unittest.TestCase):
             self.assertEqual((found.waiting(), len(found)), (5, 0))
             self.assertEqual((found.collect(), found.waiting(), Value.alive), (4, 0, 0))
 
+    def test_an_expected_object_ends_once(self) -> None:
+        with Map[Value](64, workers=1) as found:
+            found[5] = Value(1)
+            expected = found[5]
+            before = sys.getrefcount(expected)
+            self.assertFalse(found.compare_remove(5, Value(1)))
+            self.assertIs(found[5], expected)
+            self.assertEqual(sys.getrefcount(expected), before)
+            self.assertTrue(found.compare_remove(5, expected))
+            self.assertFalse(found.compare_remove(5, expected))
+            self.assertEqual((len(found), found.waiting(), found.collect()), (0, 2, 1))
+            self.assertEqual((found.waiting(), found.free(), Value.alive), (0, 64 - 5, 1))
+            del expected
+            self.assertEqual(Value.alive, 0)
+
+    def test_an_expected_object_is_compared_outside_of_the_map(self) -> None:
+        """The comparison may call the map. If it changes the key, the map compares again."""
+        with Map[Any](64, workers=1) as found:
+
+            class Puts:
+                def __eq__(self, other: object) -> bool:
+                    if other == "first":
+                        found[5] = "second"
+                    return True
+
+            found[5] = "first"
+            self.assertTrue(found.compare_remove(5, Puts()))
+            self.assertEqual((found.get(5), len(found), found.waiting()), (None, 0, 3))
+            self.assertEqual((found.collect(), found.waiting()), (2, 0))
+
     def test_an_old_object_belongs_to_the_caller(self) -> None:
         with Map[Value](64, workers=1) as found:
             found[5] = Value(1)
@@ -147,6 +182,7 @@ class Refusals(unittest.TestCase):
                 self.assertRaises(OutOfRange, lambda: found.__setitem__(key, 1))
                 self.assertRaises(OutOfRange, lambda: found.replace(key, 1))
                 self.assertRaises(OutOfRange, lambda: found.compare_replace(key, 1, 1))
+                self.assertRaises(OutOfRange, lambda: found.compare_remove(key, 1))
             self.assertRaises(TypeError, lambda: found.__setitem__("5", 1))  # type: ignore[index]
             self.assertEqual((len(found), found.waiting()), (0, 0))
 
@@ -157,6 +193,7 @@ class Refusals(unittest.TestCase):
         self.assertRaises(Closed, lambda: found.__setitem__(5, 2))
         self.assertRaises(Closed, lambda: found.replace(5, 2))
         self.assertRaises(Closed, lambda: found.compare_replace(5, 1, 2))
+        self.assertRaises(Closed, lambda: found.compare_remove(5, 1))
 
     def test_a_forked_child_makes_no_call(self) -> None:
         with Map[int](64) as found:
@@ -164,13 +201,16 @@ class Refusals(unittest.TestCase):
             child = os.fork()
             if child == 0:
                 is_refused = 0
-                for call in (lambda: found.replace(5, 2), lambda: found.__setitem__(5, 2)):
+                for call in (
+                    lambda: found.replace(5, 2), lambda: found.__setitem__(5, 2),
+                    lambda: found.compare_remove(5, 1),
+                ):
                     try:
                         call()
                     except Forked:
                         is_refused += 1
                 os._exit(is_refused)
-            self.assertEqual(os.waitstatus_to_exitcode(os.waitpid(child, 0)[1]), 2)
+            self.assertEqual(os.waitstatus_to_exitcode(os.waitpid(child, 0)[1]), 3)
             self.assertEqual(found.replace(5, 3), 1)
 
     def test_an_object_that_always_changes_is_contention(self) -> None:
@@ -179,6 +219,9 @@ class Refusals(unittest.TestCase):
             with mock.patch.object(found, "_give", return_value=(6, None)) as give:
                 self.assertRaises(Contention, lambda: found.compare_replace(5, 1, 2))
             self.assertEqual(give.call_count, 4)
+            with mock.patch.object(found, "_remove_if", return_value=False) as remove:
+                self.assertRaises(Contention, lambda: found.compare_remove(5, 1))
+            self.assertEqual((remove.call_count, dict(found)), (4, {5: 1}))
 
     def test_a_map_without_nodes_is_full_at_once(self) -> None:
         with Map[int](9, workers=2, options=Options(timeout_ms=10_000)) as found:
@@ -270,6 +313,24 @@ class Threads(unittest.TestCase):
             self.assertEqual((found[5], len(found)), (self.PUTS, 1))
             found.collect()
             self.assertEqual(found.waiting(), 0)
+
+    def test_an_expected_object_is_removed_by_one_call(self) -> None:
+        """Of the threads that expect an object, one removes its key, and then inserts it with the
+        next one."""
+        with Map[int](4_096, workers=4, options=Options(timeout_ms=10_000)) as found:
+            found[5], removed = 0, []
+
+            def remove() -> None:
+                for number in range(self.STEPS):
+                    if found.compare_remove(5, number):
+                        removed.append(number)
+                        self.assertTrue(found.insert(5, number + 1))
+                    while len(removed) <= number:
+                        time.sleep(0)
+
+            self._run(*[remove] * self.THREADS)
+            self.assertEqual(removed, list(range(self.STEPS)))
+            self.assertEqual((dict(found), len(found)), ({5: self.STEPS}, 1))
 
     def test_a_counter_loses_no_step(self) -> None:
         with Map[int](4_096, workers=4, options=Options(timeout_ms=10_000)) as found:

@@ -239,6 +239,16 @@ impl<'a, V: Word> CopyMapWorker<'a, V> {
         map_puts::give(self, key, change, value).map(|_| ())
     }
 
+    /// Removes a key if it has the expected value, which is compared as by
+    /// [`compare_replace`](CopyMapWorker::compare_replace). Returns whether it did, also if the bound of
+    /// the call is reached before the key is cut off, like [`remove`](CopyMapWorker::remove). After false
+    /// the key is absent or has another value.
+    ///
+    /// Errors: `Key`, `Contention`, `NoMemory`.
+    pub fn compare_remove(&mut self, key: u64, expected: V) -> Result<bool, Fault> {
+        self.handle.compare_remove(key, expected.to_word())
+    }
+
     /// Gives a key the value that a function makes of the one that it has, or of None if the key is
     /// absent; returns the new value. It calls the function again as often as another call changes the
     /// key in between, without a bound. The function may make calls by other workers: no lock is held.

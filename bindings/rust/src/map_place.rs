@@ -6,6 +6,7 @@ use crate::ffi::map::{collect_after, Change, MapHandle, Storage, WorkerHandle};
 use crate::ffi::{CallOptions, Outcome};
 use crate::key::checked;
 use crate::map::{InsertError, Reclaimed};
+use crate::map_order::taken;
 use crate::options::Options;
 use crate::order::ends_of;
 use crate::place::millis;
@@ -218,6 +219,12 @@ impl<S: Storage> WorkerHandle<'_, S> {
     /// Returns whether the map has the key.
     pub(crate) fn contains(&mut self, key: u64) -> Result<bool, Fault> {
         managed(self.get(checked(key)?).0)
+    }
+
+    /// Removes a key if its value has this word; returns whether it did, also if the remove is not
+    /// finished.
+    pub(crate) fn compare_remove(&mut self, key: u64, expected: u64) -> Result<bool, Fault> {
+        taken(self.take_if(checked(key)?, expected)).map(|word| word.is_some())
     }
 
     /// Returns how many keys of a range there are.

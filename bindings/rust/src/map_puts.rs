@@ -298,11 +298,7 @@ impl<'g, V> GuardedWorker<'_, '_, 'g, V> {
     ///
     /// Errors: `Key`, `Contention`, `NoMemory`, `Pinned`.
     pub fn compare_remove(&mut self, key: u64, expected: &V) -> Result<bool, Fault> {
-        let (outcome, is_removed) = self.handle.compare_remove(checked(key)?, expected);
-        if !is_removed {
-            self.check(outcome)?;
-        }
-        Ok(is_removed)
+        self.handle.worker().compare_remove(key, word_of(expected))
     }
 
     /// Gives a key the value that a function makes of the one that it has, or of None if the key is

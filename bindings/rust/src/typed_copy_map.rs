@@ -168,6 +168,11 @@ impl<'a, K: Key, V: Word> CopyMapWorkerOf<'a, K, V> {
         self.worker.compare_replace(key, expected, value)
     }
 
+    /// Removes a key if it has the expected value: see [`CopyMapWorker::compare_remove`].
+    pub fn compare_remove(&mut self, key: K, expected: V) -> Result<bool, Fault> {
+        self.worker.compare_remove(key_of(key)?, expected)
+    }
+
     /// Gives a key the value that a function makes of the one that it has: see
     /// [`CopyMapWorker::update`].
     pub fn update(&mut self, key: K, make: impl FnMut(Option<V>) -> V) -> Result<V, Fault> {

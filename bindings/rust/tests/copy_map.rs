@@ -7,7 +7,7 @@ use nm_set::{
 };
 use std::collections::BTreeMap;
 use std::fmt::Debug;
-use std::sync::atomic::{AtomicBool, Ordering::SeqCst};
+use std::sync::atomic::{AtomicBool, AtomicU64, Ordering::SeqCst};
 use std::thread;
 use std::time::{Duration, Instant};
 
@@ -85,6 +85,26 @@ fn values_are_replaced() {
     assert_eq!((worker.get(5), map.len()), (Ok(Some(5.5)), Ok(1)));
 }
 
+#[test]
+fn expected_values_are_removed() {
+    let map = CopyMap::new(64, 1).unwrap();
+    let mut worker = map.attach().unwrap();
+    assert_eq!(worker.compare_remove(5, 0.0), Ok(false));
+    assert_eq!(worker.put(5, -0.0), Ok(None));
+    assert_eq!(worker.compare_remove(5, 0.0), Ok(false));
+    assert_eq!((worker.get(5), map.len()), (Ok(Some(-0.0)), Ok(1)));
+    assert_eq!(worker.compare_remove(5, -0.0), Ok(true));
+    assert_eq!(worker.compare_remove(5, -0.0), Ok(false));
+    assert_eq!(
+        (worker.get(5), map.len(), map.waiting()),
+        (Ok(None), Ok(0), Ok(2))
+    );
+    assert_eq!(worker.put(5, f64::NAN), Ok(None));
+    assert_eq!(worker.compare_remove(5, f64::NAN), Ok(true));
+    assert_eq!(worker.reclaim().unwrap().values, 2);
+    assert_eq!((map.len(), map.waiting()), (Ok(0), Ok(0)));
+}
+
 /// The function of an update may make calls by another worker, even for the same key. Then it is called
 /// again.
 #[test]
@@ -123,7 +143,7 @@ fn values_are_updated() {
 fn call_both(worker: &mut CopyMapWorker<'_, u32>, tree: &mut BTreeMap<u64, u32>, seed: &mut u64) {
     let (key, value) = (drawn(seed) % 64, drawn(seed) as u32);
     let entry = |(&key, &value): (&u64, &u32)| (key, value);
-    match drawn(seed) % 12 {
+    match drawn(seed) % 14 {
         0 | 1 => {
             let is_absent = !tree.contains_key(&key);
             assert_eq!(worker.insert(key, value).is_ok(), is_absent);
@@ -148,7 +168,13 @@ fn call_both(worker: &mut CopyMapWorker<'_, u32>, tree: &mut BTreeMap<u64, u32>,
             Ok(tree.range(..=key).last().map(entry))
         ),
         10 => assert_eq!(worker.pop_first(), Ok(tree.pop_first())),
-        _ => assert_eq!(worker.pop_last(), Ok(tree.pop_last())),
+        11 => assert_eq!(worker.pop_last(), Ok(tree.pop_last())),
+        12 => assert_eq!(worker.compare_remove(key, value), Ok(false)),
+        _ => {
+            let expected = tree.remove(&key);
+            let is_removed = worker.compare_remove(key, expected.unwrap_or(value));
+            assert_eq!(is_removed, Ok(expected.is_some()));
+        }
     }
 }
 
@@ -307,6 +333,71 @@ fn a_key_is_never_absent() {
     assert_eq!((worker.get(5), map.len()), (Ok(Some(PUTS)), Ok(1)));
 }
 
+/// Repeats a call until other threads do not interfere.
+fn repeated<T>(mut call: impl FnMut() -> Result<T, Fault>) -> T {
+    loop {
+        match call() {
+            Err(Fault::Contention) => thread::yield_now(),
+            made => return made.unwrap(),
+        }
+    }
+}
+
+/// With one try, removes of neighbouring keys by several threads may be unfinished. Each of them counts
+/// as a remove, and the next call of its worker finishes it.
+#[test]
+fn an_unfinished_remove_counts_as_removed() {
+    let bounds = Options {
+        tries: 1,
+        rounds: 0,
+        ..options(THREADS as u32, 20_000)
+    };
+    let map = CopyMap::with_options(4_096, bounds).unwrap();
+    thread::scope(|scope| {
+        for key in 0..THREADS {
+            let map = &map;
+            scope.spawn(move || {
+                let mut worker = map.attach().unwrap();
+                for turn in 0..STEPS {
+                    assert_eq!(repeated(|| worker.update(key, |_| turn)), turn);
+                    assert!(!repeated(|| worker.compare_remove(key, turn + 1)));
+                    assert!(repeated(|| worker.compare_remove(key, turn)));
+                    assert_eq!(repeated(|| worker.get(key)), None);
+                }
+            });
+        }
+    });
+    let mut worker = map.attach().unwrap();
+    assert_eq!((map.len(), repeated(|| worker.first())), (Ok(0), None));
+}
+
+/// Of the threads that expect a value, one removes its key, and then inserts it with the next value.
+#[test]
+fn each_expected_value_is_removed_once() {
+    let map = CopyMap::new(4_096, THREADS as u32).unwrap();
+    assert_eq!(map.attach().unwrap().put(5, 0), Ok(None));
+    let removed = AtomicU64::new(0);
+    thread::scope(|scope| {
+        for _ in 0..THREADS {
+            scope.spawn(|| {
+                let mut worker = map.attach().unwrap();
+                for turn in 0..STEPS {
+                    if worker.compare_remove(5, turn).unwrap() {
+                        assert_eq!(removed.fetch_add(1, SeqCst), turn);
+                        assert_eq!(worker.insert(5, turn + 1), Ok(()));
+                    }
+                    while removed.load(SeqCst) <= turn {
+                        thread::yield_now();
+                    }
+                }
+            });
+        }
+    });
+    assert_eq!(removed.load(SeqCst), STEPS);
+    assert_eq!(map.attach().unwrap().get(5), Ok(Some(STEPS)));
+    assert_eq!(map.len(), Ok(1));
+}
+
 /// Pops the keys that other threads insert. Returns the sum of their values.
 fn popped(map: &CopyMap<u64>, count: u64) -> u64 {
     let mut worker = map.attach().unwrap();
@@ -392,6 +483,7 @@ fn what_is_no_key_is_refused() {
     assert_eq!(worker.replace(key, 9), Err(PutError::Fault(fault, 9)));
     let error = Err(PutError::Fault(fault, 9));
     assert_eq!(worker.compare_replace(key, 9, 9), error);
+    assert_eq!(worker.compare_remove(key, 9), Err(fault));
     assert_eq!(
         (worker.get(key), worker.remove(key)),
         (Err(fault), Err(fault))
@@ -552,6 +644,9 @@ fn changes_like<K: Key + Ord + Debug>(map: &CopyMapOf<K, u32>, mut tree: BTreeMa
     let (&most, _) = tree.last_key_value().unwrap();
     assert_eq!(worker.pop_last_from(most), Ok(tree.pop_last()));
     let (&key, &value) = tree.first_key_value().unwrap();
+    assert_eq!(worker.compare_remove(key, value + 1), Ok(false));
+    assert_eq!(worker.compare_remove(key, value), Ok(true));
+    assert_eq!(worker.put(key, value), Ok(None));
     assert_eq!(
         (worker.remove(key), worker.remove(key)),
         (Ok(Some(value)), Ok(None))

@@ -375,6 +375,11 @@ impl Storage for InPlace {
     }
 }
 
+/// Returns whether a remove takes its key: it has, or it will, and no other call does.
+fn is_taken(outcome: Outcome) -> bool {
+    matches!(outcome, YES | UNFINISHED)
+}
+
 /// Returns the word of a value that a map has in a box.
 pub(crate) fn word_of<V>(value: &V) -> u64 {
     value as *const V as usize as u64
@@ -688,17 +693,18 @@ impl<S: Storage> WorkerHandle<'_, S> {
         // SAFETY: the handle exists during the call, and the place is borrowed for it.
         let outcome = self
             .removed(|worker, options| unsafe { nm_map_remove(worker, key, options, &mut value) });
-        let is_taken = matches!(outcome, YES | UNFINISHED);
-        (outcome, is_taken.then_some(value))
+        (outcome, is_taken(outcome).then_some(value))
     }
 
-    /// Removes a key, if this is its value.
-    pub(crate) fn compare_remove(&mut self, key: u64, expected: &V) -> Outcome {
-        let (was, mut found) = (expected as *const V as usize as u64, 0);
+    /// Removes a key if its value has this word, which is returned like that of
+    /// [`take`](WorkerHandle::take).
+    pub(crate) fn take_if(&mut self, key: u64, expected: u64) -> (Outcome, Option<u64>) {
+        let mut found = 0;
         // SAFETY: the handle exists during the call, and the place is borrowed for it.
-        self.removed(|worker, options| unsafe {
-            nm_map_remove_if(worker, key, was, options, &mut found)
-        })
+        let outcome = self.removed(|worker, options| unsafe {
+            nm_map_remove_if(worker, key, expected, options, &mut found)
+        });
+        (outcome, is_taken(outcome).then_some(expected))
     }
 
     /// Removes the least key that is below a bound, or the greatest one that is not below it.
@@ -1048,6 +1054,7 @@ mod tests {
                 && worker.put(5, 51) == Err(PutError::Fault(Fault::Forked, 51))
                 && worker.update(5, |_| 51) == Err(Fault::Forked)
                 && worker.remove(5) == Err(Fault::Forked)
+                && worker.compare_remove(5, 50) == Err(Fault::Forked)
                 && worker.range(..).next() == Some(Err(Fault::Forked))
                 && map.len() == Err(Fault::Forked);
             forking::end(is_right);

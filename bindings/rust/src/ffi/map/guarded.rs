@@ -25,7 +25,7 @@ impl<'w, 'a, 'g, V> Guarded<'w, 'a, 'g, V> {
         })
     }
 
-    /// Returns the worker, for what it says of itself.
+    /// Returns the worker, for calls that return no value of a key.
     pub(crate) fn worker(&mut self) -> &mut WorkerHandle<'a, Boxed<V>> {
         self.worker
     }
@@ -52,12 +52,6 @@ impl<'w, 'a, 'g, V> Guarded<'w, 'a, 'g, V> {
     pub(crate) fn take(&mut self, key: u64) -> (Outcome, Option<&'g V>) {
         let (outcome, word) = self.worker.take(key);
         (outcome, word.map(Self::value))
-    }
-
-    /// Removes a key, if this is its value; returns also whether this call removes it, finished or not.
-    pub(crate) fn compare_remove(&mut self, key: u64, expected: &V) -> (Outcome, bool) {
-        let outcome = self.worker.compare_remove(key, expected);
-        (outcome, outcome == YES || outcome == UNFINISHED)
     }
 
     /// Gives a key a value.
