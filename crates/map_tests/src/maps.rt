@@ -3,7 +3,7 @@
 use nm_edge::Key;
 use nm_set::{
     CallFault, CloseReason, Condition, EndError, Map, MapEntry, MapMember, NotPinned, Options,
-    PinFault, PinnedGetFault, PutOutcome, ResignReason,
+    PinFault, PinnedGetFault, PutOutcome, RemoveOutcome, ResignReason,
 };
 use std::process::Abort;
 use std::test::Fail;
@@ -94,6 +94,31 @@ fn replaced_values_come_back(rt: HostRuntime) -> Result<(), Fail> {
     assert_eq!(rt; (done.handed.values, out), (2, [50, 51, 0, 0]));
     member.close();
     assert_eq!(rt; keys_of(&rt, map), 1);
+    Ok(())
+}
+
+/// A remove that expects a value removes the key with this value alone, and the value comes back once.
+#[test]
+fn an_expected_value_is_removed(rt: HostRuntime) -> Result<(), Fail> {
+    let map = Map::new(rt.alloc(), 64, 1)?;
+    let mut member = map.attach()?;
+    let (five, options) = (key(&rt, 5), Options::default());
+    let absent = member.remove_if(five, 0, &options);
+    assert_eq!(rt; absent, Ok(RemoveOutcome::Absent));
+    assert_eq!(rt; member.try_insert(five, 50, TRIES), Ok(true));
+    let other = member.remove_if(five, 51, &options);
+    assert_eq!(rt; other, Ok(RemoveOutcome::Other(50)));
+    let other = member.try_remove_if(five, 49, TRIES);
+    assert_eq!(rt; other, Ok(RemoveOutcome::Other(50)));
+    assert_eq!(rt; member.get(five, &options), Ok(Some(50)));
+    let expected = member.remove_if(five, 50, &options);
+    assert_eq!(rt; expected, Ok(RemoveOutcome::Removed));
+    assert_eq!(rt; member.get(five, &options), Ok(None));
+    let mut out = [0; 4];
+    let done = member.reclaim(&mut out);
+    assert_eq!(rt; (done.handed.values, out), (1, [50, 0, 0, 0]));
+    member.close();
+    assert_eq!(rt; keys_of(&rt, map), 0);
     Ok(())
 }
 

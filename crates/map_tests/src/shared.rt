@@ -2,7 +2,7 @@
 ghost use Rattle.nm_shared.specs.Sharing.{IsCallerOf};
 
 use nm_edge::Key;
-use nm_set::{CallFault, Condition, Keys, Options, PutOutcome, Query};
+use nm_set::{CallFault, Condition, Keys, Options, PutOutcome, Query, RemoveOutcome};
 use nm_shared::{Caller, SharedMap, SharedSet};
 use std::process::Abort;
 use std::test::Fail;
@@ -53,6 +53,8 @@ fn a_caller_of_a_map_needs_no_member(rt: HostRuntime) -> Result<(), Fail> {
     assert_eq!(rt; told, Some(Ok(Some(90))));
     let (caller, told) = map.put(caller, key(&rt, 9), 90, Condition::IfItIs(91), &options);
     assert_eq!(rt; told, Some(Ok(PutOutcome::Other(90))));
+    let (caller, told) = map.remove_if(caller, key(&rt, 9), 91, &options);
+    assert_eq!(rt; told, Some(Ok(RemoveOutcome::Other(90))));
     let (caller, told) = map.next_with_value(caller, key(&rt, 6), &mut found, &options);
     assert_eq!(rt; (told, found), (Some(Ok(Some(key(&rt, 9)))), 90));
     let (caller, told) = map.remove(caller, key(&rt, 5), &mut taken, &options);
