@@ -315,16 +315,14 @@ class MapCalls:
     def _remove_if(self, number: int, expected: object) -> bool:
         """Removes a key if it has an object; returns whether it did, also if the remove is
         unfinished."""
-        removed = self._with_worker(lambda worker: self._removed_if(worker, number, expected))
-        return removed is not MISSING
+        return self._with_worker(lambda worker: self._removed_if(worker, number, expected))
 
-    def _removed_if(self, worker: _Worker, key: int, expected: object) -> Any:
-        """Removes a key if it has the expected object; returns that, or `MISSING`."""
+    def _removed_if(self, worker: _Worker, key: int, expected: object) -> bool:
         was = c_uint64()
         if self._found(worker, key, was) is not expected:
-            return MISSING
+            return False
         outcome = c.quick.nm_map_remove_if(worker.handle, key, was.value, self._words, c_uint64())
-        return self._taken(outcome, was.value)
+        return self._taken(outcome, was.value) is not MISSING
 
     # ---- in order ----
 

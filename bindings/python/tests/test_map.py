@@ -604,11 +604,13 @@ class Ends(unittest.TestCase):
             found.get_many([5, 500, 2_000], value)
             self.assertEqual(len(list(found.items()) + found.scan(0, 99)[0] + [found.last()]), 250)
             self.assertEqual((found.pop_first(), found.pop(1)), ((0, value), value))
-            self.assertEqual(len(found), 148)
+            self.assertFalse(found.compare_remove(2, None))
+            self.assertTrue(found.compare_remove(2, value))
+            self.assertEqual(len(found), 147)
             self.assertRaises(TypeError, lambda: found.insert("5", value))  # type: ignore[arg-type]
             while found.waiting():
                 found.collect()
-            references = 148 if nm_set.is_native else 2 * 148  # by ctypes there are two dicts
+            references = 147 if nm_set.is_native else 2 * 147  # by ctypes there are two dicts
             self.assertEqual(sys.getrefcount(value), before + references)
             found.clear()
         self.assertEqual(sys.getrefcount(value), before)

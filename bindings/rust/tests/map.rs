@@ -396,15 +396,23 @@ fn must_be_full(fault: Option<Fault>) {
     assert!(matches!(fault, None | Some(Fault::MapFull(_))), "{fault:?}");
 }
 
-/// Gives a key a value under a guard, or pops a key, and reads what the call has taken out. A pop may find
-/// that other threads take each key that it finds.
+/// Removes a key under a guard, if it has the value that it had right before.
+fn remove_found(calls: &mut GuardedWorker<'_, '_, '_, Value>, key: u64) {
+    if let Some(value) = calls.get(key).unwrap() {
+        calls.compare_remove(key, value).unwrap();
+        assert!(value.is_of(key));
+    }
+}
+
+/// Gives a key a value under a guard, or removes or pops a key, and reads what the call has taken out. A
+/// pop may find that other threads take each key that it finds.
 fn swap_some(
     calls: &mut GuardedWorker<'_, '_, '_, Value>,
     counts: &Arc<Counts>,
     key: u64,
     kind: u64,
 ) {
-    match kind % 5 {
+    match kind % 6 {
         0 => must_be_of(key, calls.put(key, counts.value(key))),
         1 => must_be_of(key, calls.replace(key, counts.value(key)).map(Some)),
         2 => {
@@ -423,6 +431,7 @@ fn swap_some(
                 |new| assert!(new.is_of(key)),
             );
         }
+        4 => remove_found(calls, key),
         _ => match calls.pop_first_below(key) {
             Ok(popped) => {
                 assert!(popped.map_or(true, |(below, value)| below < key && value.is_of(below)))
