@@ -2,7 +2,7 @@
  *
  * proved: nm_stress and all crates that it depends on
  * kit: rattle-kit-13f logic dac8208d650f15bf
- * sources: sha256 2ed9fd5abb9b7eeb90e8210aba0cd532eb586271c24fdeab18331b0ae215c179
+ * sources: sha256 c51343700ca3eff708f5b9d0ef1d19c8f4756f269a39eb6e20f51d1a39eaea52
  *
  * dist/README.md says how this file is made, checked and used, and what is trusted.
  */
