@@ -828,6 +828,11 @@ public:
     std::uint64_t erase_if(Test test) {
         return of_.erase_if([&](std::uint64_t key) { return test(ValuesOf::typed(key)); });
     }
+    // Moves each value that this set lacks out of another one; returns how many: see nm::Keys::merge.
+    template <typename Other>
+    std::uint64_t merge(ValuesOf<Other, T> &from) {
+        return of_.merge(from.keys());
+    }
     // Returns whether the set has the value; a value whose key is none it never has.
     [[nodiscard]] bool contains(const T &value) const { return this->count(value) == 1; }
 
@@ -1116,6 +1121,17 @@ public:
         return of_.update(detail::checked_key(key), f);
     }
 
+    // Returns the value of a key, after an insert of the one that a function makes if it is absent.
+    template <typename F>
+    auto get_or_insert_with(const K &key, F make) {
+        return of_.get_or_insert_with(detail::checked_key(key), make);
+    }
+    // Returns the value of a key, like nm::MapPuts::at. The text of std::out_of_range has the key.
+    [[nodiscard]] decltype(auto) at(const K &key) const {
+        return detail::at_or_throw<typename Of::mapped_type>(get(key),
+                                                             [&] { return detail::shown(key); });
+    }
+
 protected:
     using OrderedOf<Of, K>::OrderedOf;
     using OrderedOf<Of, K>::of_;
@@ -1230,6 +1246,9 @@ public:
     bool replace(const K &key, Value &&value) {
         return of_.replace(detail::checked_key(key), std::forward<Value>(value));
     }
+
+    // Returns the value in place of a key for an operator: see nm::MapReference.
+    MapReference<V> operator[](const K &key) { return of_[detail::checked_key(key)]; }
 
     // Removes a key; returns whether it was present: see nm::MapWorker::remove.
     bool remove(const K &key) { return of_.remove(detail::checked_key(key)); }

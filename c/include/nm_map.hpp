@@ -142,6 +142,15 @@ Found<T> found(bool is_found, std::uint64_t word) noexcept {
     return is_found ? Found<T>(returned<T>(word)) : Found<T>();
 }
 
+// Returns the value that a call has found: a copy of one in place, or the object. If it has found none
+// it throws std::out_of_range, with the key as a function writes it.
+template <typename T, typename Shown>
+std::conditional_t<is_in_place<T>, T, T &> at_or_throw(const Found<T> &found, Shown shown) {
+    if (!found)
+        throw in_memory([&] { return std::out_of_range("nm::Map: there is no key " + shown()); });
+    return *found;
+}
+
 // Returns the value of an entry of a map of T: of a value in place the copy, and else the object.
 template <typename T, typename K>
 const T &value_in(const MapEntry<Returned<T>, K> &entry) noexcept {
@@ -600,11 +609,51 @@ public:
         }
     }
 
+    // Returns the value of a key, after an insert of the one that a function makes if the key is absent.
+    // The function is called once at most; it returns a T, or a `std::unique_ptr<T>`. Its object is
+    // destroyed again if another call has inserted the key in between.
+    template <typename F>
+    detail::Returned<T> get_or_insert_with(Key key, F make) {
+        Found old = static_cast<Of &>(*this).get(key);
+        if (old) return returned_of(old);
+        if constexpr (detail::is_in_place<T>) {
+            T value = static_cast<T>(make());
+            return inserted(key, value, value);
+        } else {
+            std::unique_ptr<T> object = owned(make());
+            return inserted(key, object.get(), std::move(object));
+        }
+    }
+
+    // Returns the value of a key: a copy of one in place, or under a guard a reference to the object.
+    // Throws std::out_of_range if the map does not have the key.
+    [[nodiscard]] std::conditional_t<detail::is_in_place<T>, T, T &> at(Key key) const {
+        return detail::at_or_throw<T>(static_cast<const Of &>(*this).get(key),
+                                      [=] { return std::to_string(key); });
+    }
+
 private:
     auto &worker() {
         static_assert(detail::is_in_place<T> || std::is_same_v<Of, GuardedWorker<T>>,
                       "an object is returned under a guard of another worker: other.under(guard)");
         return static_cast<Of &>(*this).worker_of_calls();
+    }
+
+    // Inserts an absent key with a value, which is returned as it then is in the map. If another call
+    // has inserted the key, it returns what that one has given it.
+    template <typename Value>
+    detail::Returned<T> inserted(Key key, detail::Returned<T> as, Value &&value) {
+        for (Found old{};;) {
+            if (compare_exchange(key, old, std::forward<Value>(value))) return as;
+            if (old) return returned_of(old);
+        }
+    }
+
+    static detail::Returned<T> returned_of(const Found &of) noexcept {
+        if constexpr (detail::is_in_place<T>)
+            return *of;
+        else
+            return of;
     }
 
     static std::uint64_t word_of(const Found &of) noexcept {
@@ -621,6 +670,71 @@ private:
         else
             return std::unique_ptr<T>(std::forward<Value>(value));
     }
+};
+
+// What `worker[key]` is, for values in place. Each operator is one step, and makes one of the calls of
+// MapPuts or MapWorker: so `worker[5u] += 1` loses no other thread's step, and `worker[5u] =
+// worker[5u] + 1` may. It is for one expression: a program keeps the value, as in `int n = worker[5u]`.
+template <typename T>
+class MapReference {
+public:
+    MapReference(const MapReference &) = delete;  // take a copy of the value
+
+    // Returns a copy of the value of the key, or T() if the map does not have the key. Unlike
+    // `std::map`, it then inserts nothing.
+    operator T() const && { return worker_->get(key_).value_or(T()); }
+
+    // Inserts the key with this value, or replaces its value, and returns this value:
+    // MapWorker::insert_or_assign.
+    T operator=(const T &value) && {
+        (void)worker_->insert_or_assign(key_, value);
+        return value;
+    }
+    // Does the same with the value of another key, which it reads first.
+    T operator=(MapReference &&other) && { return std::move(*this) = T(std::move(other)); }
+
+    // Adds to the value, or to T() if the map does not have the key, and returns the new value:
+    // MapPuts::update.
+    template <typename By>
+    T operator+=(const By &by) && {
+        return changed([&](T old) { return static_cast<T>(old + by); });
+    }
+    // Subtracts from the value in the same way.
+    template <typename By>
+    T operator-=(const By &by) && {
+        return changed([&](T old) { return static_cast<T>(old - by); });
+    }
+    // Adds one, and returns the new value.
+    T operator++() && {
+        return changed([](T old) { return ++old; });
+    }
+    // Subtracts one, and returns the new value.
+    T operator--() && {
+        return changed([](T old) { return --old; });
+    }
+    // Adds one, and returns the value from before.
+    T operator++(int) && {
+        T before = ++std::move(*this);
+        return --before;
+    }
+    // Subtracts one, and returns the value from before.
+    T operator--(int) && {
+        T before = --std::move(*this);
+        return ++before;
+    }
+
+private:
+    friend class MapWorker<T>;
+
+    MapReference(MapWorker<T> &worker, Key key) noexcept : worker_(&worker), key_(key) {}
+
+    template <typename F>
+    T changed(F f) const {
+        return worker_->update(key_, [&](const std::optional<T> &old) { return f(old.value_or(T())); });
+    }
+
+    MapWorker<T> *worker_;
+    Key key_;
 };
 
 // One worker of a map, for one thread at a time. It can be moved and not copied; a worker that was
@@ -748,6 +862,15 @@ public:
     bool replace(Key key, Value &&value) {
         std::uint64_t unused = 0;
         return put(nm_map_wait_replace, key, std::forward<Value>(value), unused) == NM_REPLACED;
+    }
+
+    // Returns the value in place of a key for an operator, such as those of `worker[5u] = 7` and
+    // `++worker[5u]`: see MapReference.
+    MapReference<T> operator[](Key key) {
+        static_assert(detail::is_in_place<T>,
+                      "operator[] is for values in place: insert_or_assign gives a key an object, and "
+                      "a guard gets it");
+        return MapReference<T>(*this, key);
     }
 
     // Removes a key; returns whether it was present. Its object is freed later, when no guard can

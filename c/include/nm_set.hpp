@@ -817,6 +817,14 @@ public:
     // Removes all keys. A key that is inserted meanwhile may remain.
     void clear() { erase(0u, UINT64_MAX); }
 
+    // Moves each key that this set lacks out of another one; returns how many, like std::set::merge. A
+    // key that both sets have remains in both. A move is no single step: the key is inserted here, and
+    // then removed there, so for a moment both sets have it.
+    template <typename Other>
+    std::uint64_t merge(Keys<Other> &from) {
+        return detail::erase_each(from, from, [this](std::uint64_t key) { return insert(key); });
+    }
+
 protected:
     Keys() = default;
 

@@ -48,6 +48,9 @@ void keys_are_kept(Of &of) {
     CHECK(lookups[0].found == 1 && lookups[1].found == 0);
     std::list<unsigned> more{1, 9, 2};
     CHECK(of.insert(more.begin(), more.end()) == 2 && of.insert_range(Numbers{1, 8}) == 1);
+    nm::Set from(nm::keys, {2u, 4u, 6u});
+    CHECK(of.merge(from) == 2 && Numbers(from.begin(), from.end()) == Numbers{2} &&
+          of.merge(of) == 0 && of.remove(4u) && of.remove(6u));
     auto step = of.begin();
     CHECK(*step++ == 1 && *step == 2 && step != of.begin());
     of.clear();

@@ -59,6 +59,38 @@ void values_are_compared_before_a_remove() {
     CHECK(map.size() == 0 && map.waiting() == 2);
 }
 
+// A key is inserted if it is absent, and its value is returned; `at` throws for an absent key.
+void values_are_found_or_inserted() {
+    nm::Map<int> map{64, 2};
+    auto worker = map.attach(), other = map.attach();
+    CHECK(worker.get_or_insert_with(5u, [] { return 1; }) == 1 && worker.at(5u) == 1);
+    CHECK(worker.get_or_insert_with(5u, []() -> int { CHECK(false); return 2; }) == 1);
+    CHECK(worker.get_or_insert_with(6u, [&] { return other.insert(6u, 7), 2; }) == 7);
+    std::string text;
+    try {
+        (void)worker.at(8u);
+    } catch (const std::out_of_range &absent) {
+        text = absent.what();
+    }
+    CHECK(text == "nm::Map: there is no key 8" && map.size() == 2);
+    CHECK(thrown([&] { (void)worker.at(UINT64_MAX); }) == NM_KEY);
+}
+
+// The operators of a value in place, by its key.
+void values_have_operators() {
+    nm::Map<int> map{64, 1};
+    auto worker = map.attach();
+    int found = worker[5u];
+    CHECK(found == 0 && map.size() == 0 && (worker[5u] = 7) == 7 && worker[5u] == 7);
+    CHECK((worker[5u] += 2) == 9 && (worker[5u] -= 1) == 8 && worker[6u]++ == 0 && worker[6u]-- == 1);
+    CHECK(++worker[5u] == 9 && --worker[5u] == 8 && (worker[7u] = worker[5u]) == 8);
+    CHECK(worker.get(5u) == 8 && worker.get(6u) == 0 && worker.get(7u) == 8 && map.size() == 3);
+    nm::MapOf<nm::ShortString<8>, std::uint8_t> words(64);
+    auto of_words = words.attach();
+    CHECK(++of_words["tea"] == 1 && (of_words["tea"] += 5) == 6 && of_words["salt"] == 0);
+    CHECK(thrown([&] { worker[UINT64_MAX] = 1; }) == NM_KEY && words.size() == 1);
+}
+
 // The function of an update may make calls by another worker, even for the same key. Then it is
 // called again.
 void an_update_looks_again() {
@@ -117,6 +149,9 @@ void old_objects_exist_under_a_guard() {
         CHECK(!calls.compare_remove(5u, none) && none->is_of(3));
         CHECK(calls.compare_remove(5u, expected = none) && none->is_of(3) && !calls.get(5u));
         CHECK(worker.reclaim().values == 0 && first->is_of(1) && Canary::alive() == 4);
+        CHECK(&calls.at(6u) == calls.get(6u) && calls.get_or_insert_with(6u, [] {
+            return std::make_unique<Canary>(5);
+        }) == calls.get(6u) && Canary::alive() == 4);
         guard.unpin();
         CHECK(thrown([&] { (void)calls.exchange(5u, std::make_unique<Canary>(6)); }) == NM_NOT_PINNED);
         CHECK(worker.reclaim().values == 3 && Canary::alive() == 1);
@@ -136,7 +171,7 @@ void objects_are_updated() {
     CHECK(calls.compare_exchange(-0.5, old, "d") == false && *old == "c");
     CHECK(calls.compare_exchange(-0.5, old, "d") && worker.replace(-0.5, "e"));
     CHECK(!calls.compare_remove(-0.5, old) && *old == "e" && calls.compare_remove(-0.5, old));
-    CHECK(worker.insert_or_assign(-0.5, "e"));
+    CHECK(*calls.get_or_insert_with(-0.5, [] { return "e"; }) == "e" && calls.at(-0.5) == "e");
     CHECK(!worker.insert_or_assign(-0.5, "f") && worker.insert_or_assign(1.5, "g"));
 }
 
@@ -238,8 +273,7 @@ void counters_lose_no_step() {
     nm::Map<std::uint64_t> map{4096, threads + 1};
     is_raised([&] {
         auto worker = map.attach();
-        for (int step = 0; step < steps; step++)
-            worker.update(5u, [](std::optional<std::uint64_t> old) { return old.value_or(0) + 1; });
+        for (int step = 0; step < steps; step++) ++worker[5u];
     });
     CHECK(map.attach().get(5u) == std::uint64_t(threads * steps));
     nm::Map<std::string> texts{4096, 2 * threads + 1};
@@ -256,12 +290,33 @@ void counters_lose_no_step() {
     CHECK(*reader.pin().get(5u) == std::to_string(threads * steps / 10));
 }
 
+// Threads that insert a key if it is absent find one object, and the others are destroyed.
+void one_object_is_inserted() {
+    {
+        Objects map{4096, 2 * threads};
+        std::atomic<Canary *> first{nullptr};
+        is_raised([&] {
+            auto reader = map.attach(), worker = map.attach();
+            auto guard = reader.pin();
+            Canary *none = nullptr, *found = worker.under(guard).get_or_insert_with(
+                                5u, [] { return std::make_unique<Canary>(7); });
+            CHECK(first.compare_exchange_strong(none, found) || none == found);
+            CHECK(found->is_of(7));
+        });
+        auto worker = map.attach();
+        CHECK(map.size() == 1 && worker.pin().get(5u) == first && Canary::alive() == 1);
+    }
+    CHECK(Canary::alive() == 0);
+}
+
 }  // namespace
 
 int main() {
     values_are_replaced();
     values_are_compared();
     values_are_compared_before_a_remove();
+    values_are_found_or_inserted();
+    values_have_operators();
     an_update_looks_again();
     objects_are_replaced();
     old_objects_exist_under_a_guard();
@@ -270,6 +325,7 @@ int main() {
     a_full_map_goes_on();
     a_key_is_never_absent();
     counters_lose_no_step();
+    one_object_is_inserted();
     CHECK(Canary::alive() == 0);
     std::puts("each object was destroyed once");
 }

@@ -54,6 +54,8 @@ void for_many_like(nm::SetOf<T> &set, const std::set<T> &peer) {
     (void)set.collect();
     CHECK(set.erase(least, most) == all.size() - 1 && set.erase(most, least) == 0);
     CHECK(set.erase_if([&](const T &value) { return value < most; }) == 0 && set.first() == most);
+    nm::SetOf<T> other(64);
+    CHECK(other.merge(set) == 1 && set.empty() && set.merge(other) == 1 && other.empty());
     CHECK(set.erase_if([&](const T &value) { return value == most; }) == 1 && set.empty());
     CHECK(set.insert_range(all) == all.size());
     nm::WorkerOf<T> worker = set.worker(5);
