@@ -1127,7 +1127,7 @@ public:
         return of_.get_or_insert_with(detail::checked_key(key), make);
     }
     // Returns the value of a key, like nm::MapPuts::at. The text of std::out_of_range has the key.
-    [[nodiscard]] decltype(auto) at(const K &key) const {
+    [[nodiscard]] detail::ValueAt<typename Of::mapped_type> at(const K &key) const {
         return detail::at_or_throw<typename Of::mapped_type>(get(key),
                                                              [&] { return detail::shown(key); });
     }

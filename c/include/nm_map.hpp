@@ -142,10 +142,14 @@ Found<T> found(bool is_found, std::uint64_t word) noexcept {
     return is_found ? Found<T>(returned<T>(word)) : Found<T>();
 }
 
-// Returns the value that a call has found: a copy of one in place, or the object. If it has found none
-// it throws std::out_of_range, with the key as a function writes it.
+// What `at` returns: a copy of a value in place, or a reference to an object.
+template <typename T>
+using ValueAt = std::conditional_t<is_in_place<T>, T, T &>;
+
+// Returns the value that a call has found. If it has found none it throws std::out_of_range, with the
+// key as a function writes it.
 template <typename T, typename Shown>
-std::conditional_t<is_in_place<T>, T, T &> at_or_throw(const Found<T> &found, Shown shown) {
+ValueAt<T> at_or_throw(const Found<T> &found, Shown shown) {
     if (!found)
         throw in_memory([&] { return std::out_of_range("nm::Map: there is no key " + shown()); });
     return *found;
@@ -627,7 +631,7 @@ public:
 
     // Returns the value of a key: a copy of one in place, or under a guard a reference to the object.
     // Throws std::out_of_range if the map does not have the key.
-    [[nodiscard]] std::conditional_t<detail::is_in_place<T>, T, T &> at(Key key) const {
+    [[nodiscard]] detail::ValueAt<T> at(Key key) const {
         return detail::at_or_throw<T>(static_cast<const Of &>(*this).get(key),
                                       [=] { return std::to_string(key); });
     }
