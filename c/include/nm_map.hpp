@@ -682,11 +682,14 @@ private:
 template <typename T>
 class MapReference {
 public:
-    MapReference(const MapReference &) = delete;  // take a copy of the value
+    // It is not copied: a program takes a copy of the value.
+    MapReference(const MapReference &) = delete;
 
     // Returns a copy of the value of the key, or T() if the map does not have the key. Unlike
     // `std::map`, it then inserts nothing.
-    operator T() const && { return worker_->get(key_).value_or(T()); }
+    operator detail::Returned<T>() const && { return worker_->get(key_).value_or(T()); }
+    // A reference that is kept has no value.
+    operator detail::Returned<T>() const & = delete;  // keep the value: int n = worker[5u]
 
     // Inserts the key with this value, or replaces its value, and returns this value:
     // MapWorker::insert_or_assign.
