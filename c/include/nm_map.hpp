@@ -676,9 +676,10 @@ private:
     }
 };
 
-// What `worker[key]` is, for values in place. Each operator is one step, and makes one of the calls of
-// MapPuts or MapWorker: so `worker[5u] += 1` loses no other thread's step, and `worker[5u] =
-// worker[5u] + 1` may. It is for one expression: a program keeps the value, as in `int n = worker[5u]`.
+// What `worker[key]` is, for values in place. Each operator makes a call of MapPuts or MapWorker, which
+// is one step: so `worker[5u] += 1` loses no other thread's step. Two operators are two steps, as in
+// `worker[5u] = worker[5u] + 1`. It is for one expression: a program keeps the value, as in
+// `int n = worker[5u]`.
 template <typename T>
 class MapReference {
 public:
@@ -702,13 +703,11 @@ public:
 
     // Adds to the value, or to T() if the map does not have the key, and returns the new value:
     // MapPuts::update.
-    template <typename By>
-    T operator+=(const By &by) && {
+    T operator+=(const T &by) && {
         return changed([&](T old) { return static_cast<T>(old + by); });
     }
     // Subtracts from the value in the same way.
-    template <typename By>
-    T operator-=(const By &by) && {
+    T operator-=(const T &by) && {
         return changed([&](T old) { return static_cast<T>(old - by); });
     }
     // Adds one, and returns the new value.
