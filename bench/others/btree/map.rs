@@ -15,6 +15,11 @@ pub struct BTreeMap<K: Key, V> {
 
 pub type Entries<K, V> = std::iter::Map<slice::Iter<'static, (K, V)>, fn(&(K, V)) -> (&K, &V)>;
 
+/// Returns an entry with a copy of its value.
+fn owned<K, V: Clone>((key, value): (K, &V)) -> (K, V) {
+    (key, value.clone())
+}
+
 impl<K: Key + 'static, V: Clone + 'static> BTreeMap<K, V> {
     pub fn new() -> Self {
         BTreeMap {
@@ -34,7 +39,6 @@ impl<K: Key + 'static, V: Clone + 'static> BTreeMap<K, V> {
     fn read(&self, bounds: impl RangeBounds<K>) -> Vec<(K, V)> {
         let bounds = (bounds.start_bound().cloned(), bounds.end_bound().cloned());
         self.calls(|calls| {
-            let owned = |(key, value): (K, &V)| (key, value.clone());
             let all: Vec<_> = calls.range(bounds).map(|it| owned(it.unwrap())).collect();
             let back: Vec<_> = calls.range(bounds).rev().map(|it| it.unwrap().0).collect();
             assert!(back.iter().rev().eq(all.iter().map(|(key, _)| key)));
@@ -95,11 +99,11 @@ impl<K: Key + 'static, V: Clone + 'static> BTreeMap<K, V> {
     }
 
     pub fn pop_first(&mut self) -> Option<(K, V)> {
-        self.calls(|calls| calls.pop_first().unwrap().map(|(key, value)| (key, value.clone())))
+        self.calls(|calls| calls.pop_first().unwrap().map(owned))
     }
 
     pub fn pop_last(&mut self) -> Option<(K, V)> {
-        self.calls(|calls| calls.pop_last().unwrap().map(|(key, value)| (key, value.clone())))
+        self.calls(|calls| calls.pop_last().unwrap().map(owned))
     }
 
     pub fn retain(&mut self, mut stays: impl FnMut(&K, &V) -> bool) {
