@@ -32,12 +32,18 @@ def work() -> None:
             continue
         if function is None:
             return
-        answer.get_loop().call_soon_threadsafe(answer.set_result, function(*arguments))
+        loop = answer.get_loop()
+        try:
+            loop.call_soon_threadsafe(answer.set_result, function(*arguments))
+        except Exception as error:  # the function has raised it
+            loop.call_soon_threadsafe(answer.set_exception, error)
 
 
 async def main() -> None:
     submitted = (run(number % 3, pow, number, 2) for number in range(1_000))
     assert await asyncio.gather(*submitted) == [number**2 for number in range(1_000)]
+    failed = await asyncio.gather(run(0, int, "one"), return_exceptions=True)
+    assert isinstance(failed[0], ValueError)
     print("1,000 jobs ran")
 
 
