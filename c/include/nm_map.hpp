@@ -615,7 +615,8 @@ public:
 
     // Returns the value of a key, after an insert of the one that a function makes if the key is absent.
     // The function is called once at most; it returns a T, or a `std::unique_ptr<T>`. Its object is
-    // destroyed again if another call has inserted the key in between.
+    // destroyed again if another call has inserted the key in between. It looks again, without a bound,
+    // as often as other calls insert the key and remove it in between.
     template <typename F>
     detail::Returned<T> get_or_insert_with(Key key, F make) {
         Found old = static_cast<Of &>(*this).get(key);

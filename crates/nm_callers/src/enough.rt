@@ -69,8 +69,8 @@ pub fn put_with_enough(
 
 /// Gives a key of a map a value, whether the map has the key or not. Proved: if the call is `Full`, each
 /// slot was in use at a moment of the call: a worker was about to use it, or it had a node of the tree,
-/// or a node that was cut off waited in it. (Or all its 2^62 births are used.) So a map is never full
-/// because of nodes that were freed.
+/// or a node that was cut off waited in it. (Or all its 2^62 births are used.) Each slot has a moment of its
+/// own, so a slot may be free again when the call returns.
 pub fn put_unless_full(
     member: &mut MapMember,
     key: Key,
